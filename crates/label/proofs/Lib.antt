@@ -1,0 +1,7 @@
+pub mod Bools
+pub mod Steps
+pub mod Runs
+pub mod Canon
+pub mod Push
+pub mod Labels
+pub mod Theorems

@@ -1,0 +1,203 @@
+-- Laws of lists of runs: what a spaced list covers, one form for one set, and a pass over two lists that tells whether one lies in the other.
+use mathlib.Core.Path.{_≡_, refl, sym, _∙_, ap}
+use mathlib.Core.Bool.{Bool, true, false, not, _&&_, _||_, and-false, or-assoc}
+use mathlib.Core.List.{List, [], _∷_, _++_}
+use mathlib.Core.Logic.{_⊎_, inl, inr, ⊎-elim}
+use Prim.Native.Nat.{ℕ, zero, suc, _+_, _≤_, _<_}
+use native.Mathlib.Omega.{arith}
+use lib.Dec.{leb, eqb}
+use borrow.Author.Tests.{leb-true, le-leb, lt-leb}
+use Rattle.label.specs.declared.Run.{Run}
+use Rattle.label.specs.Runs.{inRun, covers, spaced, subset}
+use Rattle.label.proofs.Bools.{never, and-left, and-right, not-yes, or-true-right, less-or, all-below, below-all, implies-yes, yes-implies}
+
+-- What a spaced list says of its first run.
+pub record First (f : ℕ) (r : Run) (rs : List Run) : Type 0 where
+  pub from : f ≤ r .low
+  pub ordered : r .low ≤ r .high
+  pub top : r .high ≤ 65534
+  pub rest : spaced (r .high + 2) rs ≡ true
+
+pub first : (f : ℕ) (r : Run) (rs : List Run) → spaced f (r ∷ rs) ≡ true → First f r rs
+first f r rs e =
+    let e1 = and-right (leb f (r .low)) _ e in
+    let e2 = and-right (leb (r .low) (r .high)) _ e1 in
+    record {
+      from = leb-true _ _ (and-left (leb f (r .low)) _ e);
+      ordered = leb-true _ _ (and-left (leb (r .low) (r .high)) _ e1);
+      top = leb-true _ _ (and-left (leb (r .high) 65534) _ e2);
+      rest = and-right (leb (r .high) 65534) _ e2;
+    }
+
+-- A lower floor will do.
+pub lower : (f g : ℕ) (rs : List Run) → g ≤ f → spaced f rs ≡ true → spaced g rs ≡ true
+lower f g [] h e = refl
+lower f g (r ∷ rs) h e =
+    let s = first f r rs e in
+    simp (le-leb g (r .low) (omega arith), le-leb (r .low) (r .high) (s .ordered), le-leb (r .high) 65534 (s .top)) (s .rest)
+
+-- Membership in a list, by its first run.
+
+pub covers-in : (r : Run) (rs : List Run) (c : ℕ) → r .low ≤ c → c ≤ r .high → covers (r ∷ rs) c ≡ true
+covers-in r rs c h k = simp (le-leb (r .low) c h, le-leb c (r .high) k)
+
+pub covers-under : (r : Run) (rs : List Run) (c : ℕ) → c < r .low → covers (r ∷ rs) c ≡ covers rs c
+covers-under r rs c h = simp (lt-leb (r .low) c h)
+
+pub covers-over : (r : Run) (rs : List Run) (c : ℕ) → r .high < c → covers (r ∷ rs) c ≡ covers rs c
+covers-over r rs c h = simp (lt-leb c (r .high) h, and-false)
+
+-- Where a category of a list is: in the first run, or in the rest.
+pub covers-cases : (r : Run) (rs : List Run) (c : ℕ) → covers (r ∷ rs) c ≡ true → ((r .low ≤ c) × (c ≤ r .high)) ⊎ (covers rs c ≡ true)
+covers-cases r rs c e = go (inRun r c) refl e
+  where
+    go : (b : Bool) → inRun r c ≡ b → (b || covers rs c) ≡ true → ((r .low ≤ c) × (c ≤ r .high)) ⊎ (covers rs c ≡ true)
+    go true p q = inl (leb-true _ _ (and-left (leb (r .low) c) _ p), leb-true _ _ (and-right (leb (r .low) c) _ p))
+    go false p q = inr q
+
+pub covers-below : (f : ℕ) (rs : List Run) (c : ℕ) → spaced f rs ≡ true → c < f → covers rs c ≡ false
+covers-below f [] c e h = refl
+covers-below f (r ∷ rs) c e h =
+    let s = first f r rs e in
+    covers-under r rs c (omega arith) ∙ covers-below (r .high + 2) rs c (s .rest) (omega arith)
+
+pub covers-top : (f : ℕ) (rs : List Run) (c : ℕ) → spaced f rs ≡ true → covers rs c ≡ true → c ≤ 65534
+covers-top f [] c e h = absurd (never (sym h))
+covers-top f (r ∷ rs) c e h =
+    let s = first f r rs e in
+    ⊎-elim (λ w. omega arith) (λ w. covers-top (r .high + 2) rs c (s .rest) w) (covers-cases r rs c h)
+
+-- One list in another.
+
+abbrev pub Sub : List Run → List Run → Type 0
+Sub xs ys = (c : ℕ) → covers xs c ≡ true → covers ys c ≡ true
+
+pub sub-nil : (ys : List Run) → Sub [] ys
+sub-nil ys c e = absurd (never (sym e))
+
+pub sub-none : (f : ℕ) (r : Run) (xs : List Run) → spaced f (r ∷ xs) ≡ true → Sub (r ∷ xs) [] → ⊥
+sub-none f r xs e s =
+    let p = first f r xs e in
+    never (sym (s (r .low) (covers-in r xs (r .low) (omega arith) (p .ordered))))
+
+-- The first run begins below every run of the second list.
+pub sub-before : (f g : ℕ) (r : Run) (xs : List Run) (s : Run) (ys : List Run) → spaced f (r ∷ xs) ≡ true → spaced g (s ∷ ys) ≡ true
+    → r .low < s .low → Sub (r ∷ xs) (s ∷ ys) → ⊥
+sub-before f g r xs s ys d e h k =
+    let p = first f r xs d in
+    let q = first g s ys e in
+    never (sym (k (r .low) (covers-in r xs (r .low) (omega arith) (p .ordered))) ∙ covers-under s ys (r .low) h ∙ covers-below (s .high + 2) ys (r .low) (q .rest) (omega arith))
+
+-- The first run goes on past the run of the second list that covers its start: the next category is in the gap.
+pub sub-past : (f g : ℕ) (r : Run) (xs : List Run) (s : Run) (ys : List Run) → spaced f (r ∷ xs) ≡ true → spaced g (s ∷ ys) ≡ true
+    → r .low ≤ s .high → s .high < r .high → Sub (r ∷ xs) (s ∷ ys) → ⊥
+sub-past f g r xs s ys d e h l k =
+    let q = first g s ys e in
+    let n : ℕ = s .high + 1 in
+    never (sym (k n (covers-in r xs n (omega arith) (omega arith))) ∙ covers-over s ys n (omega arith) ∙ covers-below (s .high + 2) ys n (q .rest) (omega arith))
+
+-- A run of the second list that ends before the first run begins does not matter.
+pub skip : (f : ℕ) (r : Run) (xs : List Run) (s : Run) (ys : List Run) → spaced f (r ∷ xs) ≡ true → s .high < r .low
+    → Sub (r ∷ xs) (s ∷ ys) → Sub (r ∷ xs) ys
+skip f r xs s ys d h k c e =
+    ⊎-elim
+    (λ w. absurd (never (sym e ∙ covers-below (r .low) (r ∷ xs) c (raise f r xs d) (omega arith))))
+    (λ w. sym (covers-over s ys c (omega arith)) ∙ k c e)
+    (less-or c (r .low))
+  where
+    raise : (f : ℕ) (r : Run) (xs : List Run) → spaced f (r ∷ xs) ≡ true → spaced (r .low) (r ∷ xs) ≡ true
+    raise f r xs d =
+        let p = first f r xs d in
+        simp (le-leb (r .low) (r .low) (omega arith), le-leb (r .low) (r .high) (p .ordered), le-leb (r .high) 65534 (p .top)) (p .rest)
+
+pub more : (s : Run) (xs ys : List Run) → Sub xs ys → Sub xs (s ∷ ys)
+more s xs ys k c e = or-true-right (inRun s c) (k c e)
+
+pub fewer : (r : Run) (xs ys : List Run) → Sub (r ∷ xs) ys → Sub xs ys
+fewer r xs ys k c e = k c (or-true-right (inRun r c) e)
+
+-- A run within a run of the second list is covered.
+pub inside : (r : Run) (xs : List Run) (s : Run) (ys : List Run) → s .low ≤ r .low → r .high ≤ s .high → Sub xs (s ∷ ys) → Sub (r ∷ xs) (s ∷ ys)
+inside r xs s ys h l k c e =
+    ⊎-elim (λ w. covers-in s ys c (omega arith) (omega arith)) (λ w. k c w) (covers-cases r xs c e)
+
+-- One set has one form: two spaced lists that cover the same categories are equal.
+pub one-form : (f g : ℕ) (xs ys : List Run) → spaced f xs ≡ true → spaced g ys ≡ true → Sub xs ys → Sub ys xs → xs ≡ ys
+one-form f g [] [] d e h k = refl
+one-form f g [] (s ∷ ys) d e h k = absurd (sub-none g s ys e k)
+one-form f g (r ∷ xs) [] d e h k = absurd (sub-none f r xs d h)
+one-form f g (r ∷ xs) (s ∷ ys) d e h k =
+    let p = first f r xs d in
+    let q = first g s ys e in
+    let low : r .low ≡ s .low = ends (λ l. sub-before f g r xs s ys d e l h) (λ l. sub-before g f s ys r xs e d l k) in
+    let high : r .high ≡ s .high = ends (λ l. sub-past g f s ys r xs e d (omega arith) l k) (λ l. sub-past f g r xs s ys d e (omega arith) l h) in
+    let same : r ≡ s = λ i. record { low = low i; high = high i } in
+    cc (one-form (r .high + 2) (s .high + 2) xs ys (p .rest) (q .rest) (tail r s xs ys high (p .rest) h) (tail s r ys xs (sym high) (q .rest) k))
+  where
+    ends : {a b : ℕ} → (a < b → ⊥) → (b < a → ⊥) → a ≡ b
+    ends h k = omega arith
+
+    tail : (r s : Run) (xs ys : List Run) → r .high ≡ s .high → spaced (r .high + 2) xs ≡ true → Sub (r ∷ xs) (s ∷ ys) → Sub xs ys
+    tail r s xs ys same e k c m =
+        ⊎-elim
+        (λ w. absurd (never (sym m ∙ covers-below (r .high + 2) xs c e (omega arith))))
+        (λ w. sym (covers-over s ys c (omega arith)) ∙ fewer r xs (s ∷ ys) k c m)
+        (less-or c (r .high + 2))
+
+pub subset-sub : (f : ℕ) (xs ys : List Run) → spaced f xs ≡ true → subset xs ys ≡ true → Sub xs ys
+unfolding subset
+subset-sub f xs ys d e c h =
+    implies-yes (covers xs c) (covers ys c) (all-below 65535 (λ k. not (covers xs k) || covers ys k) e c (omega (arith, covers-top f xs c d h))) h
+
+pub sub-subset : (xs ys : List Run) → Sub xs ys → subset xs ys ≡ true
+unfolding subset
+sub-subset xs ys h = below-all 65535 (λ k. not (covers xs k) || covers ys k) (λ c l. yes-implies (covers xs c) (covers ys c) (h c))
+
+pub not-subset : (f : ℕ) (xs ys : List Run) → spaced f xs ≡ true → (Sub xs ys → ⊥) → subset xs ys ≡ false
+not-subset f xs ys d h = not-yes (subset xs ys) (λ e. h (subset-sub f xs ys d e))
+
+-- Where a pass over two lists stands: what is left of them decides whether the first lies in the second.
+pub record Left (xs ys as′ bs′ : List Run) : Type 0 where
+  pub first-spaced : spaced 0 as′ ≡ true
+  pub second-spaced : spaced 0 bs′ ≡ true
+  pub to : Sub xs ys → Sub as′ bs′
+  pub back : Sub as′ bs′ → Sub xs ys
+
+pub start : (xs ys : List Run) → spaced 0 xs ≡ true → spaced 0 ys ≡ true → Left xs ys xs ys
+start xs ys d e = record { first-spaced = d; second-spaced = e; to = λ h. h; back = λ h. h }
+
+pub stops-none : {xs ys : List Run} {r : Run} {as′ : List Run} → Left xs ys (r ∷ as′) [] → Sub xs ys → ⊥
+stops-none {xs} {ys} {r} {as′} l k = sub-none 0 r as′ (l .first-spaced) (l .to k)
+
+module _ {xs ys : List Run} {r : Run} {as′ : List Run} {s : Run} {bs′ : List Run} (l : Left xs ys (r ∷ as′) (s ∷ bs′)) where
+  pub pass-over : s .high < r .low → Left xs ys (r ∷ as′) bs′
+  pass-over h =
+      let q = first 0 s bs′ (l .second-spaced) in
+      record {
+        first-spaced = l .first-spaced;
+        second-spaced = lower (s .high + 2) 0 bs′ (omega arith) (q .rest);
+        to = λ k. skip 0 r as′ s bs′ (l .first-spaced) h (l .to k);
+        back = λ k. l .back (more s (r ∷ as′) bs′ k);
+      }
+
+  pub pass-in : s .low ≤ r .low → r .high ≤ s .high → Left xs ys as′ (s ∷ bs′)
+  pass-in h k =
+      let p = first 0 r as′ (l .first-spaced) in
+      record {
+        first-spaced = lower (r .high + 2) 0 as′ (omega arith) (p .rest);
+        second-spaced = l .second-spaced;
+        to = λ g. fewer r as′ (s ∷ bs′) (l .to g);
+        back = λ g. l .back (inside r as′ s bs′ h k g);
+      }
+
+  pub stops-before : r .low < s .low → Sub xs ys → ⊥
+  stops-before h k = sub-before 0 0 r as′ s bs′ (l .first-spaced) (l .second-spaced) h (l .to k)
+
+  pub stops-past : r .low ≤ s .high → s .high < r .high → Sub xs ys → ⊥
+  stops-past h k g = sub-past 0 0 r as′ s bs′ (l .first-spaced) (l .second-spaced) h k (l .to g)
+
+-- One list after another.
+
+pub covers-append : (xs ys : List Run) (c : ℕ) → covers (xs ++ ys) c ≡ (covers xs c || covers ys c)
+covers-append [] ys c = refl
+covers-append (r ∷ xs) ys c = rw (covers-append xs ys c) (sym (or-assoc (inRun r c) (covers xs c) (covers ys c)))
