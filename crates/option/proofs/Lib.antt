@@ -1,0 +1,12 @@
+pub mod Forms
+pub mod Bits
+pub mod Top
+pub mod Pieces
+pub mod Meaning
+pub mod Choice
+pub mod Spelled
+pub mod Theorems
+pub mod Table
+pub mod Bridge
+pub mod Bad
+pub mod Only

@@ -1,0 +1,6 @@
+pub mod Bitmap
+pub mod Option
+pub mod Reading
+pub mod Spelling
+pub mod Index
+pub mod Table
