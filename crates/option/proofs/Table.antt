@@ -1,10 +1,9 @@
 -- P1 to P11 hold of the definitions.
 use mathlib.Core.Path.{_≡_, refl}
-use mathlib.Core.List.{map}
 use Rattle.option.specs.Reading.{pieces, runsOf}
 use Rattle.option.specs.Spelling.{tagFor, bodyFor, spelledBy, spellingOf}
-use Rattle.option.specs.Table.{tagAt3, sets, tags}
+use Rattle.option.specs.Table.{TableHolds}
 
-pub table : map tagAt3 sets ≡ tags
+pub table-holds : TableHolds
 unfolding pieces runsOf tagFor bodyFor spelledBy spellingOf
-table = refl
+table-holds = refl

@@ -1,4 +1,4 @@
--- The same by index, as loops go through it: the forms of the studies' readers and writers.
+-- The same by index, as a loop goes through it: the forms that the readers and writers of a tag use.
 use Prim.Native.Nat.{ℕ, zero, suc, _+_, _-_, _*_, _/_, _%_}
 use mathlib.Core.List.{List, [], _∷_, _++_}
 use mathlib.Core.Bool.{Bool, true, false, _&&_, _||_, cond}

@@ -3,4 +3,5 @@ pub mod Option
 pub mod Reading
 pub mod Spelling
 pub mod Index
+pub mod Theorems
 pub mod Table

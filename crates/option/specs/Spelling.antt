@@ -1,4 +1,5 @@
--- The one spelling of a label: its shortest valid option, equal lengths to tag 1, then 2, then 5.
+-- Document 01, "The leaving area"; demand 3: the one spelling of a label, its shortest valid option, equal lengths to tag 1, then 2, then 5.
+-- That it is so is proved over the meaning of an option (`Theorems`); here is how it is made.
 use Prim.Native.Nat.{ℕ, zero, suc, _+_, _-_, _*_, _/_, _%_, _≤_, _<_}
 use mathlib.Core.Path.{_≡_}
 use mathlib.Core.List.{List, [], _∷_, _++_}
@@ -7,7 +8,9 @@ use mathlib.Core.Option.{Option, none, some}
 use lib.ListN.{length, replicate}
 use lib.Dec.{leb, eqb}
 use Rattle.label.specs.declared.Run.{Run}
+use Rattle.label.specs.declared.Label.{Label}
 use Rattle.label.specs.Runs.{covers, countOf, topOf}
+use Rattle.label.specs.Label.{used}
 use Rattle.option.specs.Reading.{turned}
 
 -- the lowest run starts at 0
@@ -93,3 +96,7 @@ spellable rs = leb (topOf rs) 240 || (leb (countOf rs) 15 || leb (length rs) 7)
 -- what 40 octets of output hold
 abbrev pub padded : List ℕ → List ℕ
 padded o = o ++ replicate (40 - length o) 0
+
+-- the spelling of a label, or none
+abbrev pub spelledOf : Label → Option (List ℕ)
+spelledOf l = spellingOf (l .domain) (l .level) (used l)

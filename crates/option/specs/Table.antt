@@ -1,6 +1,7 @@
--- P1 to P11 of document 01: the sets, and the tag that each is spelled in, octet by octet.
+-- P1 to P11 of document 01: sets of categories, and the tag that each is spelled in, octet by octet.
 use Prim.Native.Nat.{ℕ, zero, suc, _+_}
-use mathlib.Core.List.{List, [], _∷_}
+use mathlib.Core.Path.{_≡_}
+use mathlib.Core.List.{List, [], _∷_, map}
 use mathlib.Core.Option.{Option, none, some}
 use lib.ListN.{drop, replicate}
 use Rattle.label.specs.declared.Run.{Run}
@@ -13,36 +14,46 @@ abbrev pub everyOther : ℕ → ℕ → List Run
 everyOther x zero = []
 everyOther x (suc n) = run x x ∷ everyOther (x + 2) n
 
--- the tag of the spelling at level 3, or none
-abbrev pub tagAt3 : List Run → Option (List ℕ)
-tagAt3 rs = elim (spellingOf 5 3 rs) [ none ↦ none | some o ↦ some (drop 6 o) ]
+-- a set of categories, and the tag of its spelling at level 3 (type, length, alignment, level, categories), or none where it is refused
+pub record Row : Type 0 where
+  pub categories : List Run
+  pub tag : Option (List ℕ)
 
-abbrev pub sets : List (List Run)
-sets =
-    []
-    ∷ (run 15 15 ∷ [])
-    ∷ (run 16 16 ∷ [])
-    ∷ (run 0 15 ∷ [])
-    ∷ (run 0 16 ∷ [])
-    ∷ (run 1000 1001 ∷ [])
-    ∷ (run 0 65534 ∷ [])
-    ∷ everyOther 240 15
-    ∷ everyOther 240 16
-    ∷ everyOther 1 120
-    ∷ runsOf (134 ∷ 18 ∷ 0 ∷ 0 ∷ 0 ∷ 5 ∷ 5 ∷ 12 ∷ 0 ∷ 3 ∷ 1 ∷ 44 ∷ 1 ∷ 43 ∷ 1 ∷ 42 ∷ 1 ∷ 41 ∷ [])
+abbrev pub table : List Row
+table =
+    -- P1 no categories: tag 1, length 4
+    record { categories = []; tag = some (1 ∷ 4 ∷ 0 ∷ 3 ∷ []) }
+    -- P2 {15}: tags 1 and 2 tie at 6, tag 1
+    ∷ record { categories = run 15 15 ∷ []; tag = some (1 ∷ 6 ∷ 0 ∷ 3 ∷ 0 ∷ 1 ∷ []) }
+    -- P3 {16}: tag 2, length 6
+    ∷ record { categories = run 16 16 ∷ []; tag = some (2 ∷ 6 ∷ 0 ∷ 3 ∷ 0 ∷ 16 ∷ []) }
+    -- P4 {0..15}: tag 1
+    ∷ record { categories = run 0 15 ∷ []; tag = some (1 ∷ 6 ∷ 0 ∷ 3 ∷ 255 ∷ 255 ∷ []) }
+    -- P5 {0..16}: tag 5, length 6, octets 00 10
+    ∷ record { categories = run 0 16 ∷ []; tag = some (5 ∷ 6 ∷ 0 ∷ 3 ∷ 0 ∷ 16 ∷ []) }
+    -- P6 {1000, 1001}: tags 2 and 5 tie at 8, tag 2
+    ∷ record { categories = run 1000 1001 ∷ []; tag = some (2 ∷ 8 ∷ 0 ∷ 3 ∷ 3 ∷ 232 ∷ 3 ∷ 233 ∷ []) }
+    -- P7 {0..65534}: tag 5, octets ff fe
+    ∷ record { categories = run 0 65534 ∷ []; tag = some (5 ∷ 6 ∷ 0 ∷ 3 ∷ 255 ∷ 254 ∷ []) }
+    -- P8 240, 242, .. 268 (15): tag 2, length 34
+    ∷ record {
+      categories = everyOther 240 15;
+      tag = some (2 ∷ 34 ∷ 0 ∷ 3 ∷ 0 ∷ 240 ∷ 0 ∷ 242 ∷ 0 ∷ 244 ∷ 0 ∷ 246 ∷ 0 ∷ 248 ∷ 0 ∷ 250 ∷ 0 ∷ 252 ∷ 0 ∷ 254 ∷ 1 ∷ 0 ∷ 1 ∷ 2 ∷ 1 ∷ 4 ∷ 1 ∷ 6 ∷ 1 ∷ 8 ∷ 1 ∷ 10 ∷ 1 ∷ 12 ∷ []);
+    }
+    -- P9 up to 270 (16): refused
+    ∷ record { categories = everyOther 240 16; tag = none }
+    -- P10 odd numbers 1..239 (120 runs): tag 1, length 34
+    ∷ record { categories = everyOther 1 120; tag = some (1 ∷ 34 ∷ 0 ∷ 3 ∷ replicate 30 85) }
+    -- P11 what pairs 300-299, 298-297 are read to: one pair 01 2c 01 29
+    ∷ record {
+      categories = runsOf (134 ∷ 18 ∷ 0 ∷ 0 ∷ 0 ∷ 5 ∷ 5 ∷ 12 ∷ 0 ∷ 3 ∷ 1 ∷ 44 ∷ 1 ∷ 43 ∷ 1 ∷ 42 ∷ 1 ∷ 41 ∷ []);
+      tag = some (5 ∷ 8 ∷ 0 ∷ 3 ∷ 1 ∷ 44 ∷ 1 ∷ 41 ∷ []);
+    }
     ∷ []
 
-abbrev pub tags : List (Option (List ℕ))
-tags =
-    some (1 ∷ 4 ∷ 0 ∷ 3 ∷ [])
-    ∷ some (1 ∷ 6 ∷ 0 ∷ 3 ∷ 0 ∷ 1 ∷ [])
-    ∷ some (2 ∷ 6 ∷ 0 ∷ 3 ∷ 0 ∷ 16 ∷ [])
-    ∷ some (1 ∷ 6 ∷ 0 ∷ 3 ∷ 255 ∷ 255 ∷ [])
-    ∷ some (5 ∷ 6 ∷ 0 ∷ 3 ∷ 0 ∷ 16 ∷ [])
-    ∷ some (2 ∷ 8 ∷ 0 ∷ 3 ∷ 3 ∷ 232 ∷ 3 ∷ 233 ∷ [])
-    ∷ some (5 ∷ 6 ∷ 0 ∷ 3 ∷ 255 ∷ 254 ∷ [])
-    ∷ some (2 ∷ 34 ∷ 0 ∷ 3 ∷ 0 ∷ 240 ∷ 0 ∷ 242 ∷ 0 ∷ 244 ∷ 0 ∷ 246 ∷ 0 ∷ 248 ∷ 0 ∷ 250 ∷ 0 ∷ 252 ∷ 0 ∷ 254 ∷ 1 ∷ 0 ∷ 1 ∷ 2 ∷ 1 ∷ 4 ∷ 1 ∷ 6 ∷ 1 ∷ 8 ∷ 1 ∷ 10 ∷ 1 ∷ 12 ∷ [])
-    ∷ none
-    ∷ some (1 ∷ 34 ∷ 0 ∷ 3 ∷ replicate 30 85)
-    ∷ some (5 ∷ 8 ∷ 0 ∷ 3 ∷ 1 ∷ 44 ∷ 1 ∷ 41 ∷ [])
-    ∷ []
+-- the tag of the spelling at level 3 in domain 5
+abbrev pub tagAt3 : Row → Option (List ℕ)
+tagAt3 r = elim (spellingOf 5 3 (r .categories)) [ none ↦ none | some o ↦ some (drop 6 o) ]
+
+abbrev pub TableHolds : Type 0
+TableHolds = map tagAt3 table ≡ map (λ (r : Row). r .tag) table
