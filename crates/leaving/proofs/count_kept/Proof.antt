@@ -1,0 +1,100 @@
+use Prim.Native.Nat.{ℕ, _≤_, _<_, _-_, _+_}
+use mathlib.Core.Path.{_≡_, refl, sym, ap, _∙_}
+use mathlib.Core.List.{List, [], _++_}
+use native.Mathlib.Omega.{arith}
+use borrow.Author.Needs.{needs}
+use lib.ListN.{length, drop, take, length-drop, length-append}
+use lib.Seq.{length-take-le}
+use Rattle.leaving.specs.Kept.{keptOf, keptFrom}
+use Rattle.leaving.proofs.Laws.{kept-stop, over-moves, over-count, kept-end}
+use Rattle.leaving.proofs.count_kept.Statement.{statement}
+use Rattle.leaving.proofs.count_kept.Tie as tie
+
+abbrev Inv-loop : tie.InvT-loop
+Inv-loop area at₀ w₀ at w = (at ≤ length area) × (w ≤ at) × (w + length (keptFrom (drop at area) 0) ≡ length (keptOf area))
+
+abbrev μ-loop : tie.MeasureT-loop
+μ-loop area at₀ w₀ at w = length area - at
+
+moved : (c : tie.After-n Inv-loop μ-loop)
+    → let l = c .before .before .before .before .before in
+    let area = l .before .before .args .area .now in
+    (1 ≤ c .n .given .0 .0) × (l .loop .at + c .n .given .0 .0 ≤ length area) × (c .n .given .0 .1 .0 ≤ c .n .given .0 .0)
+moved c =
+    let t = c .before .before in
+    let i = t .before .before in
+    let l = i .before in
+    over-moves (l .before .before .args .area .now) (l .loop .at) (t .next-option .result) (i .loop-test .taken) (t .next-option .ensures) _ _ (c .n .given .1)
+
+loop-holds : tie.Need-loop-holds Inv-loop μ-loop
+unfolding keptOf
+loop-holds c = (omega arith, omega arith, omega arith)
+
+sub-next-option : tie.Need-sub-next-option Inv-loop μ-loop
+sub-next-option c = search needs
+
+part-next-option-start : tie.Need-part-next-option-start Inv-loop μ-loop
+part-next-option-start c = search needs
+
+part-next-option-end : tie.Need-part-next-option-end Inv-loop μ-loop
+part-next-option-end c = search needs
+
+next-option-requires : tie.Need-next-option-requires Inv-loop μ-loop
+next-option-requires c κs = search needs
+
+enum-told : tie.Need-enum-told Inv-loop μ-loop
+enum-told c = search needs
+
+returns : tie.Need-returns Inv-loop μ-loop
+returns c =
+    let t = c .before .before in
+    let i = t .before .before in
+    let l = i .before in
+    let e = kept-stop (l .before .before .args .area .now) (l .loop .at) (t .next-option .result) (i .loop-test .taken) (t .next-option .ensures) (c .enum-told .given .1) in
+    (omega (arith, ap length e), omega arith)
+
+enum-known-n : tie.Need-enum-known-n Inv-loop μ-loop
+enum-known-n c = search needs
+
+add-w : tie.Need-add-w Inv-loop μ-loop
+add-w c = omega (arith, moved (c .before))
+
+add-at : tie.Need-add-at Inv-loop μ-loop
+add-at c = omega (arith, moved (c .before))
+
+loop-less : tie.Need-loop-less Inv-loop μ-loop
+loop-less c = omega (arith, moved (c .before))
+
+loop-again : tie.Need-loop-again Inv-loop μ-loop
+loop-again c =
+    let t = c .before .before .before in
+    let i = t .before .before in
+    let l = i .before in
+    let m = moved (c .before) in
+    let e = over-count (l .before .before .args .area .now) (l .loop .at) (t .next-option .result) (i .loop-test .taken) (t .next-option .ensures) _ _ (c .before .n .given .1) in
+    (m .1, omega arith, omega arith)
+
+returns-2 : tie.Need-returns-2 Inv-loop μ-loop
+returns-2 c =
+    let l = c .before in
+    (omega (arith, ap length (kept-end (l .before .before .args .area .now) (l .loop .at) (c .loop-test .left))), omega arith)
+
+pub count-kept-spec : {M : Type 1} → statement M
+count-kept-spec =
+    tie.close
+    (tie.spec
+    Inv-loop
+    μ-loop
+    loop-holds
+    sub-next-option
+    part-next-option-start
+    part-next-option-end
+    next-option-requires
+    enum-told
+    returns
+    enum-known-n
+    add-w
+    add-at
+    loop-less
+    loop-again
+    returns-2)

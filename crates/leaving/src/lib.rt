@@ -1,0 +1,143 @@
+// The leaving options area (document 01, "The leaving area"): the kept options are written behind the option 134, and zeros pad the area.
+use area::Kind;
+use area::Size;
+ghost use mathlib.Core.Path.{_≡_};
+ghost use mathlib.Core.List.{_++_};
+ghost use Prim.Native.Nat.{_+_, _-_, _≤_, _<_};
+ghost use lib.ListN.{length, take, drop};
+ghost use Rattle.leaving.specs.Kept.{stepOf, keptLen, nextOf, keptOf, paint, zeroed, restCount, restOf};
+
+// How far the walk goes on: over a whole option, or not at all.
+fn step(kind: Kind, size: Size) -> Size
+    ensures { λ r. ⌜ r ≡ stepOf kind size ⌝ }
+{
+    match kind {
+        Kind::End => Size::Bad,
+        Kind::NoOperation => Size::Whole(1),
+        Kind::Basic => size,
+        Kind::Extended => size,
+        Kind::Cipso => size,
+        Kind::Other => size,
+    }
+}
+
+// How many octets of an option of n octets are kept.
+fn kept_len(kind: Kind, n: usize) -> usize
+    ensures { λ r. ⌜ r ≡ keptLen kind n ⌝ }
+{
+    match kind {
+        Kind::End => 0,
+        Kind::NoOperation => 0,
+        Kind::Basic => n,
+        Kind::Extended => n,
+        Kind::Cipso => 0,
+        Kind::Other => n,
+    }
+}
+
+// What the walk does at an option: it ends, or goes on over n octets, of which the first `kept` are kept.
+pub enum Next {
+    Stop,
+    Over { n: usize, kept: usize },
+}
+
+// What the walk does at the option that rest starts with.
+fn next_option(rest: &[u8]) -> Next
+    requires { ⌜ 0 < length (now rest) ⌝ }
+    ensures { λ r. ⌜ r ≡ nextOf (now (rest .entry)) ⌝ }
+{
+    let k = area::read_kind(rest[0]);
+    match step(k, area::read_size(rest)) {
+        Size::Bad => Next::Stop,
+        Size::Whole(n) => Next::Over {
+            n: n,
+            kept: kept_len(k, n),
+        },
+    }
+}
+
+// Copies the first n octets of src, one kept option, to the start of dst, the rest of the output.
+fn copy_one(src: &[u8], n: usize, dst: &mut [u8])
+    requires { ⌜ (n ≤ length (now src)) × (n ≤ length (now dst)) ⌝ }
+    ensures { λ _. ⌜ now (dst .exit) ≡ take n (now (src .entry)) ++ drop n (now (dst .entry)) ⌝ }
+{
+    let mut i = 0;
+    while i < n {
+        dst[i] = src[i];
+        i = i + 1;
+    }
+}
+
+// How many octets the kept options of an area have.
+pub fn count_kept(area: &[u8]) -> usize
+    ensures { λ r. ⌜ r ≡ length (keptOf (now (area .entry))) ⌝ }
+    ensures { λ r. ⌜ r ≤ length (now (area .entry)) ⌝ }
+{
+    let mut at = 0;
+    let mut w = 0;
+    while at < area.len() {
+        match next_option(&area[at..]) {
+            Next::Stop => return w,
+            Next::Over { n, kept } => {
+                w = w + kept;
+                at = at + n;
+            }
+        }
+    }
+    w
+}
+
+// Writes the kept options of an area into out, from an octet on, and answers the octet behind them.
+fn copy_kept(area: &[u8], out: &mut [u8], from: usize) -> usize
+    requires { ⌜ from + length (keptOf (now area)) ≤ length (now out) ⌝ }
+    ensures { λ r. ⌜ r ≡ from + length (keptOf (now (area .entry))) ⌝ }
+    ensures { λ _. ⌜ now (out .exit) ≡ paint from (keptOf (now (area .entry))) (now (out .entry)) ⌝ }
+{
+    let mut at = 0;
+    let mut w = from;
+    while at < area.len() {
+        let rest = &area[at..];
+        match next_option(rest) {
+            Next::Stop => return w,
+            Next::Over { n, kept } => {
+                copy_one(rest, kept, &mut out[w..]);
+                w = w + kept;
+                at = at + n;
+            }
+        }
+    }
+    w
+}
+
+// Zeros from an octet up to octet 39.
+fn zero_from(out: &mut [u8], from: usize)
+    requires { ⌜ (from ≤ 40) × (40 ≤ length (now out)) ⌝ }
+    ensures { λ _. ⌜ now (out .exit) ≡ zeroed from (now (out .entry)) ⌝ }
+{
+    let mut i = from;
+    while i < 40 {
+        out[i] = 0;
+        i = i + 1;
+    }
+}
+
+// Writes the kept options of an area behind the first `from` octets of the output, and zeros up to octet 39; answers the count of the area.
+// Where the output has under 40 octets or the options exceed 40 octets, nothing is written and the count is 0.
+pub fn write_rest(area: &[u8], from: usize, out: &mut [u8]) -> usize
+    ensures { λ r. ⌜ r ≡ restCount from (keptOf (now (area .entry))) (length (now (out .entry))) ⌝ }
+    ensures { λ _. ⌜ now (out .exit) ≡ restOf from (keptOf (now (area .entry))) (now (out .entry)) ⌝ }
+{
+    if out.len() < 40 {
+        return 0;
+    }
+    if 40 < from {
+        return 0;
+    }
+    let kept = count_kept(area);
+    if 40 - from < kept {
+        return 0;
+    }
+    let w = copy_kept(area, &mut out[..], from);
+    zero_from(&mut out[..], w);
+    (w + 3) / 4 * 4
+}
