@@ -82,7 +82,7 @@ pub fn take_turn(kind: Kind, size: Size, at: usize, seen: Place) -> Turn
             Size::Whole(_) => Turn::Done(Walk::Refused(4, at)),
         },
         Kind::Extended => match size {
-            Size::Bad => Turn::Done(Walk::Refused(3, at)),
+            Size::Bad => Turn::Done(Walk::Refused(3, at)), // 3 before 4
             Size::Whole(_) => Turn::Done(Walk::Refused(4, at)),
         },
         Kind::Cipso => match size {

@@ -69,7 +69,7 @@ impl Label {
         ensures { λ r. ⌜ r ≡ member self category ⌝ }
     {
         if !self.well_formed() {
-            return false;
+            return false; // an ill-formed label has no category
         }
         used_covers(self, category)
     }
