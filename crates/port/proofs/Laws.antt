@@ -1,0 +1,96 @@
+-- Laws of sound ports and ranges, for whoever calls with one.
+use mathlib.Core.Path.{_≡_, refl, sym, _∙_, ap}
+use mathlib.Core.Bool.{Bool, true, false, cond, not, _&&_, and-false}
+use Prim.Native.Nat.{ℕ}
+use lib.Dec.{eqb}
+use borrow.Author.Tests.{eqb-true, eqb-false, not-true, eq-eqb}
+use Rattle.label.specs.declared.Label.{Label}
+use Rattle.label.specs.Label.{wellFormed, atMost, leq, inRange, isZero}
+use Rattle.label.proofs.Bools.{and-left, and-right}
+use Rattle.label.proofs.Labels.{leq-at-most}
+use Rattle.port.specs.declared.Port.{Port}
+use Rattle.port.specs.declared.Host.{Host}
+use Rattle.port.specs.Port.{rangeSound, assignedSound, portSound, hostSound}
+
+leq-second : (a b : Label) → leq a b ≡ true → wellFormed b ≡ true
+unfolding leq
+leq-second a b e = and-left (wellFormed b) _ (and-right (wellFormed a) _ e)
+
+leq-first : (a b : Label) → leq a b ≡ true → wellFormed a ≡ true
+unfolding leq
+leq-first a b e = and-left (wellFormed a) _ e
+
+-- A sound range, part by part.
+pub record Range (lowest highest : Label) (domain : ℕ) : Type 0 where
+  pub low-domain : lowest .domain ≡ domain
+  pub high-domain : highest .domain ≡ domain
+  pub low-formed : wellFormed lowest ≡ true
+  pub high-formed : wellFormed highest ≡ true
+  pub ordered : leq lowest highest ≡ true
+
+pub sound-range : (lowest highest : Label) (domain : ℕ) → rangeSound lowest highest domain ≡ true → Range lowest highest domain
+unfolding rangeSound
+sound-range l h d e =
+    let e1 = and-right (eqb (l .domain) d) _ e in
+    let e2 = and-right (eqb (h .domain) d) _ e1 in
+    record {
+      low-domain = eqb-true _ _ (and-left (eqb (l .domain) d) _ e);
+      high-domain = eqb-true _ _ (and-left (eqb (h .domain) d) _ e1);
+      low-formed = leq-first l h e2;
+      high-formed = leq-second l h e2;
+      ordered = e2;
+    }
+
+pub host-range : (h : Host) (domain : ℕ) → hostSound h domain ≡ true → Range (h .lowest) (h .highest) domain
+unfolding hostSound
+host-range h d e = sound-range (h .lowest) (h .highest) d e
+
+-- A sound port, part by part: its range, and the assigned label where none is required.
+pub record Sound (p : Port) : Type 0 where
+  pub owned : p .domain ≡ 0 → ⊥
+  pub range : Range (p .lowest) (p .highest) (p .domain)
+  pub assigned : p .required ≡ false → inRange (p .lowest) (p .highest) (p .assigned) ≡ true
+  pub assigned-formed : p .required ≡ false → wellFormed (p .assigned) ≡ true
+  pub assigned-zero : p .required ≡ true → isZero (p .assigned) ≡ true
+
+range-formed : (l h a : Label) → inRange l h a ≡ true → wellFormed a ≡ true
+unfolding inRange
+range-formed l h a e = leq-second l a (and-left (leq l a) _ e)
+
+pub sound : (p : Port) → portSound p ≡ true → Sound p
+unfolding portSound assignedSound
+sound p e =
+    let e1 = and-right (not (eqb (p .domain) 0)) _ e in
+    let e2 = and-right (rangeSound (p .lowest) (p .highest) (p .domain)) _ e1 in
+    let free : p .required ≡ false → inRange (p .lowest) (p .highest) (p .assigned) ≡ true = λ f. rw f at e2 in
+    record {
+      owned = eqb-false _ _ (not-true _ (and-left (not (eqb (p .domain) 0)) _ e));
+      range = sound-range (p .lowest) (p .highest) (p .domain) (and-left (rangeSound (p .lowest) (p .highest) (p .domain)) _ e1);
+      assigned = free;
+      assigned-formed = λ f. range-formed (p .lowest) (p .highest) (p .assigned) (free f);
+      assigned-zero = λ f. rw f at e2;
+    }
+
+-- The tests of a range, in the order in which they are made.
+
+pub range-at-most : (l h : Label) (d : ℕ) → l .domain ≡ d → h .domain ≡ d → wellFormed l ≡ true → wellFormed h ≡ true → atMost l h ≡ rangeSound l h d
+unfolding rangeSound
+range-at-most l h d p q wl wh = sym (rw (eq-eqb _ _ p, eq-eqb _ _ q) (leq-at-most l h wl wh))
+
+pub range-ill-low : (l h : Label) (d : ℕ) → wellFormed l ≡ false → false ≡ rangeSound l h d
+unfolding rangeSound leq
+range-ill-low l h d w = rw (w, and-false, and-false)
+
+pub range-ill-high : (l h : Label) (d : ℕ) → wellFormed h ≡ false → false ≡ rangeSound l h d
+unfolding rangeSound leq
+range-ill-high l h d w = rw (w, and-false, and-false, and-false)
+
+-- The tests of an assigned label.
+
+pub assigned-ill : (l h a : Label) → wellFormed a ≡ false → false ≡ inRange l h a
+unfolding inRange leq
+assigned-ill l h a w = simp (w, and-false)
+
+pub assigned-is : (l h a : Label) → wellFormed l ≡ true → wellFormed h ≡ true → wellFormed a ≡ true → (atMost l a && atMost a h) ≡ inRange l h a
+unfolding inRange
+assigned-is l h a wl wh wa = sym (rw (leq-at-most l a wl wa, leq-at-most a h wa wh))

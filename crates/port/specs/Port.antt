@@ -1,0 +1,25 @@
+-- Document 01, "Records": what makes a port and a host's range sound.
+use mathlib.Core.Bool.{Bool, cond, not, _&&_}
+use Prim.Native.Nat.{ℕ}
+use lib.Dec.{eqb}
+use Rattle.label.specs.declared.Label.{Label}
+use Rattle.label.specs.Label.{wellFormed, leq, inRange, isZero}
+use Rattle.port.specs.declared.Port.{Port}
+use Rattle.port.specs.declared.Host.{Host}
+
+-- both labels are well formed and of the domain, and lowest ≤ highest
+unfoldable pub rangeSound : Label → Label → ℕ → Bool
+rangeSound lowest highest domain =
+    eqb (lowest .domain) domain && (eqb (highest .domain) domain && leq lowest highest)
+
+-- where a label is required, the assigned label is all zero, every place of it; where it is not, it is in range (and so well formed and of the domain)
+unfoldable pub assignedSound : Port → Bool
+assignedSound p = cond (p .required) (isZero (p .assigned)) (inRange (p .lowest) (p .highest) (p .assigned))
+
+-- a nonzero domain, a sound range in it, a sound assigned label
+unfoldable pub portSound : Port → Bool
+portSound p = not (eqb (p .domain) 0) && (rangeSound (p .lowest) (p .highest) (p .domain) && assignedSound p)
+
+-- the host's range, in the port's domain. House: that the port's range lies inside the host's is not tested
+unfoldable pub hostSound : Host → ℕ → Bool
+hostSound h domain = rangeSound (h .lowest) (h .highest) domain

@@ -1,0 +1,82 @@
+// Ports of the gateway and the host's range, and what makes each sound (document 01, "Records").
+ghost use mathlib.Core.Path.{_≡_};
+ghost use mathlib.Core.Bool.{true};
+ghost use Rattle.label.specs.Label.{wellFormed, inRange};
+ghost use Rattle.port.specs.Port.{portSound, hostSound, rangeSound};
+use label::Label;
+
+pub struct Port {
+    pub domain: u32,
+    pub lowest: Label,
+    pub highest: Label,
+    pub required: bool,
+    pub assigned: Label,
+}
+
+pub struct Host {
+    pub lowest: Label,
+    pub highest: Label,
+}
+
+// Whether the port is sound.
+pub fn port_sound(port: Port) -> bool
+    ensures { λ r. ⌜ r ≡ portSound port ⌝ }
+{
+    if port.domain == 0 {
+        return false;
+    }
+    let lowest = port.lowest;
+    let highest = port.highest;
+    if !range_sound(lowest, highest, port.domain) {
+        return false;
+    }
+    let assigned = port.assigned;
+    if port.required {
+        let zero = assigned.is_zero();
+        return zero;
+    }
+    assigned_within(assigned, lowest, highest)
+}
+
+// Whether the host's range is sound, for a port of the domain.
+pub fn host_sound(host: Host, domain: u32) -> bool
+    ensures { λ r. ⌜ r ≡ hostSound host domain ⌝ }
+{
+    let lowest = host.lowest;
+    let highest = host.highest;
+    range_sound(lowest, highest, domain)
+}
+
+// Whether both labels are well formed and of the domain, the lowest at most the highest.
+fn range_sound(lowest: Label, highest: Label, domain: u32) -> bool
+    ensures { λ r. ⌜ r ≡ rangeSound lowest highest domain ⌝ }
+{
+    if lowest.domain != domain {
+        return false;
+    }
+    if highest.domain != domain {
+        return false;
+    }
+    if !lowest.well_formed() {
+        return false;
+    }
+    if !highest.well_formed() {
+        return false;
+    }
+    lowest.at_most(highest)
+}
+
+// Whether the assigned label lies in the range of two labels that are well formed: its own form is looked at once.
+fn assigned_within(assigned: Label, lowest: Label, highest: Label) -> bool
+    requires { ⌜ wellFormed lowest ≡ true ⌝ }
+    requires { ⌜ wellFormed highest ≡ true ⌝ }
+    ensures { λ r. ⌜ r ≡ inRange lowest highest assigned ⌝ }
+{
+    if !assigned.well_formed() {
+        return false;
+    }
+    if !lowest.at_most(assigned) {
+        return false;
+    }
+    assigned.at_most(highest)
+}

@@ -1,0 +1,19 @@
+-- Laws of level pairs: one more pair, as a loop meets it.
+use mathlib.Core.Path.{_≡_, refl, sym, _∙_, ap}
+use mathlib.Core.Bool.{Bool, true, false, cond, _&&_}
+use mathlib.Core.List.{List, [], _∷_}
+use Prim.Native.Nat.{ℕ, zero, suc, _+_, _≤_, _<_}
+use native.Mathlib.Omega.{arith}
+use lib.ListN.{length, getD, take, drop, length-take, drop-of-length-le}
+use lib.Seq.{getD-take}
+use Rattle.label.proofs.Steps.{next}
+
+-- at a place that is there, among the first n
+pub next-there : {A : Type 0} (d : A) (l : List A) (n i : ℕ) → i < n → i < length l → drop i (take n l) ≡ getD l i d ∷ drop (i + 1) (take n l)
+next-there d l n i h k =
+    let m : i < length (take n l) = simp length-take (omega arith) in
+    rw (next d (take n l) i m, getD-take n l i d h)
+
+-- past the last that is there
+pub none-there : {A : Type 0} (l : List A) (n i : ℕ) → length l ≤ i → drop i (take n l) ≡ []
+none-there l n i h = drop-of-length-le (take n l) {i = i} (simp length-take (omega arith))

@@ -1,0 +1,74 @@
+-- Document 01, "Records": what makes a renumbering table sound.
+use mathlib.Core.Bool.{Bool, true, false, not, _&&_, _||_}
+use mathlib.Core.List.{List, [], _∷_}
+use Prim.Native.Nat.{ℕ, _+_, _-_}
+use lib.Dec.{leb, ltb, eqb}
+use lib.ListN.{length, take, drop, getD}
+use Rattle.table.specs.declared.Row.{Row}
+use Rattle.table.specs.declared.Table.{Table}
+
+abbrev pub noRow : Row
+noRow = record { low = 0; high = 0; target = 0 }
+
+-- the rows in use: the first `count` places
+abbrev pub used : Table → List Row
+used t = take (t .count) (t .rows)
+
+-- the highest number that a row gives
+abbrev pub targetEnd : Row → ℕ
+targetEnd r = r .target + (r .high - r .low)
+
+-- "each row has low ≤ high, sources are ascending and disjoint, all ends ≤ 65534", the target's end too; the first source begins at `f` or above
+abbrev pub rising : ℕ → List Row → Bool
+rising f [] = true
+rising f (r ∷ rs) =
+    leb f (r .low) && (leb (r .low) (r .high) && (leb (r .high) 65534 && (leb (targetEnd r) 65534 && rising (r .high + 1) rs)))
+
+-- two rows give no number in common
+abbrev pub apart : Row → Row → Bool
+apart r s = ltb (targetEnd r) (s .target) || ltb (targetEnd s) (r .target)
+
+abbrev pub apartFrom : Row → List Row → Bool
+apartFrom r [] = true
+apartFrom r (s ∷ ss) = apart r s && apartFrom r ss
+
+-- "targets are disjoint": no two rows give a number in common
+abbrev pub targetsApart : List Row → Bool
+targetsApart [] = true
+targetsApart (r ∷ rs) = apartFrom r rs && targetsApart rs
+
+-- every place is 0
+abbrev pub unusedRows : List Row → Bool
+unusedRows [] = true
+unusedRows (r ∷ rs) = eqb (r .low) 0 && (eqb (r .high) 0 && (eqb (r .target) 0 && unusedRows rs))
+
+unfoldable pub rowsSound : Table → Bool
+rowsSound t = rising 0 (used t) && (unusedRows (drop (t .count) (t .rows)) && targetsApart (used t))
+
+-- the level pairs, each an array of two numbers: "strictly rising on both sides", the first at `f` and `g` or above
+abbrev pub levelsRise : ℕ → ℕ → List (List ℕ) → Bool
+levelsRise f g [] = true
+levelsRise f g (p ∷ ps) = leb f (getD p 0 0) && (leb g (getD p 1 0) && levelsRise (getD p 0 0 + 1) (getD p 1 0 + 1) ps)
+
+abbrev pub unusedPairs : List (List ℕ) → Bool
+unusedPairs [] = true
+unusedPairs (p ∷ ps) = eqb (getD p 0 0) 0 && (eqb (getD p 1 0) 0 && unusedPairs ps)
+
+unfoldable pub levelsSound : List (List ℕ) → ℕ → Bool
+levelsSound ls n = levelsRise 0 0 (take n ls) && unusedPairs (drop n ls)
+
+-- what the types say of level pairs: each number is at most 255
+abbrev pub levelNumbers : List (List ℕ) → Bool
+levelNumbers [] = true
+levelNumbers (p ∷ ps) = leb (getD p 0 0) 255 && (leb (getD p 1 0) 255 && levelNumbers ps)
+
+-- what the types say of every table: domains of 32 bits, 64 places for rows, levels from 0 to 255
+unfoldable pub typed : Table → List (List ℕ) → Bool
+typed t ls = leb (t .from) 4294967295 && (leb (t .to) 4294967295 && (eqb (length (t .rows)) 64 && levelNumbers (take (t .pairs) ls)))
+
+-- neither domain is 0, the counts keep to their limits, the level pairs and the rows are sound
+unfoldable pub tableSound : Table → List (List ℕ) → Bool
+tableSound t ls =
+    not (eqb (t .from) 0)
+    && (not (eqb (t .to) 0)
+    && (leb (t .pairs) 16 && (leb (t .count) 64 && (levelsSound ls (t .pairs) && (rowsSound t && typed t ls)))))
