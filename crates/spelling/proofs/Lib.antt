@@ -1,0 +1,6 @@
+pub mod Octets
+pub mod Sizes
+pub mod Numbers
+pub mod Bodies
+pub mod Writing
+pub mod Answers
