@@ -1,5 +1,5 @@
 -- Laws of the answers: what each stage of spelling a label alone says, and how long a spelling is.
-use Prim.Native.Nat.{ℕ, suc, _+_, _-_, _≤_, _<_}
+use Prim.Native.Nat.{ℕ, _+_, _-_, _≤_, _<_}
 use mathlib.Core.Path.{_≡_, refl, ap, sym, _∙_}
 use mathlib.Core.Bool.{Bool, true, false, not, cond}
 use mathlib.Core.List.{List, _++_}
@@ -7,7 +7,7 @@ use mathlib.Core.Option.{Option, none, some}
 use lib.ListN.{length, drop}
 use lib.Dec.{ltb, eqb}
 use native.Mathlib.Omega.{arith}
-use borrow.Author.Tests.{lt-ltb, le-ltb}
+use borrow.Author.Tests.{lt-ltb, le-ltb, ne-eqb}
 use Rattle.label.specs.declared.Run.{Run}
 use Rattle.label.specs.declared.Label.{Label}
 use Rattle.label.specs.Label.{used, wellFormed}
@@ -60,26 +60,23 @@ module _ (l : Label) (n : ℕ) where
   unfolding spellingNumber
   number-done h w s e = rw (le-ltb n 40 h, w, e)
 
-  pub answer-refused : (k : ℕ) → spellingNumber l n ≡ suc k → spellingAnswer l n ≡ record { number = suc k; count = 0 }
+  pub answer-refused : (k : ℕ) → (k ≡ 0 → ⊥) → spellingNumber l n ≡ k → spellingAnswer l n ≡ record { number = k; count = 0 }
   unfolding spellingAnswer
-  answer-refused k e = rw e
+  answer-refused k z e = rw (e, ne-eqb k 0 z)
 
   pub answer-done : (s : List ℕ) → spellingNumber l n ≡ 0 → spelledOf l ≡ some s → spellingAnswer l n ≡ record { number = 0; count = length s }
   unfolding spellingAnswer
   answer-done s e q = rw (e, q)
 
-  pub answer-number : spellingAnswer l n .number ≡ spellingNumber l n
-  unfolding spellingAnswer
-  answer-number = go (spellingNumber l n)
-    where
-      go : (k : ℕ) → (cond (eqb k 0) (record { number = 0; count = lengthOf (spelledOf l) }) (record { number = k; count = 0 })) .number ≡ k
-      go Prim.Native.Nat.zero = refl
-      go (suc k) = refl
-
 module _ (l : Label) (out : List ℕ) where
-  pub out-refused : (k : ℕ) → spellingNumber l (length out) ≡ suc k → spellingOut l out ≡ out
+  pub out-refused : (k : ℕ) → (k ≡ 0 → ⊥) → spellingNumber l (length out) ≡ k → spellingOut l out ≡ out
   unfolding spellingOut
-  out-refused k e = rw e
+  out-refused k z e = rw (e, ne-eqb k 0 z)
+
+  -- a refusal: its number, count 0, and nothing written
+  pub refused : (k : ℕ) → (k ≡ 0 → ⊥) → spellingNumber l (length out) ≡ k
+      → (_≡_ {A = Spelling} (record { number = k; count = 0 }) (spellingAnswer l (length out))) × (out ≡ spellingOut l out)
+  refused k z e = (sym (answer-refused l (length out) k z e), sym (out-refused k z e))
 
   pub out-done : (s : List ℕ) → spellingNumber l (length out) ≡ 0 → spelledOf l ≡ some s → spellingOut l out ≡ padded s ++ drop 40 out
   unfolding spellingOut
@@ -112,5 +109,13 @@ module _ (l : Label) (out out′ : List ℕ) (r : ℕ) (w : Writes l out out′ 
           let p = w .spelled f long s e in
           record { option = s; spelled = e; count = p .0; short = spelled-bounds (l .domain) (l .level) (used l) s e .1; written = p .1 }
 
-  pub zeros-written : (z : List ℕ) → z ≡ zeroed r out′ → (p : Wrote) → z ≡ padded (p .option) ++ drop 40 out
+  zeros-written : (z : List ℕ) → z ≡ zeroed r out′ → (p : Wrote) → z ≡ padded (p .option) ++ drop 40 out
   zeros-written z e p = e ∙ (λ i. zeroed (p .count i) (p .written i)) ∙ zero-after (p .option) out (p .short)
+
+  -- done: the option's length, the option and zeros
+  pub completed : (z : List ℕ) → z ≡ zeroed r out′ → (p : Wrote)
+      → (_≡_ {A = Spelling} (record { number = 0; count = r }) (spellingAnswer l (length out))) × (z ≡ spellingOut l out)
+  completed z e p =
+      let n : spellingNumber l (length out) ≡ 0 = number-done l (length out) long f (p .option) (p .spelled) in
+      let a : _≡_ {A = Spelling} (record { number = 0; count = r }) (record { number = 0; count = length (p .option) }) = λ i. record { number = 0; count = p .count i } in
+      (a ∙ sym (answer-done l (length out) (p .option) n (p .spelled)), zeros-written z e p ∙ sym (out-done l out (p .option) n (p .spelled)))
