@@ -1,11 +1,10 @@
 -- Laws of the answers: what each stage of spelling a label alone says, and how long a spelling is.
 use Prim.Native.Nat.{ℕ, _+_, _-_, _≤_, _<_}
 use mathlib.Core.Path.{_≡_, refl, ap, sym, _∙_}
-use mathlib.Core.Bool.{Bool, true, false, not, cond}
+use mathlib.Core.Bool.{true, false}
 use mathlib.Core.List.{List, _++_}
 use mathlib.Core.Option.{Option, none, some}
 use lib.ListN.{length, drop}
-use lib.Dec.{ltb, eqb}
 use native.Mathlib.Omega.{arith}
 use borrow.Author.Tests.{lt-ltb, le-ltb, ne-eqb}
 use Rattle.label.specs.declared.Run.{Run}
@@ -15,7 +14,7 @@ use Rattle.option.specs.Spelling.{tagFor, bodyFor, spelledBy, spellingOf, padde
 use Rattle.option.proofs.Theorems.{spelled-is, spelled-none, spelled-some}
 use Rattle.spelling.specs.declared.Spelling.{Spelling}
 use Rattle.spelling.specs.Parts.{zeroed}
-use Rattle.spelling.specs.Spelling.{spelledOf, lengthOf, lacking, laid, spellingNumber, spellingAnswer, spellingOut, Writes}
+use Rattle.spelling.specs.Spelling.{spelledOf, lengthOf, spellingNumber, spellingAnswer, spellingOut, Writes}
 use Rattle.spelling.proofs.Bodies.{body-short}
 use Rattle.spelling.proofs.Writing.{zero-after}
 

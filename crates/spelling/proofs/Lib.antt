@@ -4,3 +4,4 @@ pub mod Numbers
 pub mod Bodies
 pub mod Writing
 pub mod Answers
+pub mod Theorems

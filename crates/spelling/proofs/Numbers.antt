@@ -11,7 +11,7 @@ use native.Mathlib.Numerals.{add-one}
 use Rattle.label.specs.declared.Run.{Run}
 use Rattle.label.specs.Runs.{run, countOf}
 use Rattle.option.specs.Spelling.{countUp, numbersOf}
-use Rattle.option.specs.Index.{numbersOut, pairNumber, rankNumber}
+use Rattle.option.specs.Index.{numbersOut, pairNumber}
 use Rattle.option.proofs.Spelled.{numbers-count}
 use Rattle.option.proofs.Bridge.{rank-in}
 

@@ -2,16 +2,16 @@
 use Prim.Native.Nat.{ℕ, zero, suc, _+_, _-_, _*_, _/_, _≤_, _<_}
 use mathlib.Core.Path.{_≡_, refl, ap, sym, _∙_}
 use mathlib.Core.List.{List, [], _∷_}
-use mathlib.Core.Bool.{Bool, true, false, cond, _&&_}
+use mathlib.Core.Bool.{cond}
 use lib.ListN.{length, getD}
-use lib.Dec.{leb, eqb}
+use lib.Dec.{eqb}
 use native.Mathlib.Omega.{arith}
 use native.Mathlib.Decide.{decLe}
 use borrow.Author.Tests.{le-leb, lt-leb}
 use Rattle.label.specs.declared.Run.{Run}
 use Rattle.label.specs.Label.{noRun}
 use Rattle.label.specs.Runs.{countOf, topOf}
-use Rattle.option.specs.Spelling.{size1, size2, size5, leastTag, tagFor, bodyFor}
+use Rattle.option.specs.Spelling.{size1, size2, size5, tagFor, bodyFor}
 use Rattle.option.proofs.Choice.{Choice, take0, take1, take2, take5, choice}
 use Rattle.option.proofs.Spelled.{body1-length, body2-length, body5-length}
 use Rattle.spelling.specs.declared.Chosen.{Chosen}

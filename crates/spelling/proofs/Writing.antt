@@ -1,11 +1,11 @@
 -- Laws of writing over a list: zeros up to octet 39, the ten octets before the categories, and the whole option.
-use Prim.Native.Nat.{ℕ, zero, suc, _+_, _-_, _*_, _/_, _%_, _≤_, _<_}
+use Prim.Native.Nat.{ℕ, suc, _+_, _-_, _≤_, _<_}
 use mathlib.Core.Path.{_≡_, refl, sym, ap, _∙_}
 use mathlib.Core.List.{List, [], _∷_, _++_, append-assoc, append-nil}
 use mathlib.Core.Option.{some}
 use native.Mathlib.Numerals.{add-one}
 use native.Mathlib.Omega.{arith}
-use lib.ListN.{length, getD, set, take, drop, replicate, length-drop, length-append, take-append-drop, drop-of-length-le}
+use lib.ListN.{length, set, take, drop, replicate, length-drop, length-append, take-append-drop, drop-of-length-le}
 use lib.Seq.{take-suc-set, drop-set-lt, take-append-seam, take-length, drop-drop, drop-at, length-take-le}
 use Rattle.label.specs.declared.Run.{Run}
 use Rattle.option.specs.Spelling.{tagFor, bodyFor, optionOf, spelledBy, spellingOf, padded}

@@ -11,8 +11,29 @@ ghost use Rattle.option.specs.Spelling.{bitsOf, octetsOf, octetsOut, numbersOf,
 ghost use Rattle.option.specs.Index.{numbersOut, pairNumber};
 ghost use Rattle.spelling.specs.Spelling.{spellingAnswer, spellingOut, Measures, Writes};
 ghost use Rattle.spelling.specs.Parts.{capped, leastOf, choiceOf, headOf, zeroed};
-use label::{Label, Run};
-use option::{OPTION_TYPE, LENGTH_AT, DOMAIN_AT, TAG_TYPE_AT, TAG_LENGTH_AT, ALIGNMENT_AT, LEVEL_AT, CATEGORIES_AT};
+use label::Label;
+use label::Run;
+use option::ALIGNMENT_AT;
+use option::CATEGORIES_AT;
+use option::DOMAIN_AT;
+use option::LENGTH_AT;
+use option::LEVEL_AT;
+use option::OPTION_TYPE;
+use option::TAG_LENGTH_AT;
+use option::TAG_TYPE_AT;
+
+// The most octets that an option has; spelling asks for so many octets of output.
+pub const OPTION_OCTETS: usize = 40;
+
+// The most octets of categories that a tag 1, a tag 2 and a tag 5 have: 240 bits, 15 numbers, 7 pairs.
+const BITMAP_OCTETS: usize = 30;
+
+const NUMBERS_OCTETS: usize = 30;
+
+const PAIRS_OCTETS: usize = 28;
+
+// One category more than a tag 2 holds.
+const TOO_MANY_NUMBERS: usize = 16;
 
 // What spelling a label alone answers: 0 and the option's length, or the number of a refusal and 0.
 pub struct Spelling {
@@ -30,18 +51,30 @@ struct Chosen {
 pub fn spell_label(label: Label, out: &mut [u8]) -> Spelling
     ensures { λ r. ⌜ (r ≡ spellingAnswer label (length (now (out .entry)))) × (now (out .exit) ≡ spellingOut label (now (out .entry))) ⌝ }
 {
-    if out.len() < 40 {
-        return Spelling { number: 1, count: 0 };
+    if out.len() < OPTION_OCTETS {
+        return Spelling {
+            number: 1,
+            count: 0,
+        };
     }
     if !label.well_formed() {
-        return Spelling { number: 2, count: 0 };
+        return Spelling {
+            number: 2,
+            count: 0,
+        };
     }
     let n = write_option(label, &mut out[..]);
     if n == 0 {
-        return Spelling { number: 18, count: 0 };
+        return Spelling {
+            number: 18,
+            count: 0,
+        };
     }
     zero_from(&mut out[..], n);
-    Spelling { number: 0, count: n }
+    Spelling {
+        number: 0,
+        count: n,
+    }
 }
 
 // The length of the spelling of a label that the caller knows to be well formed, or 0 where it has none.
@@ -55,14 +88,14 @@ pub fn option_length(label: Label) -> usize
     if choice.tag == 0 {
         return 0;
     }
-    10 + choice.size
+    CATEGORIES_AT + choice.size
 }
 
 // Writes the spelling of a label that the caller knows to be well formed, and returns its length; or writes nothing and returns 0.
 pub fn write_option(label: Label, out: &mut [u8]) -> usize
     ensures { λ r. ⌜ Writes label (now (out .entry)) (now (out .exit)) r ⌝ }
 {
-    if out.len() < 40 {
+    if out.len() < OPTION_OCTETS {
         return 0;
     }
     if Label::MAX_RUNS < label.count {
@@ -74,9 +107,9 @@ pub fn write_option(label: Label, out: &mut [u8]) -> usize
     if tag == 0 {
         return 0;
     }
-    write_body(label, tag, size, &mut out[10..]);
+    write_body(label, tag, size, &mut out[CATEGORIES_AT..]);
     write_head(label.domain, label.level, tag, size, &mut out[..]);
-    10 + size
+    CATEGORIES_AT + size
 }
 
 // The tag of the spelling and its size.
@@ -135,8 +168,8 @@ fn count_categories(label: Label) -> usize
     while i < m {
         let run = label.runs[i];
         n += span(run.low, run.high);
-        if 15 < n {
-            return 16;
+        if TOO_MANY_NUMBERS <= n {
+            return TOO_MANY_NUMBERS;
         }
         i += 1;
     }
@@ -146,19 +179,19 @@ fn count_categories(label: Label) -> usize
 fn takes_one(one: usize, two: usize, five: usize) -> bool
     ensures { λ r. ⌜ r ≡ (leb one 30 && (leb one two && leb one five)) ⌝ }
 {
-    one <= 30 && (one <= two && one <= five)
+    one <= BITMAP_OCTETS && (one <= two && one <= five)
 }
 
 fn takes_two(two: usize, five: usize) -> bool
     ensures { λ r. ⌜ r ≡ (leb two 30 && leb two five) ⌝ }
 {
-    two <= 30 && two <= five
+    two <= NUMBERS_OCTETS && two <= five
 }
 
 fn takes_five(five: usize) -> bool
     ensures { λ r. ⌜ r ≡ leb five 28 ⌝ }
 {
-    five <= 28
+    five <= PAIRS_OCTETS
 }
 
 // The least of the three sizes that fits, equal ones to tag 1, then 2, then 5.
@@ -322,7 +355,7 @@ fn write_head(domain: u32, level: u8, tag: u8, size: usize, out: &mut [u8])
     ensures { λ _. ⌜ now (out .exit) ≡ headOf domain level tag size ++ drop 10 (now (out .entry)) ⌝ }
 {
     out[0] = OPTION_TYPE;
-    out[LENGTH_AT] = (10 + size) as u8;
+    out[LENGTH_AT] = (CATEGORIES_AT + size) as u8;
     out[DOMAIN_AT] = (domain / 256 / 256 / 256) as u8;
     out[DOMAIN_AT + 1] = (domain / 256 / 256 % 256) as u8;
     out[DOMAIN_AT + 2] = (domain / 256 % 256) as u8;
@@ -339,8 +372,8 @@ fn zero_from(out: &mut [u8], from: usize)
     ensures { λ _. ⌜ now (out .exit) ≡ zeroed from (now (out .entry)) ⌝ }
 {
     let mut i = from;
-    while i < 40 {
+    while i < OPTION_OCTETS {
         out[i] = 0;
-        i = i + 1;
+        i += 1;
     }
 }

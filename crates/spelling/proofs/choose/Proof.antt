@@ -1,7 +1,8 @@
--- `spelling::choose` meets its contract.
+-- `spelling::choose` meets its contract: the sizes by the first and the last run, and a capped count, choose as the definition does.
+-- Assumes nothing.
 use borrow.Author.Needs.{needs}
 use native.Mathlib.Omega.{arith}
-use Prim.Native.Nat.{_-_, _≤_, _<_}
+use Prim.Native.Nat.{_-_}
 use mathlib.Core.Path.{_≡_, sym, _∙_}
 use lib.ListN.{length, length-map}
 use lib.Seq.{length-take-le, getD-take}
@@ -10,12 +11,6 @@ use Rattle.label.specs.Label.{noRun, used}
 use Rattle.spelling.proofs.Sizes.{capped-most, choice-none, choice-some}
 use Rattle.spelling.proofs.choose.Statement.{statement}
 use Rattle.spelling.proofs.choose.Tie as tie
-use Rattle.spelling.proofs.choose.Reads as reads
-use Rattle.spelling.proofs.choose.Lts as lts
-use Rattle.spelling.proofs.bitmap_size.Reads as bitmap-size-reads
-use Rattle.spelling.proofs.count_categories.Reads as count-categories-reads
-use Rattle.spelling.proofs.least.Reads as least-reads
-use Rattle.spelling.proofs.pairs_size.Reads as pairs-size-reads
 
 counted : (c : tie.Start) → length (used (c .args .t1)) ≡ c .args .t1 .count
 counted c =

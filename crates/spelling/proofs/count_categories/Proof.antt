@@ -1,8 +1,9 @@
--- `spelling::count_categories` meets its contract.
+-- `spelling::count_categories` meets its contract. The loop's invariant: the count so far, within 15, and the categories of the runs that are left make up the whole.
+-- Assumes nothing.
 use borrow.Author.Needs.{needs}
 use native.Mathlib.Omega.{arith}
 use Prim.Native.Nat.{_+_, _-_, _≤_}
-use mathlib.Core.Path.{_≡_, refl, ap, sym, _∙_}
+use mathlib.Core.Path.{_≡_, ap, sym, _∙_}
 use lib.ListN.{length, getD, drop, length-map}
 use Rattle.label.specs.Runs.{countOf}
 use Rattle.label.specs.Label.{noRun, used}
@@ -10,9 +11,6 @@ use Rattle.label.proofs.Steps.{next-used, used-up}
 use Rattle.spelling.proofs.Sizes.{capped-low, capped-over}
 use Rattle.spelling.proofs.count_categories.Statement.{statement}
 use Rattle.spelling.proofs.count_categories.Tie as tie
-use Rattle.spelling.proofs.count_categories.Reads as reads
-use Rattle.spelling.proofs.count_categories.Lts as lts
-use Rattle.spelling.proofs.span.Reads as span-reads
 
 abbrev Inv-loop : tie.InvT-loop
 Inv-loop label m n₀ i₀ n i = (i ≤ m) × (n ≤ 15) × (n + countOf (drop i (used label)) ≡ countOf (used label))

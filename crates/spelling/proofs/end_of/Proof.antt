@@ -1,9 +1,8 @@
--- `spelling::end_of` meets its contract.
+-- `spelling::end_of` meets its contract: each return by the test taken.
+-- Assumes nothing.
 use borrow.Author.Tests.{eq-eqb, ne-eqb}
 use Rattle.spelling.proofs.end_of.Statement.{statement}
 use Rattle.spelling.proofs.end_of.Tie as tie
-use Rattle.spelling.proofs.end_of.Reads as reads
-use Rattle.spelling.proofs.end_of.Lts as lts
 
 returns : tie.Need-returns
 returns c = rw (eq-eqb _ _ (c .if1 .taken))

@@ -1,4 +1,5 @@
--- `spelling::least` meets its contract: at each return the tests taken.
+-- `spelling::least` meets its contract: each return by the tests taken.
+-- Assumes nothing.
 use mathlib.Core.Path.{sym, _∙_}
 use borrow.Author.Needs.{needs}
 use Rattle.spelling.specs.Parts.{leastOf}

@@ -1,17 +1,14 @@
--- `spelling::octet_of` meets its contract.
+-- `spelling::octet_of` meets its contract: ones from the first bit on, without those after the last, are the bits of the run.
+-- Assumes nothing.
 use borrow.Author.Needs.{needs}
 use native.Mathlib.Omega.{arith}
-use Prim.Native.Nat.{ℕ, _+_, _-_, _/_, _^_, _≤_, _<_}
+use Prim.Native.Nat.{ℕ, _+_, _-_, _/_, _^_, _≤_}
 use native.Mathlib.Decide.{decLe}
-use mathlib.Core.Path.{_≡_, ap, sym, _∙_}
+use mathlib.Core.Path.{ap, sym, _∙_}
 use Rattle.label.specs.Runs.{run}
 use Rattle.spelling.proofs.Octets.{octet-empty, octet-before, octet-after, octet-is, octet-small, less-at}
 use Rattle.spelling.proofs.octet_of.Statement.{statement}
 use Rattle.spelling.proofs.octet_of.Tie as tie
-use Rattle.spelling.proofs.octet_of.Reads as reads
-use Rattle.spelling.proofs.octet_of.Lts as lts
-use Rattle.spelling.proofs.above.Reads as above-reads
-use Rattle.spelling.proofs.last_bit.Reads as last-bit-reads
 
 -- the first bit is no later than the last
 last : (c : tie.After-last-bit) → c .before .above .result ≤ c .last-bit .result

@@ -1,7 +1,8 @@
--- `spelling::option_length` meets its contract.
+-- `spelling::option_length` meets its contract: the length is that of the chosen tag, or 0 where none fits.
+-- Assumes nothing.
 use borrow.Author.Needs.{needs}
 use native.Mathlib.Omega.{arith}
-use Prim.Native.Nat.{ℕ, _+_, _≤_, _<_}
+use Prim.Native.Nat.{ℕ, _+_, _<_}
 use mathlib.Core.Path.{_≡_, ap, _∙_}
 use lib.ListN.{length}
 use Rattle.label.specs.Label.{used}
@@ -12,9 +13,6 @@ use Rattle.spelling.proofs.Bodies.{body-short}
 use Rattle.spelling.proofs.Answers.{spelled-length, unspelled-length}
 use Rattle.spelling.proofs.option_length.Statement.{statement}
 use Rattle.spelling.proofs.option_length.Tie as tie
-use Rattle.spelling.proofs.option_length.Reads as reads
-use Rattle.spelling.proofs.option_length.Lts as lts
-use Rattle.spelling.proofs.choose.Reads as choose-reads
 
 -- the choice, and what it says of the spelling
 tag-is : (c : tie.After-choose) → c .choose .result .tag ≡ tagFor (used (c .before .before .before .args .label))

@@ -1,11 +1,10 @@
--- `spelling::pairs_size` meets its contract.
+-- `spelling::pairs_size` meets its contract: each return by the test taken.
+-- Assumes nothing.
 use borrow.Author.Needs.{needs}
 use native.Mathlib.Omega.{arith}
 use borrow.Author.Tests.{eq-eqb, ne-eqb}
 use Rattle.spelling.proofs.pairs_size.Statement.{statement}
 use Rattle.spelling.proofs.pairs_size.Tie as tie
-use Rattle.spelling.proofs.pairs_size.Reads as reads
-use Rattle.spelling.proofs.pairs_size.Lts as lts
 
 mul-result : tie.Need-mul-result
 mul-result c = search needs

@@ -1,4 +1,5 @@
--- `spelling::spell_label` meets its contract.
+-- `spelling::spell_label` meets its contract: each refusal by the tests taken; done, the option and zeros.
+-- Assumes nothing.
 use borrow.Author.Needs.{needs}
 use borrow.Author.Tests.{not-true, not-false}
 use native.Mathlib.Omega.{arith}
@@ -12,11 +13,6 @@ use Rattle.spelling.specs.Spelling.{spelledOf}
 use Rattle.spelling.proofs.Answers.{number-short, number-ill, number-none, refused, nothing-written, something-written, completed}
 use Rattle.spelling.proofs.spell_label.Statement.{statement}
 use Rattle.spelling.proofs.spell_label.Tie as tie
-use Rattle.spelling.proofs.spell_label.Reads as reads
-use Rattle.spelling.proofs.spell_label.Lts as lts
-use Rattle.label.proofs.Label.well_formed.Reads as well-formed-reads
-use Rattle.spelling.proofs.write_option.Reads as write-option-reads
-use Rattle.spelling.proofs.zero_from.Reads as zero-from-reads
 
 -- what writing the option tells, of a well-formed label and an output that is long enough
 module _ (c : tie.After-write-option) where

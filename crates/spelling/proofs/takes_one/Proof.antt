@@ -1,4 +1,5 @@
--- `spelling::takes_one` meets its contract.
+-- `spelling::takes_one` meets its contract: each return by the tests taken.
+-- Assumes nothing.
 use borrow.Author.Tests.{le-leb, lt-leb}
 use Rattle.spelling.proofs.takes_one.Statement.{statement}
 use Rattle.spelling.proofs.takes_one.Tie as tie

@@ -1,4 +1,5 @@
--- `spelling::takes_two` meets its contract.
+-- `spelling::takes_two` meets its contract: each return by the tests taken.
+-- Assumes nothing.
 use borrow.Author.Tests.{le-leb, lt-leb}
 use Rattle.spelling.proofs.takes_two.Statement.{statement}
 use Rattle.spelling.proofs.takes_two.Tie as tie

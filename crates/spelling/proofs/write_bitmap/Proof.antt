@@ -1,7 +1,8 @@
--- `spelling::write_bitmap` meets its contract.
+-- `spelling::write_bitmap` meets its contract. The loop's invariant: the octets so far are written, and x with what is left of the runs makes up the next one.
+-- Assumes nothing.
 use borrow.Author.Needs.{needs}
 use native.Mathlib.Omega.{arith}
-use Prim.Native.Nat.{ℕ, _+_, _-_, _*_, _≤_, _<_}
+use Prim.Native.Nat.{ℕ, _+_, _-_, _*_, _≤_}
 use mathlib.Core.Path.{_≡_, refl, ap, _∙_}
 use mathlib.Core.Bool.{true}
 use mathlib.Core.List.{_∷_, _++_}
@@ -14,9 +15,6 @@ use Rattle.option.specs.Spelling.{bitsOf, octetsOf}
 use Rattle.spelling.proofs.Octets.{Standing, begin, onward, taken, filled, done, octet-store}
 use Rattle.spelling.proofs.write_bitmap.Statement.{statement}
 use Rattle.spelling.proofs.write_bitmap.Tie as tie
-use Rattle.spelling.proofs.write_bitmap.Reads as reads
-use Rattle.spelling.proofs.write_bitmap.Lts as lts
-use Rattle.spelling.proofs.octet_of.Reads as octet-of-reads
 
 abbrev Inv-loop : tie.InvT-loop
 Inv-loop n out₀ label m x₀ i₀ k₀ out x i k =

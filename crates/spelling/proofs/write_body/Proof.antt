@@ -1,4 +1,5 @@
--- `spelling::write_body` meets its contract.
+-- `spelling::write_body` meets its contract: each tag's writer writes the categories in its tag.
+-- Assumes nothing.
 use borrow.Author.Needs.{needs}
 use native.Mathlib.Omega.{arith}
 use Prim.Native.Nat.{ℕ}
@@ -9,11 +10,6 @@ use Rattle.label.specs.Label.{used}
 use Rattle.spelling.proofs.Bodies.{body-short, five, body-one, body-two, body-five}
 use Rattle.spelling.proofs.write_body.Statement.{statement}
 use Rattle.spelling.proofs.write_body.Tie as tie
-use Rattle.spelling.proofs.write_body.Reads as reads
-use Rattle.spelling.proofs.write_body.Lts as lts
-use Rattle.spelling.proofs.write_bitmap.Reads as write-bitmap-reads
-use Rattle.spelling.proofs.write_numbers.Reads as write-numbers-reads
-use Rattle.spelling.proofs.write_pairs.Reads as write-pairs-reads
 
 write-bitmap-requires : tie.Need-write-bitmap-requires
 write-bitmap-requires c κs =

@@ -1,12 +1,11 @@
--- `spelling::write_head` meets its contract.
+-- `spelling::write_head` meets its contract: ten stores, one after another.
+-- Assumes nothing.
 use borrow.Author.Needs.{needs}
 use native.Mathlib.Omega.{arith}
 use lib.ListN.{length-set}
 use Rattle.spelling.proofs.Writing.{head-set}
 use Rattle.spelling.proofs.write_head.Statement.{statement}
 use Rattle.spelling.proofs.write_head.Tie as tie
-use Rattle.spelling.proofs.write_head.Reads as reads
-use Rattle.spelling.proofs.write_head.Lts as lts
 
 slice-write-out : tie.Need-slice-write-out
 slice-write-out c = search needs

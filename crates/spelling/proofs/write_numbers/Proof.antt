@@ -1,4 +1,5 @@
--- `spelling::write_numbers` meets its contract.
+-- `spelling::write_numbers` meets its contract. The loop's invariant: k numbers are written, and those of the runs that are left, but for j of the first, are still to come.
+-- Assumes nothing.
 use borrow.Author.Needs.{needs}
 use native.Mathlib.Omega.{arith}
 use Prim.Native.Nat.{_+_, _-_, _*_, _≤_, _<_}
@@ -15,8 +16,6 @@ use Rattle.option.proofs.Bridge.{ranks-out}
 use Rattle.spelling.proofs.Numbers.{numbers-store, Written, fresh, passed, there, number, another, all-written}
 use Rattle.spelling.proofs.write_numbers.Statement.{statement}
 use Rattle.spelling.proofs.write_numbers.Tie as tie
-use Rattle.spelling.proofs.write_numbers.Reads as reads
-use Rattle.spelling.proofs.write_numbers.Lts as lts
 
 abbrev Inv-loop : tie.InvT-loop
 Inv-loop out₀ label m i₀ j₀ k₀ out i j k =

@@ -1,7 +1,8 @@
--- `spelling::write_option` meets its contract.
+-- `spelling::write_option` meets its contract: the ten octets and the categories make up the option.
+-- Assumes nothing.
 use borrow.Author.Needs.{needs}
 use native.Mathlib.Omega.{arith}
-use Prim.Native.Nat.{ℕ, _+_, _≤_, _<_}
+use Prim.Native.Nat.{_≤_, _<_}
 use mathlib.Core.Path.{_≡_, refl, sym, _∙_}
 use lib.ListN.{length}
 use Rattle.label.specs.Label.{used}
@@ -15,11 +16,6 @@ use Rattle.spelling.proofs.Writing.{put-long, option-written}
 use Rattle.spelling.proofs.Answers.{some-none}
 use Rattle.spelling.proofs.write_option.Statement.{statement}
 use Rattle.spelling.proofs.write_option.Tie as tie
-use Rattle.spelling.proofs.write_option.Reads as reads
-use Rattle.spelling.proofs.write_option.Lts as lts
-use Rattle.spelling.proofs.choose.Reads as choose-reads
-use Rattle.spelling.proofs.write_body.Reads as write-body-reads
-use Rattle.spelling.proofs.write_head.Reads as write-head-reads
 
 -- the choice, and what it says of the spelling
 tag-is : (c : tie.After-choose) → c .choose .result .tag ≡ tagFor (used (c .before .before .before .before .before .args .label))

@@ -1,4 +1,5 @@
--- `spelling::write_pairs` meets its contract.
+-- `spelling::write_pairs` meets its contract. The loop's invariant: k ends are written.
+-- Assumes nothing.
 use borrow.Author.Needs.{needs}
 use native.Mathlib.Omega.{arith}
 use Prim.Native.Nat.{_-_, _*_, _≤_}
@@ -10,9 +11,6 @@ use Rattle.option.specs.Index.{numbersOut, pairNumber}
 use Rattle.spelling.proofs.Numbers.{numbers-store, end-is}
 use Rattle.spelling.proofs.write_pairs.Statement.{statement}
 use Rattle.spelling.proofs.write_pairs.Tie as tie
-use Rattle.spelling.proofs.write_pairs.Reads as reads
-use Rattle.spelling.proofs.write_pairs.Lts as lts
-use Rattle.spelling.proofs.end_of.Reads as end-of-reads
 
 abbrev Inv-loop : tie.InvT-loop
 Inv-loop m out₀ label n k₀ out k = (k ≤ m) × (length out ≡ length out₀) × (out ≡ numbersOut (pairNumber (used label)) k ++ drop (2 * k) out₀)

@@ -1,11 +1,10 @@
--- `spelling::zero_from` meets its contract. The loop's invariant: zeroing the rest gives what zeroing from the start gives. Assumes nothing.
-use Prim.Native.Nat.{ℕ, _≤_, _<_, _-_, _+_}
-use mathlib.Core.Path.{_≡_, refl, sym, ap, _∙_}
-use mathlib.Core.List.{List, _++_}
+-- `spelling::zero_from` meets its contract. The loop's invariant: zeroing the rest gives what zeroing from the start gives.
+-- Assumes nothing.
+use Prim.Native.Nat.{_≤_, _-_}
+use mathlib.Core.Path.{_≡_, refl, sym, _∙_}
 use native.Mathlib.Omega.{arith}
 use borrow.Author.Needs.{needs}
-use lib.ListN.{length, drop, take, getD, set, length-drop, length-set, length-append}
-use lib.Seq.{take-all, drop-drop}
+use lib.ListN.{length, length-set}
 use Rattle.spelling.specs.Parts.{zeroed}
 use Rattle.spelling.proofs.Writing.{zero-more, zero-last}
 use Rattle.spelling.proofs.zero_from.Statement.{statement}
