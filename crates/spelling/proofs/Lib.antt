@@ -1,0 +1,7 @@
+pub mod Octets
+pub mod Sizes
+pub mod Numbers
+pub mod Bodies
+pub mod Writing
+pub mod Answers
+pub mod Theorems
