@@ -1,0 +1,96 @@
+-- How many runs a reader's loop can have made, and its next piece.
+use Prim.Native.Nat.{ℕ, zero, suc, _+_, _*_, _/_, _%_, _≤_, _<_, zero-le}
+use mathlib.Core.Path.{_≡_, refl, ap, sym, _∙_}
+use mathlib.Core.List.{List, []}
+use mathlib.Core.Bool.{Bool, true, false, cond}
+use lib.ListN.{length}
+use lib.Dec.{eqb}
+use native.Mathlib.Omega.{arith}
+use native.Mathlib.Numerals.{add-one}
+use Rattle.label.specs.declared.Run.{Run}
+use Rattle.label.specs.Runs.{pushRun, joined}
+use Rattle.label.proofs.Canon.{canon-length}
+use Rattle.label.proofs.Push.{push-length}
+use borrow.Author.Tests.{eq-eqb, ne-eqb}
+use Rattle.option.specs.Bitmap.{bitAt}
+use Rattle.option.specs.Option.{numbersIn, singles, pairsIn}
+use Rattle.option.specs.Reading.{turned, bitPieces, pieces}
+use Rattle.option.specs.Index.{setRuns, rangeRuns, firstTrue, numberAt, pairsOf, lowPair, highPair}
+use Rattle.option.proofs.Pieces.{joined-good, bits-falling}
+use Rattle.option.proofs.Bridge.{set-joined, numbers-joined, pairs-joined}
+use Rattle.reading.specs.Reading.{countIn, badIn, badPlace}
+use Rattle.reading.specs.Building.{lowIn, highIn}
+
+-- at most one run a piece
+pub range-most : (lo hi : ℕ → ℕ) (n : ℕ) → length (rangeRuns lo hi n) ≤ n
+range-most lo hi zero = zero-le
+range-most lo hi (suc n) = omega (arith, range-most lo hi n, push-length (lo n) (hi n) (rangeRuns lo hi n))
+
+pub range-next : (lo hi : ℕ → ℕ) (n : ℕ) → pushRun (rangeRuns lo hi n) (lo n) (hi n) ≡ rangeRuns lo hi (n + 1)
+range-next lo hi n = rw (add-one n)
+
+pub range-room : (lo hi : ℕ → ℕ) (n : ℕ) → length (pushRun (rangeRuns lo hi n) (lo n) (hi n)) ≤ n + 1
+range-room lo hi n = omega (arith, range-most lo hi (suc n))
+
+-- of n bits at most every other one begins a run
+pub set-most : (f : ℕ → Bool) (n : ℕ) → n ≤ 240 → length (setRuns f n) ≤ 120
+set-most f n h =
+    let g = joined-good n (bitPieces f n) (bits-falling f n) in
+    omega (arith, ap length (set-joined f n), canon-length n 0 (joined (bitPieces f n)) (g .0) (g .1) zero-le)
+
+module _ (f : ℕ → Bool) (c : ℕ) where
+  pub bit-in : f c ≡ true → pushRun (setRuns f c) c c ≡ setRuns f (c + 1)
+  bit-in e = rw (add-one c, e)
+
+  pub bit-room : f c ≡ true → c < 240 → length (pushRun (setRuns f c) c c) ≤ 120
+  bit-room e h = rw (bit-in e) (set-most f (c + 1) (omega arith))
+
+  pub bit-out : f c ≡ false → setRuns f c ≡ setRuns f (c + 1)
+  bit-out e = rw (add-one c, e)
+
+-- at most 15 numbers or pairs
+pub count-most : (t : ℕ) (b : List ℕ) → length b ≤ 30 → countIn t b ≤ 15
+count-most t b h = go (eqb t 2)
+  where
+    go : (z : Bool) → cond z (length b / 2) (pairsOf b) ≤ 15
+    go true = omega arith
+    go false = omega arith
+
+first-most : (f : ℕ → Bool) (n : ℕ) → firstTrue f n ≤ n
+first-most f zero = zero-le
+first-most f (suc n) = go (f zero) (first-most (λ k. f (suc k)) n)
+  where
+    go : (t : Bool) → firstTrue (λ k. f (suc k)) n ≤ n → cond t zero (suc (firstTrue (λ k. f (suc k)) n)) ≤ suc n
+    go true h = omega arith
+    go false h = omega arith
+
+pub first-few : (t : ℕ) (b : List ℕ) → length b ≤ 30 → firstTrue (badIn t b) (countIn t b) ≤ 15
+first-few t b h = omega (arith, first-most (badIn t b) (countIn t b), count-most t b h)
+
+-- where the first bad one begins
+module _ (t : ℕ) (b : List ℕ) (k : ℕ) where
+  pub place-two : t ≡ 2 → k ≡ firstTrue (badIn t b) (countIn t b) → 2 * k ≡ badPlace t b
+  place-two e f = ap (λ (x : ℕ). 2 * x) f ∙ rest (eqb t 1) (ne-eqb t 1 (λ z. omega arith)) (eqb t 2) (eq-eqb t 2 e) (firstTrue (badIn t b) (countIn t b))
+    where
+      rest : (x : Bool) → x ≡ false → (y : Bool) → y ≡ true → (n : ℕ) → 2 * n ≡ cond x (length b) (cond y 2 4 * n)
+      rest x p y q n = rw (p, q)
+
+  pub place-five : (t ≡ 1 → ⊥) → (t ≡ 2 → ⊥) → k ≡ firstTrue (badIn t b) (countIn t b) → 4 * k ≡ badPlace t b
+  place-five n m f = ap (λ (x : ℕ). 4 * x) f ∙ rest (eqb t 1) (ne-eqb t 1 n) (eqb t 2) (ne-eqb t 2 m) (firstTrue (badIn t b) (countIn t b))
+    where
+      rest : (x : Bool) → x ≡ false → (y : Bool) → y ≡ false → (n : ℕ) → 4 * n ≡ cond x (length b) (cond y 2 4 * n)
+      rest x p y q n = rw (p, q)
+
+-- The pieces of a tag are what its runs are made of.
+module _ (t : ℕ) (b : List ℕ) where
+  pub bitmap-joined : t ≡ 1 → setRuns (bitAt b) (8 * length b) ≡ joined (pieces t b)
+  unfolding pieces
+  bitmap-joined e = set-joined (bitAt b) (8 * length b) ∙ rw (eq-eqb t 1 e)
+
+  pub pieces-joined : (t ≡ 1 → ⊥) → length b % 2 ≡ 0 → rangeRuns (lowIn t b) (highIn t b) (countIn t b) ≡ joined (pieces t b)
+  unfolding pieces
+  pieces-joined n even = rw (ne-eqb t 1 n, pieces) (go (eqb t 2))
+    where
+      go : (z : Bool) → rangeRuns (λ k. cond z (numberAt b k) (lowPair b k)) (λ k. cond z (numberAt b k) (highPair b k)) (cond z (length b / 2) (pairsOf b)) ≡ joined (cond z (turned [] (singles (numbersIn b))) (pairsIn (numbersIn b)))
+      go true = numbers-joined b even
+      go false = pairs-joined b even

@@ -1,0 +1,17 @@
+-- `reading::count_in` meets its contract.
+use borrow.Author.Needs.{needs}
+use borrow.Author.Tests.{eq-eqb, ne-eqb}
+use Rattle.reading.proofs.count_in.Statement.{statement}
+use Rattle.reading.proofs.count_in.Tie as tie
+
+returns : tie.Need-returns
+returns c = rw (eq-eqb _ _ (c .if1 .taken))
+
+add-result : tie.Need-add-result
+add-result c = search needs
+
+returns-2 : tie.Need-returns-2
+returns-2 c = rw (ne-eqb _ _ (c .if1 .left))
+
+pub count-in-spec : {M : Type 1} → statement M
+count-in-spec = tie.close (tie.spec returns add-result returns-2)

@@ -1,0 +1,189 @@
+-- `reading::read_tag` meets its contract: each return is the check that decides there.
+use borrow.Author.Needs.{needs}
+use borrow.Author.Tests.{not-true, not-false}
+use native.Mathlib.Omega.{arith}
+use Prim.Native.Nat.{ℕ, _+_, _-_, _≤_, _<_}
+use mathlib.Core.Path.{_≡_, sym, _∙_, ap}
+use mathlib.Core.Bool.{true, _&&_}
+use mathlib.Core.List.{List}
+use lib.ListN.{length, take, drop}
+use lib.Dec.{leb}
+use Rattle.option.specs.Option.{tagOf, tagLengthOf}
+use Rattle.reading.specs.Reading.{found, refusal, knownTag, goodLength, categoriesIn, badPlace}
+use Rattle.reading.proofs.Checks.{Lengths, lengths, Past, categories-length, part-is, label-is, stops9, stops10, stops11, stops12, stops13, passes}
+use Rattle.reading.proofs.read_tag.Statement.{statement}
+use Rattle.reading.proofs.read_tag.Tie as tie
+
+abbrev octets-at : tie.Start → List ℕ
+octets-at c = c .args .octets .now
+
+known : (c : tie.Else1) → knownTag (tagOf (octets-at (c .before .before .before .before))) ≡ true
+known c = sym (c .before .known-tag .ensures) ∙ not-false _ (c .if1 .left)
+
+-- the answer on the length, of the octet itself
+sized : (c : tie.After-good-length) →
+    let o = octets-at (c .before .before .before .before .before .before .before) in
+    c .good-length .result ≡ (goodLength (tagOf o) (tagLengthOf o) && leb (tagLengthOf o + 6) (length o))
+sized c = rw (c .before .length-in .ensures .0) at (c .good-length .ensures)
+
+module _ (c : tie.Else3) where
+  abbrev o : List ℕ
+  o = octets-at (c .before .before .before .before .before .before .before .before .before .before)
+
+  abbrev size : ℕ
+  size = c .before .before .before .before .length-in .result
+
+  size-is : size ≡ tagLengthOf o
+  size-is = c .before .before .before .before .length-in .ensures .0
+
+  past : Past o
+  past =
+      record {
+        known = known (c .before .before .before .before .before .before);
+        sized = sym (sized (c .before .before .before)) ∙ not-false _ (c .before .before .if2 .left);
+        aligned = c .if3 .left;
+      }
+
+  -- what the length says
+  len : Lengths (tagOf o) (tagLengthOf o) (length o)
+  len = lengths (tagOf o) (tagLengthOf o) (length o) (past .sized)
+
+  -- the part that is lent
+  part : take (size + 6 - 10) (drop 10 o) ≡ categoriesIn o
+  part = part-is o size size-is
+
+  part-length : length (take (size + 6 - 10) (drop 10 o)) ≡ tagLengthOf o - 4
+  part-length = ap length part ∙ categories-length o len
+
+shared-slice-read-tag : tie.Need-shared-slice-read-tag
+shared-slice-read-tag c = search needs
+
+known-tag-requires : tie.Need-known-tag-requires
+known-tag-requires c κs = search needs
+
+refuse-requires : tie.Need-refuse-requires
+refuse-requires c κs = search needs
+
+returns : tie.Need-returns
+returns c =
+    c .refuse .ensures
+    ∙ sym (stops9 (octets-at (c .before .before .before .before .before)) (sym (c .before .before .known-tag .ensures) ∙ not-true _ (c .before .if1 .taken)))
+
+shared-slice-read-length-in : tie.Need-shared-slice-read-length-in
+shared-slice-read-length-in c = search needs
+
+length-in-requires : tie.Need-length-in-requires
+length-in-requires c κs = search needs
+
+good-length-requires : tie.Need-good-length-requires
+good-length-requires c κs = search needs
+
+refuse-requires-2 : tie.Need-refuse-requires-2
+refuse-requires-2 c κs = search needs
+
+returns-2 : tie.Need-returns-2
+returns-2 c =
+    let d = c .before .before in
+    c .refuse2 .ensures
+    ∙ sym (stops10 (octets-at (d .before .before .before .before .before .before .before)) (known (d .before .before .before)) (sym (sized d) ∙ not-true _ (c .before .if2 .taken)))
+
+shared-slice-read-if3 : tie.Need-shared-slice-read-if3
+shared-slice-read-if3 c = search needs
+
+refuse-requires-3 : tie.Need-refuse-requires-3
+refuse-requires-3 c κs = search needs
+
+returns-3 : tie.Need-returns-3
+returns-3 c =
+    let d = c .before .before .before in
+    c .refuse3 .ensures
+    ∙ sym (stops11 (octets-at (d .before .before .before .before .before .before .before .before)) (known (d .before .before .before .before)) (sym (sized (d .before)) ∙ not-false _ (d .if2 .left)) (c .before .if3 .taken))
+
+add-end : tie.Need-add-end
+add-end c = omega (arith, size-is c, len c .most)
+
+sub-categories : tie.Need-sub-categories
+sub-categories c = omega (arith, size-is c, len c .least)
+
+part-categories-start : tie.Need-part-categories-start
+part-categories-start c = omega (arith, size-is c, len c .least)
+
+part-categories-end : tie.Need-part-categories-end
+part-categories-end c = omega (arith, size-is c, len c .inside)
+
+bad-place-requires : tie.Need-bad-place-requires
+bad-place-requires c κs = omega (arith, part-length (c .before), len (c .before) .most)
+
+add-refuse : tie.Need-add-refuse
+add-refuse c = omega (arith, part-length (c .before .before .before), len (c .before .before .before) .most)
+
+refuse-requires-4 : tie.Need-refuse-requires-4
+refuse-requires-4 c κs = search needs
+
+returns-4 : tie.Need-returns-4
+returns-4 c =
+    let d = c .before .before .before .before in
+    let k = c .before .before .bad-place in
+    c .refuse4 .ensures
+    ∙ sym (stops12 (o d) (past d) (k .result) (k .ensures ∙ ap (badPlace (tagOf (o d))) (part d)) (rw (part d) at (c .before .if4 .taken)))
+
+refuse-requires-5 : tie.Need-refuse-requires-5
+refuse-requires-5 c κs = search needs
+
+-- no number or pair is bad
+none-bad : (c : tie.Else4) → length (categoriesIn (o (c .before .before .before))) ≤ badPlace (tagOf (o (c .before .before .before))) (categoriesIn (o (c .before .before .before)))
+none-bad c =
+    let d = c .before .before .before in
+    omega (arith, c .if4 .left, ap length (part d), c .before .bad-place .ensures ∙ ap (badPlace (tagOf (o d))) (part d))
+
+returns-5 : tie.Need-returns-5
+returns-5 c =
+    let d = c .before .before .before .before .before in
+    c .refuse5 .ensures
+    ∙ ap (λ (n : ℕ). refusal 13 (n + 6)) (size-is d)
+    ∙ sym (stops13 (o d) (past d) (none-bad (c .before .before)) (omega (arith, c .before .if5 .taken, size-is d)))
+
+shared-slice-read-read-categories : tie.Need-shared-slice-read-read-categories
+shared-slice-read-read-categories c = search needs
+
+read-categories-requires : tie.Need-read-categories-requires
+read-categories-requires c κs =
+    let d = c .before .before .before .before .before in
+    (omega (arith, part-length d, len d .most), λ n. omega (arith, part-length d, len d .least, len d .even n))
+
+returns-6 : tie.Need-returns-6
+returns-6 c =
+    let d = c .before .before .before .before .before .before in
+    let s = d .before .before .before .before .before .before .before .before .before .before in
+    ap found (label-is (o d) (s .args .domain) _ _ (s .pre .1) (part d) (c .read-categories .ensures))
+    ∙ sym (passes (o d) (past d) (none-bad (c .before .before .before)) (omega (arith, c .before .before .if5 .left, size-is d)))
+
+pub read-tag-spec : {M : Type 1} → statement M
+read-tag-spec =
+    tie.close
+    (tie.spec
+    shared-slice-read-tag
+    known-tag-requires
+    refuse-requires
+    returns
+    shared-slice-read-length-in
+    length-in-requires
+    good-length-requires
+    refuse-requires-2
+    returns-2
+    shared-slice-read-if3
+    refuse-requires-3
+    returns-3
+    add-end
+    sub-categories
+    part-categories-start
+    part-categories-end
+    bad-place-requires
+    add-refuse
+    refuse-requires-4
+    returns-4
+    refuse-requires-5
+    returns-5
+    shared-slice-read-read-categories
+    read-categories-requires
+    returns-6)
