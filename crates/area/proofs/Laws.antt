@@ -6,7 +6,7 @@ use mathlib.Core.List.{List, [], _∷_}
 use mathlib.Core.Bool.{Bool, true, false, cond}
 use native.Mathlib.Nat.{add-zero, zero-add}
 use native.Mathlib.Omega.{arith}
-use borrow.Author.Tests.{ltb-true, ltb-false, leb-true}
+use borrow.Author.Tests.{ltb-true, ltb-false, leb-true, eqb-true}
 use lib.ListN.{length, getD, take, drop, length-drop, drop-of-length-le}
 use lib.Seq.{take-all}
 use lib.Dec.{ltb, leb, eqb}
@@ -212,3 +212,25 @@ pub label-in : (l : List ℕ) (i : ℕ) (o : LabelAt l i) → (2 ≤ o .size) ×
 label-in l i o =
     let q = size-whole (drop i l) (o .size) (o .whole) in
     omega (arith, length-drop i l)
+
+-- the length of a whole option is its length octet
+pub whole-size : (l : List ℕ) (n : ℕ) → sizeOf l ≡ Whole n → getD l 1 0 ≡ n
+whole-size l n e = go (ltb (length l) 2) (ltb (getD l 1 0) 2) (leb (getD l 1 0) (length l)) e
+  where
+    go : (a b d : Bool) → cond a Bad (cond b Bad (cond d (Whole (getD l 1 0)) Bad)) ≡ Whole n → getD l 1 0 ≡ n
+    go true b d e = let z : _≡_ {A = ℕ} 0 1 = cc in absurd (omega arith)
+    go false true d e = let z : _≡_ {A = ℕ} 0 1 = cc in absurd (omega arith)
+    go false false false e = let z : _≡_ {A = ℕ} 0 1 = cc in absurd (omega arith)
+    go false false true e = cc
+
+-- type 134
+pub cipso-octet : (t : ℕ) → kindOf t ≡ Cipso → t ≡ 134
+cipso-octet t e = go (eqb t 0) (eqb t 1) (eqb t 130) (eqb t 133) (eqb t 134) refl e
+  where
+    go : (a b c d f : Bool) → eqb t 134 ≡ f → cond a End (cond b NoOperation (cond c Basic (cond d Extended (cond f Cipso Other)))) ≡ Cipso → t ≡ 134
+    go true b c d f q e = let z : _≡_ {A = ℕ} 0 1 = cc in absurd (omega arith)
+    go false true c d f q e = let z : _≡_ {A = ℕ} 0 1 = cc in absurd (omega arith)
+    go false false true d f q e = let z : _≡_ {A = ℕ} 0 1 = cc in absurd (omega arith)
+    go false false false true f q e = let z : _≡_ {A = ℕ} 0 1 = cc in absurd (omega arith)
+    go false false false false true q e = eqb-true t 134 q
+    go false false false false false q e = let z : _≡_ {A = ℕ} 0 1 = cc in absurd (omega arith)
