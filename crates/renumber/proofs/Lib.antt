@@ -5,3 +5,4 @@ pub mod Pass
 pub mod Turns
 pub mod Held
 pub mod Answers
+pub mod Theorems

@@ -84,11 +84,11 @@ pub fn carry(
     if !image.whole {
         return refused(16);
     }
-    let n = image.count;
-    if !keys_between(&keys, n, far, lowest, highest) {
+    let count = image.count;
+    if !keys_between(&keys, count, far, lowest, highest) {
         return refused(17);
     }
-    to_answer(&keys, n, table.to, far)
+    to_answer(&keys, count, table.to, far)
 }
 
 fn refused(number: u8) -> Renumbered
