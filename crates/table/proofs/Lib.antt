@@ -1,3 +1,5 @@
 pub mod Rows
 pub mod Levels
 pub mod Sound
+pub mod Numbers
+pub mod Theorems

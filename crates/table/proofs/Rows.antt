@@ -9,13 +9,13 @@ use Prim.Native.Nat.{ℕ, suc, _+_, _-_, _*_, _/_, _%_, _≤_, _<_}
 use native.Mathlib.Omega.{arith}
 use lib.Dec.{leb, ltb}
 use borrow.Author.Tests.{le-leb, lt-leb, leb-true, leb-false, lt-ltb, le-ltb}
-use Rattle.order.specs.Order.{Sorted, insertKey, sortOnto, sortKeys}
+use Rattle.order.specs.Order.{Sorted, all, insertKey, sortOnto, sortKeys}
 use native.Mathlib.Decide.{decLe}
-use Rattle.order.proofs.Laws.{all, insert-all, sort-sorted, sort-all, sort-length}
+use Rattle.order.proofs.Laws.{insert-all, sort-sorted, sort-all, sort-length}
 use Rattle.table.specs.declared.Row.{Row}
 use Rattle.table.specs.declared.Table.{Table}
 use Rattle.label.proofs.Bools.{and-left, and-right}
-use Rattle.table.specs.Table.{used, unusedRows, rowsSound, targetEnd, rising, apart, apartFrom, targetsApart}
+use Rattle.table.specs.Table.{usedRows, unusedRows, rowsSound, targetEnd, rising, apart, apartFrom, targetsApart}
 use Rattle.table.specs.Keys.{chain, targetKey}
 
 or-comm : (a b : Bool) → (a || b) ≡ (b || a)
@@ -192,16 +192,16 @@ keys-next rs keys i d h k e =
     rw (add-one i, take-suc-set keys i (targetKey (getD rs i d)) k, take-suc rs i d h, e) (sym (map-append targetKey (take i rs) (getD rs i d ∷ [])))
 
 -- The sorted keys decide.
-pub sound-chain : (t : Table) (ks s : List ℕ) → length (t .rows) ≡ 64 → t .count ≤ 64 → rising 0 (used t) ≡ true → unusedRows (drop (t .count) (t .rows)) ≡ true
-    → take (t .count) ks ≡ map targetKey (used t) → s ≡ sortKeys (take (t .count) ks) ++ drop (t .count) ks → chain 0 (take (t .count) s) ≡ rowsSound t
+pub sound-chain : (t : Table) (ks s : List ℕ) → length (t .rows) ≡ 64 → t .count ≤ 64 → rising 0 (usedRows t) ≡ true → unusedRows (drop (t .count) (t .rows)) ≡ true
+    → take (t .count) ks ≡ map targetKey (usedRows t) → s ≡ sortKeys (take (t .count) ks) ++ drop (t .count) ks → chain 0 (take (t .count) s) ≡ rowsSound t
 unfolding rowsSound
 sound-chain t ks s sized h rise rest keys e =
-    let u : length (used t) ≡ t .count = length-take-le (t .count) (t .rows) (omega arith) in
-    let m : length (sortKeys (map targetKey (used t))) ≡ t .count =
-    sort-length [] (map targetKey (used t)) ∙ rw (length-map, u) (omega arith) in
-    let q : take (t .count) s ≡ sortKeys (map targetKey (used t)) =
-    rw (e, keys) (take-at (sortKeys (map targetKey (used t))) (drop (t .count) ks) (t .count) m) in
-    rw (q, ← targets-chain (used t) rise) (simp (rise, rest))
+    let u : length (usedRows t) ≡ t .count = length-take-le (t .count) (t .rows) (omega arith) in
+    let m : length (sortKeys (map targetKey (usedRows t))) ≡ t .count =
+    sort-length [] (map targetKey (usedRows t)) ∙ rw (length-map, u) (omega arith) in
+    let q : take (t .count) s ≡ sortKeys (map targetKey (usedRows t)) =
+    rw (e, keys) (take-at (sortKeys (map targetKey (usedRows t))) (drop (t .count) ks) (t .count) m) in
+    rw (q, ← targets-chain (usedRows t) rise) (simp (rise, rest))
 
 -- A lower floor will do.
 pub rise-lower : (f g : ℕ) (rs : List Row) → g ≤ f → rising f rs ≡ true → rising g rs ≡ true

@@ -8,20 +8,20 @@ use lib.ListN.{length, take, drop}
 use borrow.Author.Tests.{leb-true, eqb-true, eqb-false, not-true}
 use Rattle.label.proofs.Bools.{and-left, and-right}
 use Rattle.table.specs.declared.Table.{Table}
-use Rattle.table.specs.Table.{used, rising, targetsApart, unusedRows, rowsSound, levelsRise, unusedPairs, levelsSound, levelNumbers, typed, tableSound}
+use Rattle.table.specs.Table.{usedRows, rising, targetsApart, unusedRows, rowsSound, levelsRise, unusedPairs, levelsSound, levelNumbers, typed, tableSound}
 
 -- Rows.
 pub record Rows (t : Table) : Type 0 where
-  pub rise : rising 0 (used t) ≡ true
+  pub rise : rising 0 (usedRows t) ≡ true
   pub rest : unusedRows (drop (t .count) (t .rows)) ≡ true
-  pub apart : targetsApart (used t) ≡ true
+  pub apart : targetsApart (usedRows t) ≡ true
 
 pub sound-rows : (t : Table) → rowsSound t ≡ true → Rows t
 unfolding rowsSound
 sound-rows t e =
-    let e1 = and-right (rising 0 (used t)) _ e in
+    let e1 = and-right (rising 0 (usedRows t)) _ e in
     record {
-      rise = and-left (rising 0 (used t)) _ e;
+      rise = and-left (rising 0 (usedRows t)) _ e;
       rest = and-left (unusedRows (drop (t .count) (t .rows))) _ e1;
       apart = and-right (unusedRows (drop (t .count) (t .rows))) _ e1;
     }

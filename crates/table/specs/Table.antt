@@ -11,8 +11,8 @@ abbrev pub noRow : Row
 noRow = record { low = 0; high = 0; target = 0 }
 
 -- the rows in use: the first `count` places
-abbrev pub used : Table → List Row
-used t = take (t .count) (t .rows)
+abbrev pub usedRows : Table → List Row
+usedRows t = take (t .count) (t .rows)
 
 -- the highest number that a row gives
 abbrev pub targetEnd : Row → ℕ
@@ -43,7 +43,7 @@ unusedRows [] = true
 unusedRows (r ∷ rs) = eqb (r .low) 0 && (eqb (r .high) 0 && (eqb (r .target) 0 && unusedRows rs))
 
 unfoldable pub rowsSound : Table → Bool
-rowsSound t = rising 0 (used t) && (unusedRows (drop (t .count) (t .rows)) && targetsApart (used t))
+rowsSound t = rising 0 (usedRows t) && (unusedRows (drop (t .count) (t .rows)) && targetsApart (usedRows t))
 
 -- the level pairs, each an array of two numbers: "strictly rising on both sides", the first at `f` and `g` or above
 abbrev pub levelsRise : ℕ → ℕ → List (List ℕ) → Bool

@@ -4,7 +4,7 @@ ghost use mathlib.Core.Bool.{true};
 ghost use mathlib.Core.List.{map};
 ghost use Prim.Native.Nat.{_≤_};
 ghost use lib.ListN.{length, take, drop};
-ghost use Rattle.table.specs.Table.{used, rising, unusedRows, rowsSound, levelsRise, unusedPairs, levelsSound, levelNumbers, tableSound};
+ghost use Rattle.table.specs.Table.{usedRows, rising, unusedRows, rowsSound, levelsRise, unusedPairs, levelsSound, levelNumbers, tableSound};
 ghost use Rattle.table.specs.Numbers.{partnerOf};
 ghost use Rattle.table.specs.Keys.{chain, targetKey};
 use order::sort_keys;
@@ -151,7 +151,7 @@ fn rows_sound(t: Table) -> bool
 // Whether the sources rise and every end keeps to the highest category; the targets are written down.
 fn rows_rise(t: Table, keys: &mut [u32]) -> bool
     requires { ⌜ (t .count ≤ 64) × (t .count ≤ length (now keys)) ⌝ }
-    ensures { λ r. ⌜ (r ≡ rising 0 (used t)) × (r ≡ true → take (t .count) (now (keys .exit)) ≡ map targetKey (used t)) ⌝ }
+    ensures { λ r. ⌜ (r ≡ rising 0 (usedRows t)) × (r ≡ true → take (t .count) (now (keys .exit)) ≡ map targetKey (usedRows t)) ⌝ }
 {
     let n = t.count;
     let mut floor: u32 = 0;

@@ -9,7 +9,7 @@ use mathlib.Core.List.{List, [], _∷_, map}
 use lib.ListN.{take, drop, getD, set, length, length-map, length-set, drop-of-length-le}
 use lib.Seq.{length-take-le, take-all, getD-take}
 use Rattle.label.proofs.Steps.{next, next-used, used-up, length-mapped}
-use Rattle.table.specs.Table.{used, rising, unusedRows, rowsSound, targetEnd, noRow}
+use Rattle.table.specs.Table.{usedRows, rising, unusedRows, rowsSound, targetEnd, noRow}
 use Rattle.table.specs.Keys.{chain, targetKey}
 use Rattle.table.proofs.Rows.{keys-next}
 use Rattle.table.proofs.rows_rise.Statement.{statement}
@@ -19,8 +19,8 @@ abbrev Inv-loop : tie.InvT-loop
 Inv-loop keys₀ t n floor₀ i₀ keys floor i =
     (i ≤ n)
     × (length keys ≡ length keys₀)
-    × (take i keys ≡ map targetKey (take i (used t)))
-    × (rising 0 (used t) ≡ rising floor (drop i (used t)))
+    × (take i keys ≡ map targetKey (take i (usedRows t)))
+    × (rising 0 (usedRows t) ≡ rising floor (drop i (usedRows t)))
 
 abbrev μ-loop : tie.MeasureT-loop
 μ-loop keys₀ t n floor₀ i₀ keys floor i = n - i
@@ -28,14 +28,14 @@ abbrev μ-loop : tie.MeasureT-loop
 sized : (c : tie.Start Inv-loop μ-loop) → length (c .args .t1 .rows) ≡ 64
 sized c = search (length-mapped, needs)
 
-used-sized : (c : tie.Start Inv-loop μ-loop) → length (used (c .args .t1)) ≡ c .args .t1 .count
+used-sized : (c : tie.Start Inv-loop μ-loop) → length (usedRows (c .args .t1)) ≡ c .args .t1 .count
 used-sized c = length-take-le (c .args .t1 .count) (c .args .t1 .rows) (omega (arith, sized c, c .pre .0))
 
 -- the row that the turn reads
 seen : (c : tie.In-loop Inv-loop μ-loop) →
     let l = c .before .before .args .t1 in
     let i = c .before .loop .i in
-    drop i (used l) ≡ getD (l .rows) i noRow ∷ drop (i + 1) (used l)
+    drop i (usedRows l) ≡ getD (l .rows) i noRow ∷ drop (i + 1) (usedRows l)
 seen c =
     next-used noRow (c .before .before .args .t1 .rows) (c .before .before .args .t1 .count) (c .before .loop .i) (c .loop-test .taken)
     (omega (arith, sized (c .before .before), c .before .before .pre .0))
@@ -136,7 +136,7 @@ loop-again c =
       omega arith,
       simp length-set (d .before .loop .inv .1),
       rw (← getD-take (l .count) (l .rows) i noRow (d .loop-test .taken))
-          (keys-next (used l) (d .before .loop .keys) i noRow (omega (arith, used-sized (d .before .before))) (omega (arith, d .before .before .pre .1)) (d .before .loop .inv .2)),
+          (keys-next (usedRows l) (d .before .loop .keys) i noRow (omega (arith, used-sized (d .before .before))) (omega (arith, d .before .before .pre .1)) (d .before .loop .inv .2)),
       d .before .loop .inv .3 ∙ rw (seen d) (simp (le-leb _ _ (e1 .if1 .left), le-leb _ _ (e2 .if2 .left), le-leb _ _ (e3 .if3 .left), le-leb _ _ (e4 .if4 .left))),
     )
 
@@ -148,7 +148,7 @@ returns-5 c =
     let l = c .before .before .args .t1 in
     let e : c .before .loop .i ≡ l .count = omega arith in (
       sym (c .before .loop .inv .3 ∙ rw (used-up (l .rows) (l .count) (c .before .loop .i) (c .loop-test .left))),
-      λ w. rw (e, take-all (l .count) (used l) (omega (arith, used-sized (c .before .before)))) at (c .before .loop .inv .2),
+      λ w. rw (e, take-all (l .count) (usedRows l) (omega (arith, used-sized (c .before .before)))) at (c .before .loop .inv .2),
     )
 
 pub rows-rise-spec : {M : Type 1} → statement M

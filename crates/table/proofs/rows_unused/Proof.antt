@@ -9,7 +9,7 @@ use mathlib.Core.List.{List, [], _∷_, map}
 use lib.ListN.{take, drop, getD, set, length, length-map, length-set, drop-of-length-le}
 use lib.Seq.{length-take-le, take-all, getD-take}
 use Rattle.label.proofs.Steps.{next, next-used, used-up, length-mapped}
-use Rattle.table.specs.Table.{used, rising, unusedRows, rowsSound, targetEnd, noRow}
+use Rattle.table.specs.Table.{usedRows, rising, unusedRows, rowsSound, targetEnd, noRow}
 use Rattle.table.specs.Keys.{chain, targetKey}
 use Rattle.table.proofs.Rows.{keys-next}
 use Rattle.table.proofs.rows_unused.Statement.{statement}

@@ -1,0 +1,8 @@
+pub mod Sets
+pub mod Image
+pub mod Join
+pub mod Pass
+pub mod Turns
+pub mod Held
+pub mod Answers
+pub mod Theorems

@@ -1,0 +1,4 @@
+pub mod Sets
+pub mod Renumber
+pub mod Keys
+pub mod Theorems

@@ -1,0 +1,63 @@
+-- Document 01, "Labels" ("Asked alone"), "Records", and the numbers 16, 17 and 18 of "The order of checks": a label carried to the far domain.
+use mathlib.Core.Bool.{Bool, true, cond, _&&_}
+use mathlib.Core.List.{List}
+use mathlib.Core.Path.{_≡_}
+use Prim.Native.Nat.{ℕ}
+use lib.Dec.{leb, eqb}
+use lib.ListN.{length, take}
+use Rattle.label.specs.declared.Run.{Run}
+use Rattle.label.specs.declared.Label.{Label}
+use Rattle.label.specs.Runs.{subset}
+use Rattle.label.specs.Label.{used, labelOf, zeroLabel, wellFormed}
+use Rattle.table.specs.declared.Table.{Table}
+use Rattle.table.specs.declared.Partner.{Partner}
+use Rattle.table.specs.declared.Partner.the-variants.{Level, Missing}
+use Rattle.table.specs.Table.{usedRows, tableSound}
+use Rattle.table.specs.Numbers.{partnerOf, numbered, inImage}
+use Rattle.renumber.specs.declared.Renumbered.{Renumbered}
+use Rattle.renumber.specs.Sets.{runsOf}
+
+-- a refusal comes with an all-zero label
+abbrev pub refusal : ℕ → Renumbered
+refusal n = record { number = n; label = zeroLabel }
+
+abbrev pub done : Label → Renumbered
+done l = record { number = 0; label = l }
+
+-- the numbers of the label's categories, the whole set: it may have more runs than a label holds
+abbrev pub imageRuns : Label → Table → List Run
+imageRuns l t = runsOf (inImage (usedRows t) (used l))
+
+-- 18 over 120 runs, else the label of the far domain and level
+abbrev pub fitted : ℕ → ℕ → List Run → Renumbered
+fitted d v rs = cond (leb (length rs) 120) (done (labelOf d v rs)) (refusal 18)
+
+-- 16 where the level has no partner or a category has no number, else the answer for the level's partner
+abbrev pub whenNumbered : Partner → Bool → (ℕ → Renumbered) → Renumbered
+whenNumbered Missing all answer = refusal 16
+whenNumbered (Level v) all answer = cond all (answer v) (refusal 16)
+
+-- renumbering asked alone: 2 for an unsound table or an ill-formed label, then 16 (also for a foreign domain), then 18
+unfoldable pub renumberedOf : Label → Table → List (List ℕ) → Renumbered
+renumberedOf l t ls =
+    cond (tableSound t ls && wellFormed l)
+    (cond (eqb (l .domain) (t .from))
+    (whenNumbered (partnerOf (take (t .pairs) ls) (l .level)) (numbered (usedRows t) (used l)) (λ v. fitted (t .to) v (imageRuns l t)))
+    (refusal 16))
+    (refusal 2)
+
+-- the far level and the whole set lie in the range: not below the lowest label and not above the highest
+unfoldable pub setInRange : Label → Label → ℕ → List Run → Bool
+setInRange lowest highest v rs =
+    leb (lowest .level) v && (leb v (highest .level) && (subset (used lowest) rs && subset rs (used highest)))
+
+-- forward's renumbering of a well-formed label by a sound table from its domain, toward a range of the far domain: 16, then 17, then 18.
+-- "An over-large renumbered set is 18 unless 17 applies": the whole set is held against the range
+unfoldable pub carriedOf : Label → Table → List (List ℕ) → Label → Label → Renumbered
+carriedOf l t ls lowest highest =
+    whenNumbered (partnerOf (take (t .pairs) ls) (l .level)) (numbered (usedRows t) (used l))
+    (λ v. cond (setInRange lowest highest v (imageRuns l t)) (fitted (t .to) v (imageRuns l t)) (refusal 17))
+
+-- what carrying answers of a label, a table and a range that are known to be sound
+pub record Carries (l : Label) (t : Table) (ls : List (List ℕ)) (lowest highest : Label) (r : Renumbered) : Type 0 where
+  pub carries : wellFormed l ≡ true → tableSound t ls ≡ true → wellFormed lowest ≡ true → wellFormed highest ≡ true → r ≡ carriedOf l t ls lowest highest
