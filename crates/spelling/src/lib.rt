@@ -63,17 +63,17 @@ pub fn spell_label(label: Label, out: &mut [u8]) -> Spelling
             count: 0,
         };
     }
-    let n = write_option(label, &mut out[..]);
-    if n == 0 {
+    let length = write_option(label, &mut out[..]);
+    if length == 0 {
         return Spelling {
             number: 18,
             count: 0,
         };
     }
-    zero_from(&mut out[..], n);
+    zero_from(&mut out[..], length);
     Spelling {
         number: 0,
-        count: n,
+        count: length,
     }
 }
 
