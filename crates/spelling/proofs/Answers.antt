@@ -37,6 +37,33 @@ spelled-bounds d v rs s e =
     let n : 10 + length (bodyFor (tagFor rs) rs) ≡ length s = spelled-length d v (tagFor rs) rs refl (p .1) ∙ ap lengthOf e in
     (omega arith, omega arith)
 
+-- a label that has a spelling, with it
+pub record Spelled (l : Label) : Type 0 where
+  pub option : List ℕ
+  pub spelled : spelledOf l ≡ some option
+  pub long : 10 ≤ length option
+  pub short : length option ≤ 40
+
+pub spelled-as : (l : Label) (s : List ℕ) → spelledOf l ≡ some s → Spelled l
+spelled-as l s e =
+    let b = spelled-bounds (l .domain) (l .level) (used l) s e in
+    record { option = s; spelled = e; long = b .0; short = b .1 }
+
+-- the length is 0 exactly where there is no spelling
+pub length-none : (l : Label) → lengthOf (spelledOf l) ≡ 0 → spelledOf l ≡ none
+length-none l z = go (spelledOf l) refl
+  where
+    go : (o : Option (List ℕ)) → spelledOf l ≡ o → spelledOf l ≡ none
+    go none e = e
+    go (some s) e = let q : lengthOf (spelledOf l) ≡ length s = ap lengthOf e in absurd (omega (arith, spelled-bounds (l .domain) (l .level) (used l) s e .0))
+
+pub length-some : (l : Label) → (lengthOf (spelledOf l) ≡ 0 → ⊥) → Spelled l
+length-some l n = go (spelledOf l) refl
+  where
+    go : (o : Option (List ℕ)) → spelledOf l ≡ o → Spelled l
+    go none e = absurd (n (ap lengthOf e))
+    go (some s) e = spelled-as l s e
+
 pub some-none : (o : Option (List ℕ)) (s : List ℕ) → o ≡ some s → o ≡ none → ⊥
 some-none o s p q = let z : _≡_ {A = ℕ} 0 1 = cc in omega arith
 
@@ -85,36 +112,22 @@ module _ (l : Label) (out : List ℕ) where
 
 module _ (l : Label) (out out′ : List ℕ) (r : ℕ) (w : Writes l out out′ r) (f : wellFormed l ≡ true) (long : 40 ≤ length out) where
   pub nothing-written : r ≡ 0 → spelledOf l ≡ none
-  nothing-written z = go (spelledOf l) refl
+  nothing-written z = length-none l (go (spelledOf l) refl)
     where
-      go : (o : Option (List ℕ)) → spelledOf l ≡ o → spelledOf l ≡ none
-      go none e = e
-      go (some s) e = absurd (omega (arith, w .spelled f long s e .0, spelled-bounds (l .domain) (l .level) (used l) s e .0))
+      go : (o : Option (List ℕ)) → spelledOf l ≡ o → lengthOf (spelledOf l) ≡ 0
+      go none e = ap lengthOf e
+      go (some s) e = ap lengthOf e ∙ sym (w .spelled f long s e .0) ∙ z
 
-  -- the option that is written
-  pub record Wrote : Type 0 where
-    pub option : List ℕ
-    pub spelled : spelledOf l ≡ some option
-    pub count : r ≡ length option
-    pub short : length option ≤ 40
-    pub written : out′ ≡ option ++ drop (length option) out
-
-  pub something-written : (r ≡ 0 → ⊥) → Wrote
-  something-written n = go (spelledOf l) refl
-    where
-      go : (o : Option (List ℕ)) → spelledOf l ≡ o → Wrote
-      go none e = absurd (n (w .unspelled f e .0))
-      go (some s) e =
-          let p = w .spelled f long s e in
-          record { option = s; spelled = e; count = p .0; short = spelled-bounds (l .domain) (l .level) (used l) s e .1; written = p .1 }
-
-  zeros-written : (z : List ℕ) → z ≡ zeroed r out′ → (p : Wrote) → z ≡ padded (p .option) ++ drop 40 out
-  zeros-written z e p = e ∙ (λ i. zeroed (p .count i) (p .written i)) ∙ zero-after (p .option) out (p .short)
+  pub something-written : (r ≡ 0 → ⊥) → Spelled l
+  something-written n = length-some l (λ z. n (w .unspelled f (length-none l z) .0))
 
   -- done: the option's length, the option and zeros
-  pub completed : (z : List ℕ) → z ≡ zeroed r out′ → (p : Wrote)
+  pub completed : (z : List ℕ) → z ≡ zeroed r out′ → (p : Spelled l)
       → (_≡_ {A = Spelling} (record { number = 0; count = r }) (spellingAnswer l (length out))) × (z ≡ spellingOut l out)
   completed z e p =
       let n : spellingNumber l (length out) ≡ 0 = number-done l (length out) long f (p .option) (p .spelled) in
-      let a : _≡_ {A = Spelling} (record { number = 0; count = r }) (record { number = 0; count = length (p .option) }) = λ i. record { number = 0; count = p .count i } in
-      (a ∙ sym (answer-done l (length out) (p .option) n (p .spelled)), zeros-written z e p ∙ sym (out-done l out (p .option) n (p .spelled)))
+      let q = w .spelled f long (p .option) (p .spelled) in
+      let a : _≡_ {A = Spelling} (record { number = 0; count = r }) (record { number = 0; count = length (p .option) }) = λ i. record { number = 0; count = q .0 i } in (
+        a ∙ sym (answer-done l (length out) (p .option) n (p .spelled)),
+        e ∙ (λ i. zeroed (q .0 i) (q .1 i)) ∙ zero-after (p .option) out (p .short) ∙ sym (out-done l out (p .option) n (p .spelled)),
+      )

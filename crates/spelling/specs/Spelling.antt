@@ -23,7 +23,7 @@ abbrev pub lacking : Option (List ℕ) → Bool
 lacking none = true
 lacking (some s) = false
 
--- 1 for an output under 40 octets, then 2 for an ill-formed label, then 18 where no valid option means it; 0 is done
+-- 1 for an output under 40 octets, then 2 for an ill-formed label, then 18 where it has no spelling; 0 is done
 unfoldable pub spellingNumber : Label → ℕ → ℕ
 spellingNumber l n = cond (ltb n 40) 1 (cond (not (wellFormed l)) 2 (cond (lacking (spelledOf l)) 18 0))
 

@@ -7,12 +7,11 @@ ghost use lib.Dec.{leb, eqb};
 ghost use lib.ListN.{length, drop};
 ghost use Rattle.label.specs.Runs.{run, inRun, covers, spaced, countOf};
 ghost use Rattle.label.specs.Label.{used};
-ghost use Rattle.option.specs.Spelling.{bitsOf, octetsOf, octetsOut, numbersOf, size5, tagFor, bodyFor};
+ghost use Rattle.option.specs.Spelling.{bitsOf, octetsOf, octetsOut, numbersOf, tagFor, bodyFor};
 ghost use Rattle.option.specs.Index.{numbersOut, pairNumber};
 ghost use Rattle.spelling.specs.Spelling.{spellingAnswer, spellingOut, Measures, Writes};
 ghost use Rattle.spelling.specs.Parts.{capped, leastOf, choiceOf, headOf, zeroed};
 use label::Label;
-use label::Run;
 use option::ALIGNMENT_AT;
 use option::CATEGORIES_AT;
 use option::DOMAIN_AT;
@@ -63,17 +62,17 @@ pub fn spell_label(label: Label, out: &mut [u8]) -> Spelling
             count: 0,
         };
     }
-    let n = write_option(label, &mut out[..]);
-    if n == 0 {
+    let length = write_option(label, &mut out[..]);
+    if length == 0 {
         return Spelling {
             number: 18,
             count: 0,
         };
     }
-    zero_from(&mut out[..], n);
+    zero_from(&mut out[..], length);
     Spelling {
         number: 0,
-        count: n,
+        count: length,
     }
 }
 

@@ -54,7 +54,7 @@ zero-from-requires c κs =
     let a = d .before .before .before .before .before .before .args in
     let w = d .write-option .ensures in
     let p = something-written (a .label) (a .out .now) _ _ w (formed-is d) (long d) (c .before .if3 .left) in
-    (omega (arith, p .count, p .short), omega (arith, w .sized, long d))
+    (omega (arith, w .spelled (formed-is d) (long d) (p .option) (p .spelled) .0, p .short), omega (arith, w .sized, long d))
 
 same-length-2 : tie.Need-same-length-2
 same-length-2 c = search needs
