@@ -56,7 +56,7 @@ count-most t b h = go (eqb t 2)
     go true = omega arith
     go false = omega arith
 
-first-most : (f : ℕ → Bool) (n : ℕ) → firstTrue f n ≤ n
+pub first-most : (f : ℕ → Bool) (n : ℕ) → firstTrue f n ≤ n
 first-most f zero = zero-le
 first-most f (suc n) = go (f zero) (first-most (λ k. f (suc k)) n)
   where
