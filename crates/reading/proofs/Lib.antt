@@ -1,4 +1,5 @@
 pub mod Building
+pub mod Octets
 pub mod Loops
 pub mod Checks
 pub mod Valid
