@@ -8,7 +8,7 @@ use lib.ListN.{length}
 use lib.Dec.{leb, eqb}
 use native.Mathlib.Omega.{arith}
 use native.Mathlib.Decide.{decLe}
-use borrow.Author.Tests.{le-leb, lt-leb, eqb-true, eqb-false}
+use borrow.Author.Tests.{le-leb, lt-leb, eqb-true, eqb-false, eq-eqb}
 use Rattle.label.specs.declared.Run.{Run}
 use Rattle.label.specs.Runs.{run, inRun, covers, pushRun, countOf, topOf}
 use Rattle.label.proofs.Canon.{Canon, Below}
@@ -78,3 +78,28 @@ push-top l h (r ∷ s ∷ []) = go (eqb (s .high + 1) l)
     go true = refl
     go false = refl
 push-top l h (r ∷ s ∷ t ∷ rs) = push-top l h (s ∷ t ∷ rs)
+
+-- there is a last run after the piece
+pub push-some : (l h : ℕ) (rs : List Run) → 0 < length (pushRun rs l h)
+push-some l h [] = omega arith
+push-some l h (r ∷ []) = go (eqb (r .high + 1) l)
+  where
+    go : (t : Bool) → 0 < length (cond t (run (r .low) h ∷ []) (r ∷ run l h ∷ []))
+    go true = omega arith
+    go false = omega arith
+push-some l h (r ∷ s ∷ rs) = omega arith
+
+push-under : (l h : ℕ) (r : Run) (xs : List Run) → 0 < length xs → pushRun (r ∷ xs) l h ≡ r ∷ pushRun xs l h
+push-under l h r [] n = absurd (omega arith)
+push-under l h r (s ∷ xs) n = refl
+
+-- a piece and the one that goes on from it are one piece
+pub push-more : (l h k : ℕ) (rs : List Run) → pushRun (pushRun rs l h) (h + 1) k ≡ pushRun rs l k
+push-more l h k [] = rw (eq-eqb (h + 1) (h + 1) refl)
+push-more l h k (r ∷ []) = go (eqb (r .high + 1) l)
+  where
+    go : (t : Bool) → pushRun (cond t (run (r .low) h ∷ []) (r ∷ run l h ∷ [])) (h + 1) k ≡ cond t (run (r .low) k ∷ []) (r ∷ run l k ∷ [])
+    go true = rw (eq-eqb (h + 1) (h + 1) refl)
+    go false = rw (eq-eqb (h + 1) (h + 1) refl)
+push-more l h k (r ∷ s ∷ rs) =
+    push-under (h + 1) k r (pushRun (s ∷ rs) l h) (push-some l h (s ∷ rs)) ∙ ap (λ (z : List Run). r ∷ z) (push-more l h k (s ∷ rs))

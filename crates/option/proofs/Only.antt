@@ -114,7 +114,7 @@ octet-same x y h l same =
     let s0 : x / 1 ≡ y / 1 = same-half (x / 1) (y / 1) (half2 x ∙ s1 ∙ sym (half2 y)) (bit-same (x / 1) (y / 1) (same 7 (omega arith))) in
     sym (one-whole x) ∙ s0 ∙ one-whole y
 
-octet-at : (b : List ℕ) (i : ℕ) → Octets b → getD b i 0 < 256
+pub octet-at : (b : List ℕ) (i : ℕ) → Octets b → getD b i 0 < 256
 octet-at [] i o = omega arith
 octet-at (x ∷ b) zero o = o .0
 octet-at (x ∷ b) (suc i) o = octet-at b i (o .1)
@@ -246,7 +246,7 @@ module _ (rs : List Run) (k : Canon 0 rs) where
       let ns : numbersIn b ≡ numbersIn b′ = same-pairs (numbersIn b) (numbersIn b′) (omega (arith, numbers-length b, numbers-length b′, ap (λ (x : ℕ). x / 2) l)) ps in
       sym (out-back b o e) ∙ ap octetsOut ns ∙ out-back b′ o′ (good5-parts b′ g′ .0)
 
-octets-drop : (n : ℕ) (b : List ℕ) → Octets b → Octets (drop n b)
+pub octets-drop : (n : ℕ) (b : List ℕ) → Octets b → Octets (drop n b)
 octets-drop zero b o = o
 octets-drop (suc n) [] o = tt
 octets-drop (suc n) (x ∷ b) o = octets-drop n b (o .1)

@@ -14,6 +14,7 @@ use Rattle.label.specs.Runs.{run, pushRun, topOf}
 use Rattle.label.specs.Label.{noRun, labelOf}
 use Rattle.label.proofs.Bools.{and-left, and-right, not-yes}
 use Rattle.label.proofs.Labels.{with-run-of}
+use Rattle.label.proofs.Push.{push-some}
 use Rattle.reading.specs.declared.Last.{Last}
 use Rattle.reading.specs.Building.{lastLow, lastOf, afterPiece, unfinished}
 
@@ -84,13 +85,6 @@ piece-stored rs l h = go (pushRun rs l h) (pushed rs l h)
         let at : length (rs ++ run l h ∷ []) - 1 ≡ length rs = omega arith in
         rw (at, low-snoc rs (run l h)) (with-run-of rs (run l h) (omega arith))
 
-pub push-some : (rs : List Run) (l h : ℕ) → 0 < length (pushRun rs l h)
-push-some rs l h = go (pushRun rs l h) (pushed rs l h)
-  where
-    go : (ps : List Run) → Pushed rs l h ps → 0 < length ps
-    go ps (joins xs r e t) = omega (arith, length-append xs (run (r .low) h ∷ []))
-    go ps (adds n) = omega (arith, length-append rs (run l h ∷ []))
-
 -- A label under construction, and what is remembered of its last run.
 pub record Stands (d v : ℕ) (rs : List Run) (label : Label) (last : Last) : Type 0 where
   pub label-is : label ≡ unfinished d v rs
@@ -111,7 +105,7 @@ module _ {d v : ℕ} {rs : List Run} {label : Label} {last : Last} (s : Stands d
   piece-count = ap (λ (x : Last). x .count) piece-is
 
   pub piece-some : 0 < after .count
-  piece-some = omega (arith, piece-count, push-some rs l h)
+  piece-some = omega (arith, piece-count, push-some l h rs)
 
   pub stands-push : length (pushRun rs l h) ≤ 120
       → Stands d v (pushRun rs l h) (record { domain = label .domain; level = label .level; count = label .count; runs = set (label .runs) (after .count - 1) (run (after .low) h) }) after

@@ -3,14 +3,16 @@ use Prim.Native.Nat.{ℕ, zero, suc, _+_, _*_, _/_, _%_, _≤_, _<_, zero-le}
 use mathlib.Core.Path.{_≡_, refl, ap, sym, _∙_}
 use mathlib.Core.List.{List, []}
 use mathlib.Core.Bool.{Bool, true, false, cond}
+use mathlib.Core.Logic.{_⊎_, inl, inr}
 use lib.ListN.{length}
 use lib.Dec.{eqb}
 use native.Mathlib.Omega.{arith}
 use native.Mathlib.Numerals.{add-one}
 use Rattle.label.specs.declared.Run.{Run}
 use Rattle.label.specs.Runs.{pushRun, joined}
+use Rattle.label.proofs.Bools.{less-or}
 use Rattle.label.proofs.Canon.{canon-length}
-use Rattle.label.proofs.Push.{push-length}
+use Rattle.label.proofs.Push.{push-length, push-more}
 use borrow.Author.Tests.{eq-eqb, ne-eqb}
 use Rattle.option.specs.Bitmap.{bitAt}
 use Rattle.option.specs.Option.{numbersIn, singles, pairsIn}
@@ -39,14 +41,29 @@ set-most f n h =
     omega (arith, ap length (set-joined f n), canon-length n 0 (joined (bitPieces f n)) (g .0) (g .1) zero-le)
 
 module _ (f : ℕ → Bool) (c : ℕ) where
-  pub bit-in : f c ≡ true → pushRun (setRuns f c) c c ≡ setRuns f (c + 1)
-  bit-in e = rw (add-one c, e)
+  -- bits that are all 0 add nothing
+  pub clear-bits : (e : ℕ) → c ≤ e → ((k : ℕ) → c ≤ k → k < e → f k ≡ false) → setRuns f e ≡ setRuns f c
+  clear-bits zero h z = let q : zero ≡ c = omega arith in ap (setRuns f) q
+  clear-bits (suc e) h z = go (less-or e c) (λ w. clear-bits e w (λ k p q. z k p (omega arith)))
+    where
+      go : (e < c) ⊎ (c ≤ e) → (c ≤ e → setRuns f e ≡ setRuns f c) → setRuns f (suc e) ≡ setRuns f c
+      go (inl w) ih = let q : suc e ≡ c = omega arith in ap (setRuns f) q
+      go (inr w) ih = rw (z e w (omega arith)) (ih w)
 
-  pub bit-room : f c ≡ true → c < 240 → length (pushRun (setRuns f c) c c) ≤ 120
-  bit-room e h = rw (bit-in e) (set-most f (c + 1) (omega arith))
-
-  pub bit-out : f c ≡ false → setRuns f c ≡ setRuns f (c + 1)
-  bit-out e = rw (add-one c, e)
+  -- bits that are all 1 are one piece
+  pub set-bits : (e : ℕ) → c ≤ e → ((k : ℕ) → c ≤ k → k ≤ e → f k ≡ true) → pushRun (setRuns f c) c e ≡ setRuns f (suc e)
+  set-bits zero h z =
+      let q : c ≡ zero = omega arith in
+      rw (q, z zero h (omega arith))
+  set-bits (suc e) h z = go (less-or e c) (λ w. set-bits e w (λ k p q. z k p (omega arith)))
+    where
+      go : (e < c) ⊎ (c ≤ e) → (c ≤ e → pushRun (setRuns f c) c e ≡ setRuns f (suc e)) → pushRun (setRuns f c) c (suc e) ≡ setRuns f (suc (suc e))
+      go (inl w) ih =
+          let q : c ≡ suc e = omega arith in
+          rw (z (suc e) h (omega arith), q)
+      go (inr w) ih =
+          rw (z (suc e) h (omega arith), ← ih w)
+          (sym (ap (λ (n : ℕ). pushRun (pushRun (setRuns f c) c e) n (suc e)) (sym (add-one e)) ∙ push-more c e (suc e) (setRuns f c)))
 
 -- at most 15 numbers or pairs
 pub count-most : (t : ℕ) (b : List ℕ) → length b ≤ 30 → countIn t b ≤ 15
@@ -56,7 +73,7 @@ count-most t b h = go (eqb t 2)
     go true = omega arith
     go false = omega arith
 
-first-most : (f : ℕ → Bool) (n : ℕ) → firstTrue f n ≤ n
+pub first-most : (f : ℕ → Bool) (n : ℕ) → firstTrue f n ≤ n
 first-most f zero = zero-le
 first-most f (suc n) = go (f zero) (first-most (λ k. f (suc k)) n)
   where

@@ -1,7 +1,7 @@
 // Reading one CIPSO option (document 01, "Option and tags", "Asked alone" and rows 3 and 7 to 13 of the table): the label that it means,
 // or the first refusal that applies with its place in the option.
 ghost use mathlib.Core.Path.{_≡_};
-ghost use Prim.Native.Nat.{_+_, _*_, _/_, _%_, _≤_, _<_};
+ghost use Prim.Native.Nat.{_+_, _-_, _*_, _/_, _%_, _≤_, _<_};
 ghost use mathlib.Core.Bool.{cond, _&&_};
 ghost use lib.Dec.{leb, eqb};
 ghost use lib.ListN.{length, getD};
@@ -11,7 +11,7 @@ ghost use Rattle.option.specs.Bitmap.{bitAt};
 ghost use Rattle.option.specs.Option.{domainOf};
 ghost use Rattle.option.specs.Reading.{pieces};
 ghost use Rattle.option.specs.Index.{setRuns, rangeRuns, firstTrue, numberAt, badNumber, badPair};
-ghost use Rattle.reading.specs.Building.{afterPiece, lowIn, highIn};
+ghost use Rattle.reading.specs.Building.{afterPiece, FirstOne, NextBit, lowIn, highIn};
 ghost use Rattle.reading.specs.Reading.{refusal, firstOf, knownTag, goodLength, countIn, badIn, badPlace, tagChecks, labelIn, readingOf, readingFor};
 use label::Label;
 use label::Run;
@@ -67,17 +67,44 @@ fn add_piece(last: Last, low: u16, high: u16) -> Last
     }
 }
 
-// Bit c, counted from the top bit of the first octet.
-fn bit_at(octets: &[u8], c: usize) -> bool
-    requires { ⌜ c < 8 * length (now octets) ⌝ }
-    ensures { λ r. ⌜ r ≡ bitAt (now (octets .entry)) c ⌝ }
+// The first place from s on, counted from the octet's top bit, whose bit is 1; 8 where there is none.
+fn first_one(octet: u8, s: usize) -> usize
+    requires { ⌜ s < 8 ⌝ }
+    ensures { λ r. ⌜ FirstOne octet s r ⌝ }
 {
-    let i = c / 8;
-    let k = 7 - c % 8;
-    (octets[i] >> k) % 2 == 1
+    let left = (octet as u32) % (1 << (8 - s));
+    (u32::leading_zeros(left) - 24) as usize
 }
 
-// The label of a bitmap's categories.
+// The octet, or the one with every bit turned.
+fn turn_octet(octet: u8, wanted: bool) -> u8
+    ensures { λ r. ⌜ r ≡ cond wanted octet (255 - octet) ⌝ }
+{
+    if wanted {
+        return octet;
+    }
+    255 - octet
+}
+
+// The first category from the given one on whose bit is as wanted, or the number of bits where there is none: octet by octet.
+fn next_bit(octets: &[u8], from: usize, wanted: bool) -> usize
+    requires { ⌜ (length (now octets) ≤ 30) × (from ≤ 8 * length (now octets)) ⌝ }
+    ensures { λ r. ⌜ NextBit (now (octets .entry)) wanted from r ⌝ }
+{
+    let n = 8 * octets.len();
+    let mut c = from;
+    while c < n {
+        let i = c / 8;
+        let place = first_one(turn_octet(octets[i], wanted), c % 8);
+        if place < 8 {
+            return 8 * i + place;
+        }
+        c = 8 * i + 8;
+    }
+    c
+}
+
+// The label of a bitmap's categories: from each bit that is 1 to the next that is 0.
 fn read_bitmap(octets: &[u8], domain: u32, level: u8) -> Label
     requires { ⌜ length (now octets) ≤ 30 ⌝ }
     ensures { λ r. ⌜ r ≡ labelOf domain level (setRuns (bitAt (now (octets .entry))) (8 * length (now (octets .entry)))) ⌝ }
@@ -94,19 +121,17 @@ fn read_bitmap(octets: &[u8], domain: u32, level: u8) -> Label
         low: 0,
         next: 0,
     };
-    let mut c: usize = 0;
+    let mut c = next_bit(octets, 0, true);
     while c < n {
-        if bit_at(octets, c) {
-            last = add_piece(last, c as u16, c as u16);
-            let at = last.count - 1;
-            label.runs[at] = Run {
-                low: last.low,
-                high: c as u16,
-            };
-            c += 1;
-        } else {
-            c += 1;
-        }
+        let end = next_bit(octets, c, false);
+        let high = (end - 1) as u16;
+        last = add_piece(last, c as u16, high);
+        let at = last.count - 1;
+        label.runs[at] = Run {
+            low: last.low,
+            high: high,
+        };
+        c = next_bit(octets, end, true);
     }
     label.count = last.count;
     label
