@@ -1,0 +1,4 @@
+pub mod First
+pub mod Pointer
+pub mod Arrival
+pub mod Deliveries

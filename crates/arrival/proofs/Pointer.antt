@@ -1,0 +1,51 @@
+-- Where reading an option points: at most ten octets past its end, so a pointer into an area fits an octet.
+use mathlib.Core.Path.{_≡_, refl}
+use mathlib.Core.Bool.{Bool, true, false, cond, not}
+use mathlib.Core.List.{List, [], _∷_}
+use Prim.Native.Nat.{ℕ, _+_, _-_, _≤_, _<_}
+use native.Mathlib.Omega.{arith}
+use lib.Dec.{ltb, eqb}
+use lib.ListN.{length, take, drop, length-take, length-drop}
+use borrow.Author.Tests.{ltb-true}
+use Rattle.label.specs.declared.Label.{Label}
+use Rattle.option.specs.Option.{domainOf, tagOf, tagLengthOf}
+use Rattle.reading.specs.declared.Reading.{Reading}
+use Rattle.reading.specs.Reading.{Check, check, found, refusal, firstOf, categoriesIn, badPlace, tagChecks, labelIn, readingBy, readingFor}
+
+abbrev PointWithin : ℕ → List Check → Type 0
+PointWithin b [] = Unit {0}
+PointWithin b (c ∷ cs) = (c .applies ≡ true → c .pointer ≤ b) × PointWithin b cs
+
+first-pointer : (b : ℕ) (cs : List Check) (l : Label) → PointWithin b cs → firstOf cs l .pointer ≤ b
+first-pointer b [] l w = omega arith
+first-pointer b (c ∷ cs) l w = go (c .applies) refl (first-pointer b cs l (w .1))
+  where
+    go : (t : Bool) → c .applies ≡ t → firstOf cs l .pointer ≤ b → (cond t (refusal (c .number) (c .pointer)) (firstOf cs l)) .pointer ≤ b
+    go true e h = w .0 e
+    go false e h = h
+
+few : (o : List ℕ) → length (categoriesIn o) ≤ length o
+few o = simp (length-take, length-drop) (omega arith)
+
+pub reading-pointer : (d : ℕ) (o : List ℕ) → readingFor d o .pointer ≤ length o + 10
+unfolding readingFor readingBy tagChecks
+reading-pointer d o =
+    first-pointer (length o + 10) (check (ltb (length o) 10) 7 1 ∷ check (not (eqb (domainOf o) d)) 8 2 ∷ tagChecks o) (labelIn o) (
+      λ e. omega arith,
+      (
+        λ e. omega arith,
+        (
+          λ e. omega arith,
+          (
+            λ e. omega arith,
+            (
+              λ e. omega arith,
+              (
+                λ e. (let h : badPlace (tagOf o) (categoriesIn o) < length (categoriesIn o) = ltb-true _ _ e in omega (arith, few o)),
+                (λ e. (let h : tagLengthOf o + 6 < length o = ltb-true _ _ e in omega arith), tt),
+              ),
+            ),
+          ),
+        ),
+      ),
+    )

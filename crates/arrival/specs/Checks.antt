@@ -1,0 +1,123 @@
+-- Document 01, "The order of checks, and each number": every check, what it asks and what it reports.
+use mathlib.Core.Path.{_≡_}
+use mathlib.Core.Bool.{Bool, true, false, not, _&&_, _||_}
+use mathlib.Core.List.{List, [], _∷_}
+use mathlib.Core.Option.{Option, none, some}
+use Prim.Native.Nat.{ℕ, _+_, _%_}
+use lib.Dec.{ltb, eqb}
+use lib.ListN.{length, getD, take, drop}
+use Rattle.label.specs.declared.Label.{Label}
+use Rattle.label.specs.Label.{inRange}
+use Rattle.reading.specs.Reading.{readingFor}
+use Rattle.area.specs.declared.Place.{Place}
+use Rattle.area.specs.declared.Place.the-variants.{Nowhere, At}
+use Rattle.area.specs.declared.Walk.{Walk}
+use Rattle.area.specs.declared.Walk.the-variants.{Sound, Refused}
+use Rattle.area.specs.Area.{walkOf}
+use Rattle.port.specs.declared.Port.{Port}
+use Rattle.port.specs.declared.Host.{Host}
+use Rattle.port.specs.Port.{portSound, hostSound}
+
+-- a refusal: its number, and its ICMP type, code and pointer
+pub record Refusal : Type 0 where
+  pub number : ℕ
+  pub kind : ℕ
+  pub code : ℕ
+  pub pointer : ℕ
+
+-- "silent" is type, code and pointer all 0
+abbrev pub silent : ℕ → Refusal
+silent n = record { number = n; kind = 0; code = 0; pointer = 0 }
+
+-- 12/0 at an octet of the area; pointers count from the header's start
+abbrev pub faulty : ℕ → ℕ → Refusal
+faulty n at = record { number = n; kind = 12; code = 0; pointer = 20 + at }
+
+-- 3 with the gateway's or the host's code
+abbrev pub barred : ℕ → ℕ → Refusal
+barred n code = record { number = n; kind = 3; code = code; pointer = 0 }
+
+-- what a check says: its refusal where it applies
+abbrev pub when : Bool → Refusal → Option Refusal
+when true r = some r
+when false r = none
+
+-- the first check that applies decides
+abbrev pub firstOf : List (Option Refusal) → Option Refusal
+firstOf [] = none
+firstOf (some r ∷ cs) = some r
+firstOf (none ∷ cs) = firstOf cs
+
+-- no check of the list applies
+abbrev pub NoneApplies : List (Option Refusal) → Type 0
+NoneApplies [] = Unit {0}
+NoneApplies (c ∷ cs) = (c ≡ none) × NoneApplies cs
+
+-- 1: the area is over 40 octets or not a multiple of 4; on forward, the output is under 40 octets
+abbrev pub badArea : List ℕ → Bool
+badArea area = ltb 40 (length area) || not (eqb (length area % 4) 0)
+
+-- 3, 4 and 5, from one walk
+abbrev pub walkRefusal : Walk → Option Refusal
+walkRefusal (Sound q) = none
+walkRefusal (Refused n at) = some (faulty n at)
+
+unfoldable pub walkCheck : List ℕ → Option Refusal
+walkCheck area = walkRefusal (walkOf area)
+
+-- the area's option 134 is the one its walk meets
+abbrev pub placeIn : Walk → Place
+placeIn (Sound q) = q
+placeIn (Refused n at) = Nowhere
+
+-- its octets: as many as its length octet says
+abbrev pub optionAt : ℕ → List ℕ → List ℕ
+optionAt p area = take (getD area (p + 1) 0) (drop p area)
+
+-- 6: a label is required and none is there
+abbrev pub requiredBy : Place → Port → Option Refusal
+requiredBy Nowhere port = when (port .required) (record { number = 6; kind = 12; code = 1; pointer = 134 })
+requiredBy (At p) port = none
+
+unfoldable pub requiredCheck : Port → List ℕ → Option Refusal
+requiredCheck port area = requiredBy (placeIn (walkOf area)) port
+
+-- 7 to 13: what is wrong with the option, read for the port's domain
+abbrev pub optionBy : Place → Port → List ℕ → Option Refusal
+optionBy Nowhere port area = none
+optionBy (At p) port area =
+    when (not (eqb (readingFor (port .domain) (optionAt p area) .number) 0))
+    (faulty (readingFor (port .domain) (optionAt p area) .number) (p + readingFor (port .domain) (optionAt p area) .pointer))
+
+unfoldable pub optionCheck : Port → List ℕ → Option Refusal
+optionCheck port area = optionBy (placeIn (walkOf area)) port area
+
+-- the datagram's label: its own, or the port's assigned one where it has none
+abbrev pub labelBy : Place → Port → List ℕ → Label
+labelBy Nowhere port area = port .assigned
+labelBy (At p) port area = readingFor (port .domain) (optionAt p area) .label
+
+unfoldable pub arrivingLabel : Port → List ℕ → Label
+arrivingLabel port area = labelBy (placeIn (walkOf area)) port area
+
+-- 14: outside the arriving port's range
+unfoldable pub rangeCheck : Port → List ℕ → ℕ → Option Refusal
+rangeCheck port area code = when (not (inRange (port .lowest) (port .highest) (arrivingLabel port area))) (barred 14 code)
+
+-- Deliver: one port and a host.
+pub record Delivery : Type 0 where
+  pub port : Port
+  pub host : Host
+  pub icmp : Bool
+  pub area : List ℕ
+
+unfoldable pub deliverySizes : Delivery → Option Refusal
+deliverySizes d = when (badArea (d .area)) (silent 1)
+
+-- 2: a record that is read is unsound
+unfoldable pub deliveryRecords : Delivery → Option Refusal
+deliveryRecords d = when (not (portSound (d .port) && hostSound (d .host) (d .port .domain))) (silent 2)
+
+-- 15: outside the host's range
+unfoldable pub hostCheck : Delivery → Option Refusal
+hostCheck d = when (not (inRange (d .host .lowest) (d .host .highest) (arrivingLabel (d .port) (d .area)))) (barred 15 10)

@@ -1,0 +1,51 @@
+-- Document 01, "The order of checks": what is decided, and the decision of a delivery as the table reads.
+use mathlib.Core.Bool.{Bool, true, false, cond}
+use mathlib.Core.List.{List, [], _∷_}
+use mathlib.Core.Option.{Option, none, some}
+use Prim.Native.Nat.{ℕ}
+use Rattle.label.specs.declared.Label.{Label}
+use Rattle.label.specs.Label.{zeroLabel}
+use Rattle.port.specs.declared.Port.{Port}
+use Rattle.arrival.specs.declared.Decision.{Decision}
+use Rattle.arrival.specs.Checks.{Refusal, firstOf, walkCheck, requiredCheck, optionCheck, rangeCheck, arrivingLabel, Delivery, deliverySizes, deliveryRecords, hostCheck}
+
+-- a refusal returns count 0 and an all-zero label; if the datagram is marked as ICMP, the number stays and the report is silent
+abbrev pub refused : Bool → Refusal → Decision
+refused icmp r =
+    record {
+      number = r .number;
+      kind = cond icmp 0 (r .kind);
+      code = cond icmp 0 (r .code);
+      pointer = cond icmp 0 (r .pointer);
+      count = 0;
+      label = zeroLabel;
+    }
+
+-- 0 is silent
+abbrev pub done : Label → ℕ → Decision
+done l n = record { number = 0; kind = 0; code = 0; pointer = 0; count = n; label = l }
+
+abbrev pub decided : Bool → Option Refusal → Label → ℕ → Decision
+decided icmp (some r) l n = refused icmp r
+decided icmp none l n = done l n
+
+-- checks 3 to 14, which both jobs share
+abbrev pub arrivalChecks : Port → List ℕ → ℕ → List (Option Refusal)
+arrivalChecks port area code =
+    walkCheck area ∷ requiredCheck port area ∷ optionCheck port area ∷ rangeCheck port area code ∷ []
+
+-- deliver: the checks in the order of their numbers
+abbrev pub deliverChecks : Delivery → List (Option Refusal)
+deliverChecks d =
+    deliverySizes d  -- 1
+    ∷ deliveryRecords d  -- 2
+    ∷ walkCheck (d .area)  -- 3, 4, 5
+    ∷ requiredCheck (d .port) (d .area)  -- 6
+    ∷ optionCheck (d .port) (d .area)  -- 7 to 13
+    ∷ rangeCheck (d .port) (d .area) 10  -- 14
+    ∷ hostCheck d  -- 15
+    ∷ []
+
+-- a delivery returns its label and count 0
+unfoldable pub deliverOf : Delivery → Decision
+deliverOf d = decided (d .icmp) (firstOf (deliverChecks d)) (arrivingLabel (d .port) (d .area)) 0
