@@ -72,3 +72,10 @@ module _ (o : Option Refusal) (l : Label) (n : ℕ) (d : Decision) (real : Real 
 pub reported-is : (icmp : Bool) (x : Refusal) → reported icmp (refused false x) ≡ refused icmp x
 reported-is true x = refl
 reported-is false x = refl
+
+-- a stage's answer, by what its checks say
+pub refused-by : (o : Option Refusal) (x : Refusal) (l : Label) (n : ℕ) → o ≡ some x → refused false x ≡ decided false o l n
+refused-by o x l n e = rw e
+
+pub passed-by : (o : Option Refusal) (l : Label) (n : ℕ) → o ≡ none → done l n ≡ decided false o l n
+passed-by o l n e = rw e

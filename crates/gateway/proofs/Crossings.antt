@@ -1,0 +1,215 @@
+-- Laws of checks 16 and 17, and of 18 on the runs.
+use mathlib.Core.Path.{_≡_, refl, sym, _∙_, ap}
+use mathlib.Core.Bool.{Bool, true, false, cond, not, _&&_, _||_, and-false, true≢false}
+use mathlib.Core.List.{List, [], _∷_}
+use mathlib.Core.Option.{Option, none, some}
+use Prim.Native.Nat.{ℕ, _≤_, _<_}
+use native.Mathlib.Omega.{arith}
+use lib.Dec.{leb, ltb, eqb}
+use lib.ListN.{length, take}
+use borrow.Author.Tests.{eq-eqb, ne-eqb, eqb-true, eqb-false, leb-true, leb-false, le-ltb, lt-ltb, ltb-false, le-leb}
+use Rattle.label.specs.declared.Run.{Run}
+use Rattle.label.specs.declared.Label.{Label}
+use Rattle.label.specs.Label.{used, labelOf, wellFormed, inRange}
+use Rattle.label.proofs.Bools.{and-left, and-right}
+use Rattle.label.proofs.Labels.{formed, used-length, of-used}
+use Rattle.port.specs.declared.Port.{Port}
+use Rattle.port.specs.Port.{portSound}
+use Rattle.port.proofs.Laws.{sound}
+use Rattle.table.specs.declared.Table.{Table}
+use Rattle.table.specs.declared.Partner.{Partner}
+use Rattle.table.specs.declared.Partner.the-variants.{Level, Missing}
+use Rattle.table.specs.Table.{usedRows, tableSound}
+use Rattle.table.specs.Numbers.{partnerOf, numbered}
+use Rattle.renumber.specs.declared.Renumbered.{Renumbered}
+use Rattle.renumber.specs.Renumber.{refusal, done, imageRuns, fitted, whenNumbered, setInRange, carriedOf}
+use Rattle.renumber.specs.Theorems.{Carried}
+use Rattle.renumber.proofs.Theorems.{held-label, carrying}
+use Rattle.arrival.specs.Checks.{Refusal, barred, when, firstOf}
+use Rattle.arrival.proofs.First.{Real, AllReal, real-first, real-when, first-none, when-none}
+use Rattle.gateway.specs.Crossing.{Crossing, stays, partner, known, levelOr0, hasNumbers, numberCheck, leavingLevel, leavingRuns, leavingCheck, leavingLabel}
+use Rattle.gateway.specs.Stages.{crossingChecks}
+
+-- Every refusal has a number.
+
+sixteen : _≡_ {A = ℕ} 16 0 → ⊥
+sixteen z = omega arith
+
+seventeen : _≡_ {A = ℕ} 17 0 → ⊥
+seventeen z = omega arith
+
+eighteen : _≡_ {A = ℕ} 18 0 → ⊥
+eighteen z = omega arith
+
+pub crossing-real : (x : Crossing) → Real (firstOf (crossingChecks x))
+unfolding numberCheck leavingCheck
+crossing-real x =
+    real-first (crossingChecks x) (
+      real-when (not (stays x || hasNumbers x)) (barred 16 9) sixteen,
+      (
+        real-when (not (setInRange (x .leaving .lowest) (x .leaving .highest) (leavingLevel x) (leavingRuns x))) (barred 17 9) seventeen,
+        (real-when (ltb 120 (length (leavingRuns x))) (barred 18 9) eighteen, tt),
+      ),
+    )
+
+-- With equal domains the label stays.
+module _ (x : Crossing) (w : wellFormed (x .label) ≡ true) (d : x .label .domain ≡ x .domain) (p : portSound (x .leaving) ≡ true) (same : x .domain ≡ x .leaving .domain) where
+  test : stays x ≡ true
+  test = eq-eqb _ _ same
+
+  level-stays : leavingLevel x ≡ x .label .level
+  unfolding leavingLevel
+  level-stays = rw test
+
+  runs-stay : leavingRuns x ≡ used (x .label)
+  unfolding leavingRuns
+  runs-stay = rw test
+
+  number-stays : numberCheck x ≡ none
+  unfolding numberCheck
+  number-stays = rw test
+
+  range-stays : setInRange (x .leaving .lowest) (x .leaving .highest) (leavingLevel x) (leavingRuns x) ≡ inRange (x .leaving .lowest) (x .leaving .highest) (x .label)
+  range-stays =
+      let s = sound (x .leaving) p .range in
+      rw (level-stays, runs-stay)
+      (held-label (x .leaving .lowest) (x .leaving .highest) (x .label) (s .low-formed) (s .high-formed) w
+      (s .low-domain ∙ sym (d ∙ same)) ((d ∙ same) ∙ sym (s .high-domain)))
+
+  few : ltb 120 (length (leavingRuns x)) ≡ false
+  few = let f = formed (x .label) w in rw runs-stay (le-ltb 120 (length (used (x .label))) (omega (arith, used-length (x .label) f, f .held)))
+
+  pub stays-outside : inRange (x .leaving .lowest) (x .leaving .highest) (x .label) ≡ false → firstOf (crossingChecks x) ≡ some (barred 17 9)
+  unfolding leavingCheck
+  stays-outside e = rw (number-stays, range-stays ∙ e)
+
+  pub label-stays : leavingLabel x ≡ x .label
+  label-stays = (λ i. labelOf (sym (d ∙ same) i) (level-stays i) (runs-stay i)) ∙ sym (of-used (x .label) (formed (x .label) w))
+
+  pub stays-inside : inRange (x .leaving .lowest) (x .leaving .highest) (x .label) ≡ true → firstOf (crossingChecks x) ≡ none
+  unfolding leavingCheck
+  stays-inside e = rw (number-stays, range-stays ∙ e, few)
+
+-- With other domains the label is carried over.
+module _ (lo hi : Label) (d : ℕ) (img : List Run) where
+  abbrev answerBy : Partner → Bool → Renumbered
+  answerBy q n = whenNumbered q n (λ v. cond (setInRange lo hi v img) (fitted d v img) (refusal 17))
+
+  abbrev checksBy : Partner → Bool → List (Option Refusal)
+  checksBy q n =
+      when (not (known q && n)) (barred 16 9)
+      ∷ when (not (setInRange lo hi (levelOr0 q) img)) (barred 17 9)
+      ∷ when (ltb 120 (length img)) (barred 18 9)
+      ∷ []
+
+  -- the answer says what the checks say
+  pub record Alike (q : Partner) (n : Bool) (r : Renumbered) : Type 0 where
+    pub refused : (r .number ≡ 0 → ⊥) → firstOf (checksBy q n) ≡ some (barred (r .number) 9)
+    pub passed : r .number ≡ 0 → (firstOf (checksBy q n) ≡ none) × (r ≡ done (labelOf d (levelOr0 q) img))
+
+  fits : (v : ℕ) (b : Bool) → leb (length img) 120 ≡ b → setInRange lo hi v img ≡ true → Alike (Level v) true (cond b (done (labelOf d v img)) (refusal 18))
+  fits v true e i = record { refused = λ h. absurd (h refl); passed = λ h. (rw (i, le-ltb 120 (length img) (leb-true _ _ e)), refl) }
+  fits v false e i = record { refused = λ h. rw (i, lt-ltb 120 (length img) (leb-false _ _ e)); passed = λ h. absurd (eighteen h) }
+
+  ranged : (v : ℕ) (b : Bool) → setInRange lo hi v img ≡ b → Alike (Level v) true (cond b (fitted d v img) (refusal 17))
+  ranged v true e = fits v (leb (length img) 120) refl e
+  ranged v false e = record { refused = λ h. rw e; passed = λ h. absurd (seventeen h) }
+
+  pub alike : (q : Partner) (n : Bool) → Alike q n (answerBy q n)
+  alike Missing n = record { refused = λ h. refl; passed = λ h. absurd (sixteen h) }
+  alike (Level v) false = record { refused = λ h. refl; passed = λ h. absurd (sixteen h) }
+  alike (Level v) true = ranged v (setInRange lo hi v img) refl
+
+module _ (x : Crossing) (apart : x .domain ≡ x .leaving .domain → ⊥) where
+  differ : stays x ≡ false
+  differ = ne-eqb _ _ apart
+
+  pub crosses-foreign : (x .table .from ≡ x .domain → ⊥) → firstOf (crossingChecks x) ≡ some (barred 16 9)
+  unfolding numberCheck
+  crosses-foreign h = rw (differ, ne-eqb _ _ h)
+
+  pub crosses-elsewhere : x .table .from ≡ x .domain → (x .table .to ≡ x .leaving .domain → ⊥) → firstOf (crossingChecks x) ≡ some (barred 16 9)
+  unfolding numberCheck
+  crosses-elsewhere e h = rw (differ, eq-eqb _ _ e, ne-eqb _ _ h)
+
+  module _ (from : x .table .from ≡ x .domain) (to : x .table .to ≡ x .leaving .domain) where
+    abbrev img : List Run
+    img = imageRuns (x .label) (x .table)
+
+    abbrev all : Bool
+    all = numbered (usedRows (x .table)) (used (x .label))
+
+    checks-are : firstOf (crossingChecks x) ≡ firstOf (checksBy (x .leaving .lowest) (x .leaving .highest) (x .leaving .domain) img (partner x) all)
+    unfolding numberCheck leavingCheck leavingLevel leavingRuns
+    checks-are = rw (differ, eq-eqb _ _ from, eq-eqb _ _ to)
+
+    label-is : leavingLabel x ≡ labelOf (x .leaving .domain) (levelOr0 (partner x)) img
+    unfolding leavingLevel leavingRuns
+    label-is = rw differ
+
+    module _ (r : Renumbered) (is : r ≡ carriedOf (x .label) (x .table) (x .levels) (x .leaving .lowest) (x .leaving .highest)) where
+      both : Alike (x .leaving .lowest) (x .leaving .highest) (x .table .to) img (partner x) all r
+      unfolding carriedOf
+      both = rw is (alike (x .leaving .lowest) (x .leaving .highest) (x .table .to) img (partner x) all)
+
+      pub crosses-refused : (r .number ≡ 0 → ⊥) → firstOf (crossingChecks x) ≡ some (barred (r .number) 9)
+      crosses-refused h = checks-are ∙ both .refused h
+
+      pub crosses-passed : r .number ≡ 0 → (firstOf (crossingChecks x) ≡ none) × (r ≡ done (leavingLabel x))
+      crosses-passed h =
+          let q = both .passed h in
+          (checks-are ∙ q .0, q .1 ∙ ap (λ (n : ℕ). done (labelOf n (levelOr0 (partner x)) img)) to ∙ ap done (sym label-is))
+
+-- What has passed is a well-formed label.
+not-false-yes : (b : Bool) → not b ≡ false → b ≡ true
+not-false-yes true e = refl
+not-false-yes false e = absurd (true≢false e)
+
+-- what carrying the label over answers
+abbrev carriedBy : Crossing → Renumbered
+carriedBy x = carriedOf (x .label) (x .table) (x .levels) (x .leaving .lowest) (x .leaving .highest)
+
+pub numbers : (x : Crossing) → stays x ≡ false → numberCheck x ≡ none → hasNumbers x ≡ true
+unfolding numberCheck
+numbers x s e = not-false-yes (hasNumbers x) (rw s at (when-none (not (stays x || hasNumbers x)) (barred 16 9) e))
+
+-- of a label that has passed to another domain
+pub record Crossed (x : Crossing) : Type 0 where
+  pub from : x .table .from ≡ x .domain
+  pub to : x .table .to ≡ x .leaving .domain
+  pub carried : carriedBy x ≡ done (leavingLabel x)
+
+pub crossed : (x : Crossing) → stays x ≡ false → firstOf (crossingChecks x) ≡ none → Crossed x
+crossed x s e = go (eqb (carriedBy x .number) 0) refl
+  where
+    h : hasNumbers x ≡ true
+    h = numbers x s (first-none (crossingChecks x) e .0)
+
+    f : x .table .from ≡ x .domain
+    f = eqb-true _ _ (and-left (eqb (x .table .from) (x .domain)) _ h)
+
+    t : x .table .to ≡ x .leaving .domain
+    t = eqb-true _ _ (and-left (eqb (x .table .to) (x .leaving .domain)) _ (and-right (eqb (x .table .from) (x .domain)) _ h))
+
+    go : (b : Bool) → eqb (carriedBy x .number) 0 ≡ b → Crossed x
+    go true z = record { from = f; to = t; carried = crosses-passed x (eqb-false _ _ s) f t (carriedBy x) refl (eqb-true _ _ z) .1 }
+    go false z =
+        let q = crosses-refused x (eqb-false _ _ s) f t (carriedBy x) refl (eqb-false _ _ z) in
+        let y : _≡_ {A = ℕ} 0 1 = cc in
+        absurd (omega arith)
+
+-- it is the label in the far domain, and in the range
+pub crossed-carried : (x : Crossing) → wellFormed (x .label) ≡ true → x .label .domain ≡ x .domain → portSound (x .leaving) ≡ true → tableSound (x .table) (x .levels) ≡ true
+    → Crossed x → Carried (x .label) (x .table) (x .levels) (x .leaving .lowest) (x .leaving .highest) (leavingLabel x)
+crossed-carried x w d p ts c =
+    let g = sound (x .leaving) p .range in
+    carrying (x .label) (x .table) (x .levels) (x .leaving .lowest) (x .leaving .highest) (leavingLabel x) w ts (d ∙ sym (c .from)) (g .low-formed) (g .high-formed)
+    (g .low-domain ∙ sym (c .to)) (g .high-domain ∙ sym (c .to)) (c .carried)
+
+pub crossing-formed : (x : Crossing) → wellFormed (x .label) ≡ true → x .label .domain ≡ x .domain → portSound (x .leaving) ≡ true
+    → (stays x || tableSound (x .table) (x .levels)) ≡ true → firstOf (crossingChecks x) ≡ none → wellFormed (leavingLabel x) ≡ true
+crossing-formed x w d p t e = by (stays x) refl t
+  where
+    by : (b : Bool) → stays x ≡ b → (b || tableSound (x .table) (x .levels)) ≡ true → wellFormed (leavingLabel x) ≡ true
+    by true s q = ap wellFormed (label-stays x w d p (eqb-true _ _ s)) ∙ w
+    by false s q = crossed-carried x w d p q (crossed x s e) .far .formed

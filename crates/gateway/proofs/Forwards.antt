@@ -1,0 +1,249 @@
+-- Laws of a forwarding, return by return.
+use mathlib.Core.Path.{_≡_, refl, sym, _∙_, ap, subst}
+use mathlib.Core.Bool.{Bool, true, false, cond, not, _&&_, _||_, true≢false}
+use mathlib.Core.List.{List, [], _∷_, _++_}
+use mathlib.Core.Option.{Option, none, some}
+use Prim.Native.Nat.{ℕ, _+_, _-_, _≤_, _<_}
+use native.Mathlib.Omega.{arith}
+use lib.Dec.{leb, ltb, eqb}
+use lib.ListN.{length, take, drop, replicate, length-append, length-drop}
+use lib.Seq.{take-append-seam, drop-append-seam, drop-drop, drop-at}
+use borrow.Author.Tests.{le-leb, leb-true, leb-false, lt-ltb, le-ltb, ltb-false}
+use Rattle.label.specs.declared.Label.{Label}
+use Rattle.label.specs.Label.{used, wellFormed}
+use Rattle.label.proofs.Bools.{and-left, and-right}
+use Rattle.label.proofs.Labels.{used-of}
+use Rattle.option.specs.Spelling.{spellingOf, spelledOf}
+use Rattle.spelling.specs.Spelling.{lacking, lengthOf, Writes}
+use Rattle.spelling.proofs.Answers.{Spelled, length-none, length-some}
+use Rattle.leaving.specs.Kept.{keptOf, roundUp, leavingOf, restCount, restOf}
+use Rattle.port.specs.declared.Port.{Port}
+use Rattle.port.specs.Port.{portSound}
+use Rattle.table.specs.declared.Table.{Table}
+use Rattle.table.specs.Table.{tableSound}
+use Rattle.arrival.specs.declared.Decision.{Decision}
+use Rattle.arrival.specs.Checks.{Refusal, silent, barred, when, firstOf, badArea, arrivingLabel}
+use Rattle.arrival.specs.Decision.{refused, done, decided, arrivalChecks}
+use Rattle.arrival.proofs.First.{orElse, first-append, first-none, none-first, when-none, Real, real-first, real-when}
+use Rattle.arrival.proofs.Arrival.{arrival-held, arrival-real}
+use Rattle.gateway.specs.Crossing.{Forwarding, sameDomain, sizes, records, Crossing, crossing, numberCheck, leavingRuns, leavingCheck, leavingLabel, leavingOption, noRoom, spellingCheck}
+use Rattle.gateway.specs.Forward.{forwardChecks, leavingCount, forwardOf, octetsOf, outputOf}
+use Rattle.gateway.specs.Stages.{forwardingOf, crossingChecks}
+use Rattle.gateway.proofs.Crossings.{crossing-real, crossing-formed}
+
+-- 18 is decided in two steps: on the runs, then on the spelling and the room.
+split18 : (a b : Option Refusal) (c e : Bool) (r : Refusal) → firstOf (a ∷ b ∷ when (c || e) r ∷ []) ≡ orElse (firstOf (a ∷ b ∷ when c r ∷ [])) (when e r)
+split18 (some x) b c e r = refl
+split18 none (some x) c e r = refl
+split18 none none true e r = refl
+split18 none none false true r = refl
+split18 none none false false r = refl
+
+pub crossing-last : (x : Crossing) (kept : List ℕ)
+    → firstOf (numberCheck x ∷ leavingCheck x ∷ spellingCheck x kept ∷ []) ≡ orElse (firstOf (crossingChecks x)) (when (noRoom (leavingOption x) kept) (barred 18 9))
+unfolding spellingCheck
+crossing-last x kept = split18 (numberCheck x) (leavingCheck x) (ltb 120 (length (leavingRuns x))) (noRoom (leavingOption x) kept) (barred 18 9)
+
+-- the test of the records
+abbrev pub recordsTest : Forwarding → Bool
+recordsTest f = portSound (f .arriving) && (portSound (f .leaving) && (sameDomain f || tableSound (f .table) (f .levels)))
+
+module _ (f : Forwarding) where
+  pub forward-area : badArea (f .area) ≡ true → firstOf (forwardChecks f) ≡ some (silent 1)
+  unfolding sizes
+  forward-area e = rw e
+
+  pub forward-room : badArea (f .area) ≡ false → f .room < 40 → firstOf (forwardChecks f) ≡ some (silent 1)
+  unfolding sizes
+  forward-room e h = rw (e, lt-ltb (f .room) 40 h)
+
+  module _ (sized : badArea (f .area) ≡ false) (room : 40 ≤ f .room) where
+    pub forward-record : recordsTest f ≡ false → firstOf (forwardChecks f) ≡ some (silent 2)
+    unfolding sizes records
+    forward-record e = rw (sized, le-ltb (f .room) 40 room, e)
+
+    module _ (sound : recordsTest f ≡ true) where
+      past : firstOf (forwardChecks f)
+          ≡ orElse (firstOf (arrivalChecks (f .arriving) (f .area) 9))
+          (firstOf (numberCheck (crossing f) ∷ leavingCheck (crossing f) ∷ spellingCheck (crossing f) (keptOf (f .area)) ∷ []))
+      unfolding sizes records
+      past =
+          rw (sized, le-ltb (f .room) 40 room, sound)
+          (first-append (arrivalChecks (f .arriving) (f .area) 9) (numberCheck (crossing f) ∷ leavingCheck (crossing f) ∷ spellingCheck (crossing f) (keptOf (f .area)) ∷ []))
+
+      pub forward-arrival : (x : Refusal) → firstOf (arrivalChecks (f .arriving) (f .area) 9) ≡ some x → firstOf (forwardChecks f) ≡ some x
+      forward-arrival x e = past ∙ rw e
+
+      module _ (arrived : firstOf (arrivalChecks (f .arriving) (f .area) 9) ≡ none) where
+        then : firstOf (forwardChecks f) ≡ orElse (firstOf (crossingChecks (crossing f))) (when (noRoom (leavingOption (crossing f)) (keptOf (f .area))) (barred 18 9))
+        then = past ∙ rw arrived (crossing-last (crossing f) (keptOf (f .area)))
+
+        pub forward-crossing : (x : Refusal) → firstOf (crossingChecks (crossing f)) ≡ some x → firstOf (forwardChecks f) ≡ some x
+        forward-crossing x e = then ∙ rw e
+
+        pub forward-fits : (b : Bool) → firstOf (crossingChecks (crossing f)) ≡ none → noRoom (leavingOption (crossing f)) (keptOf (f .area)) ≡ b → firstOf (forwardChecks f) ≡ when b (barred 18 9)
+        forward-fits b e g = then ∙ rw (e, g)
+
+-- The label that leaves is spelled as its parts are.
+pub leaving-spelled : (x : Crossing) → spelledOf (leavingLabel x) ≡ leavingOption x
+leaving-spelled x = rw (used-of _ _ _)
+
+-- The ICMP mark changes no check.
+pub mark-alike : (a l : Port) (t : Table) (ls : List (List ℕ)) (i j : Bool) (area : List ℕ) (room : ℕ)
+    → firstOf (forwardChecks (forwardingOf a l t ls i area room)) ≡ firstOf (forwardChecks (forwardingOf a l t ls j area room))
+unfolding sizes records
+mark-alike a l t ls i j area room = refl
+
+pub forward-refused : (f : Forwarding) (x : Refusal) (out : List ℕ) → firstOf (forwardChecks f) ≡ some x → (refused (f .icmp) x ≡ forwardOf f) × (out ≡ outputOf f out)
+unfolding forwardOf outputOf
+forward-refused f x out e = (rw e, rw e)
+
+-- There is room where 18 does not apply.
+pub record Fits (option : Option (List ℕ)) (kept : List ℕ) : Type 0 where
+  pub octets : List ℕ
+  pub spelled : option ≡ some octets
+  pub room : length octets + length kept ≤ 40
+
+pub room-fits : (o : Option (List ℕ)) (kept : List ℕ) → noRoom o kept ≡ false → Fits o kept
+room-fits none kept e = absurd (true≢false e)
+room-fits (some s) kept e = record { octets = s; spelled = refl; room = ltb-false _ _ e }
+
+-- A forwarding, once the option and then the rest are written.
+module _ (s kept out : List ℕ) (fits : length s + length kept ≤ 40) (long : 40 ≤ length out) where
+  front : List ℕ
+  front = s ++ drop (length s) out
+
+  front-length : length (s ++ drop (length s) out) ≡ length out
+  front-length = simp (length-append, length-drop) (omega arith)
+
+  beyond : drop 40 (s ++ drop (length s) out) ≡ drop 40 out
+  beyond =
+      let k : ℕ = 40 - length s in
+      let e : 40 ≡ length s + k = omega arith in
+      ap (λ (i : ℕ). drop i (s ++ drop (length s) out)) e
+      ∙ sym (drop-drop k (length s) (s ++ drop (length s) out))
+      ∙ ap (drop k) (drop-at s (drop (length s) out) (length s) refl)
+      ∙ drop-drop k (length s) out
+      ∙ ap (λ (i : ℕ). drop i out) (sym e)
+
+  pub rest-is : restOf (length s) kept (s ++ drop (length s) out) ≡ leavingOf s kept out
+  unfolding restOf
+  rest-is = rw (front-length, le-leb 40 (length out) long, le-leb (length s + length kept) 40 fits, take-append-seam s (drop (length s) out), beyond)
+
+  pub count-is : restCount (length s) kept (length (s ++ drop (length s) out)) ≡ roundUp (length s + length kept)
+  unfolding restCount
+  count-is = rw (front-length, le-leb 40 (length out) long, le-leb (length s + length kept) 40 fits)
+
+pub forward-done : (f : Forwarding) (s out : List ℕ) → firstOf (forwardChecks f) ≡ none → leavingOption (crossing f) ≡ some s
+    → (forwardOf f ≡ done (leavingLabel (crossing f)) (roundUp (length s + length (keptOf (f .area))))) × (outputOf f out ≡ leavingOf s (keptOf (f .area)) out)
+unfolding forwardOf outputOf
+forward-done f s out e g = (rw (e, g), rw (e, g))
+
+-- The test of 18, from the length that is measured.
+module _ (l : Label) (kept : List ℕ) (n : ℕ) (w : wellFormed l ≡ true) (is : n ≡ lengthOf (spelledOf l)) where
+  pub room-none : n ≡ 0 → false ≡ not (noRoom (spelledOf l) kept)
+  room-none z = rw (length-none l (sym is ∙ z))
+
+  module _ (some-length : n ≡ 0 → ⊥) where
+    known : Spelled l
+    known = length-some l (λ z. some-length (is ∙ z))
+
+    n-is : n ≡ length (known .option)
+    n-is = is ∙ ap lengthOf (known .spelled)
+
+    pub room-over : 40 < n + length kept → false ≡ not (noRoom (spelledOf l) kept)
+    room-over h = rw (known .spelled, lt-ltb 40 (length (known .option) + length kept) (omega (arith, n-is)))
+
+    pub room-test : (k : ℕ) → k ≡ length kept → n ≤ 40 → leb k (40 - n) ≡ not (noRoom (spelledOf l) kept)
+    room-test k e h = go (leb k (40 - n)) refl
+      where
+        go : (b : Bool) → leb k (40 - n) ≡ b → b ≡ not (noRoom (spelledOf l) kept)
+        go true q = rw (known .spelled, le-ltb 40 (length (known .option) + length kept) (omega (arith, n-is, leb-true k (40 - n) q)))
+        go false q = rw (known .spelled, lt-ltb 40 (length (known .option) + length kept) (omega (arith, n-is, leb-false k (40 - n) q)))
+
+-- What is known of a forwarding that passes every check.
+pub record Passed (f : Forwarding) : Type 0 where
+  pub area : badArea (f .area) ≡ false
+  pub room : 40 ≤ f .room
+  pub sound : recordsTest f ≡ true
+  pub arrived : firstOf (arrivalChecks (f .arriving) (f .area) 9) ≡ none
+  pub crossed : firstOf (crossingChecks (crossing f)) ≡ none
+  pub fits : Fits (leavingOption (crossing f)) (keptOf (f .area))
+
+or-none : (a b : Bool) → (a || b) ≡ false → (a ≡ false) × (b ≡ false)
+or-none false b e = (refl, e)
+or-none true b e = absurd (true≢false e)
+
+not-false-yes : (b : Bool) → not b ≡ false → b ≡ true
+not-false-yes true e = refl
+not-false-yes false e = absurd (true≢false e)
+
+pub forward-passed : (f : Forwarding) → firstOf (forwardChecks f) ≡ none → Passed f
+unfolding sizes records spellingCheck
+forward-passed f e =
+    let n = first-none (forwardChecks f) e in
+    let a = or-none (badArea (f .area)) (ltb (f .room) 40) (when-none _ (silent 1) (n .0)) in
+    let z = or-none (ltb 120 (length (leavingRuns (crossing f)))) (noRoom (leavingOption (crossing f)) (keptOf (f .area))) (when-none _ (barred 18 9) (n .1 .1 .1 .1 .1 .1 .1 .1 .0)) in
+    record {
+      area = a .0;
+      room = ltb-false _ _ (a .1);
+      sound = not-false-yes (recordsTest f) (when-none _ (silent 2) (n .1 .0));
+      arrived = none-first (arrivalChecks (f .arriving) (f .area) 9) (n .1 .1 .0, (n .1 .1 .1 .0, (n .1 .1 .1 .1 .0, (n .1 .1 .1 .1 .1 .0, tt))));
+      crossed = none-first (crossingChecks (crossing f)) (n .1 .1 .1 .1 .1 .1 .0, (n .1 .1 .1 .1 .1 .1 .1 .0, (rw (z .0), tt)));
+      fits = room-fits (leavingOption (crossing f)) (keptOf (f .area)) (z .1);
+    }
+
+pub passed-formed : (f : Forwarding) → Passed f → wellFormed (leavingLabel (crossing f)) ≡ true
+passed-formed f p =
+    let a = and-left (portSound (f .arriving)) _ (p .sound) in
+    let r = and-right (portSound (f .arriving)) _ (p .sound) in
+    let h = arrival-held (f .arriving) (f .area) 9 a (p .arrived) in
+    crossing-formed (crossing f) (h .formed) (h .domain) (and-left (portSound (f .leaving)) _ r) (and-right (portSound (f .leaving)) _ r) (p .crossed)
+
+one : _≡_ {A = ℕ} 1 0 → ⊥
+one z = omega arith
+
+two : _≡_ {A = ℕ} 2 0 → ⊥
+two z = omega arith
+
+eighteen : _≡_ {A = ℕ} 18 0 → ⊥
+eighteen z = omega arith
+
+real-else : (a b : Option Refusal) → Real a → Real b → Real (orElse a b)
+real-else none b r q = q
+real-else (some x) b r q = r
+
+-- Every refusal has a number.
+pub forward-real : (f : Forwarding) → Real (firstOf (forwardChecks f))
+unfolding sizes records
+forward-real f =
+    subst Real (sym (first-append (sizes f ∷ records f ∷ []) (arrivalChecks (f .arriving) (f .area) 9 ++ (numberCheck (crossing f) ∷ leavingCheck (crossing f) ∷ spellingCheck (crossing f) (keptOf (f .area)) ∷ []))))
+    (real-else (firstOf (sizes f ∷ records f ∷ [])) _
+    (real-first (sizes f ∷ records f ∷ []) (real-when (badArea (f .area) || ltb (f .room) 40) (silent 1) one, (real-when (not (recordsTest f)) (silent 2) two, tt)))
+    (subst Real (sym (first-append (arrivalChecks (f .arriving) (f .area) 9) (numberCheck (crossing f) ∷ leavingCheck (crossing f) ∷ spellingCheck (crossing f) (keptOf (f .area)) ∷ [])))
+    (real-else (firstOf (arrivalChecks (f .arriving) (f .area) 9)) _ (arrival-real (f .arriving) (f .area) 9)
+    (subst Real (sym (crossing-last (crossing f) (keptOf (f .area))))
+    (real-else (firstOf (crossingChecks (crossing f))) _ (crossing-real (crossing f)) (real-when (noRoom (leavingOption (crossing f)) (keptOf (f .area))) (barred 18 9) eighteen))))))
+
+-- The option and then the rest are written: what is answered, and what the output holds.
+pub forward-written : (f : Forwarding) (l : Label) (n count : ℕ) (out front back : List ℕ)
+    → f .room ≡ length out
+    → firstOf (forwardChecks f) ≡ none
+    → l ≡ leavingLabel (crossing f)
+    → Writes l out front n
+    → count ≡ restCount n (keptOf (f .area)) (length front)
+    → back ≡ restOf n (keptOf (f .area)) front
+    → (done l count ≡ forwardOf f) × (back ≡ outputOf f out)
+forward-written f l n count out front back er e el w ec eb =
+    let p = forward-passed f e in
+    let s = p .fits .octets in
+    let wl : wellFormed l ≡ true = rw el (passed-formed f p) in
+    let long : 40 ≤ length out = omega (arith, p .room) in
+    let sp : spelledOf l ≡ some s = ap spelledOf el ∙ leaving-spelled (crossing f) ∙ p .fits .spelled in
+    let q = w .spelled wl long s sp in
+    let d = forward-done f s out e (p .fits .spelled) in
+    let c : count ≡ roundUp (length s + length (keptOf (f .area))) =
+    ec ∙ ap (λ (k : ℕ). restCount k (keptOf (f .area)) (length front)) (q .0) ∙ ap (λ (z : List ℕ). restCount (length s) (keptOf (f .area)) (length z)) (q .1) ∙ count-is s (keptOf (f .area)) out (p .fits .room) long in
+    let b : back ≡ leavingOf s (keptOf (f .area)) out =
+    eb ∙ ap (λ (k : ℕ). restOf k (keptOf (f .area)) front) (q .0) ∙ ap (restOf (length s) (keptOf (f .area))) (q .1) ∙ rest-is s (keptOf (f .area)) out (p .fits .room) long in
+    ((λ i. done (el i) (c i)) ∙ sym (d .0), b ∙ sym (d .1))

@@ -1,0 +1,112 @@
+-- Document 01, "The order of checks, and each number": the checks of a forwarding, 1, 2 and 16 to 18.
+use mathlib.Core.Bool.{Bool, true, false, cond, not, _&&_, _||_}
+use mathlib.Core.List.{List}
+use mathlib.Core.Option.{Option}
+use Prim.Native.Nat.{ℕ, _+_}
+use lib.Dec.{ltb, eqb}
+use lib.ListN.{length, take}
+use Rattle.label.specs.declared.Run.{Run}
+use Rattle.label.specs.declared.Label.{Label}
+use Rattle.label.specs.Label.{used, labelOf}
+use Rattle.option.specs.Spelling.{spellingOf}
+use Rattle.spelling.specs.Spelling.{lacking, lengthOf}
+use Rattle.port.specs.declared.Port.{Port}
+use Rattle.port.specs.Port.{portSound}
+use Rattle.table.specs.declared.Table.{Table}
+use Rattle.table.specs.declared.Partner.{Partner}
+use Rattle.table.specs.declared.Partner.the-variants.{Level, Missing}
+use Rattle.table.specs.Table.{usedRows, tableSound}
+use Rattle.table.specs.Numbers.{partnerOf, numbered}
+use Rattle.renumber.specs.Renumber.{imageRuns, setInRange}
+use Rattle.arrival.specs.Checks.{Refusal, silent, barred, when, badArea, arrivingLabel}
+
+-- Forward: two ports, and a table that is read when their domains differ; `room` is the length of the output.
+pub record Forwarding : Type 0 where
+  pub arriving : Port
+  pub leaving : Port
+  pub table : Table
+  pub levels : List (List ℕ)
+  pub icmp : Bool
+  pub area : List ℕ
+  pub room : ℕ
+
+unfoldable pub sizes : Forwarding → Option Refusal
+sizes f = when (badArea (f .area) || ltb (f .room) 40) (silent 1)
+
+abbrev pub sameDomain : Forwarding → Bool
+sameDomain f = eqb (f .arriving .domain) (f .leaving .domain)
+
+unfoldable pub records : Forwarding → Option Refusal
+records f =
+    when (not (portSound (f .arriving) && (portSound (f .leaving) && (sameDomain f || tableSound (f .table) (f .levels))))) (silent 2)
+
+-- Past check 14: a label, the domain that it arrives from, and what it leaves through.
+pub record Crossing : Type 0 where
+  pub label : Label
+  pub domain : ℕ
+  pub leaving : Port
+  pub table : Table
+  pub levels : List (List ℕ)
+
+abbrev pub crossing : Forwarding → Crossing
+crossing f =
+    record {
+      label = arrivingLabel (f .arriving) (f .area);
+      domain = f .arriving .domain;
+      leaving = f .leaving;
+      table = f .table;
+      levels = f .levels;
+    }
+
+abbrev pub stays : Crossing → Bool
+stays x = eqb (x .domain) (x .leaving .domain)
+
+-- the level's partner in the far domain, where it has one
+abbrev pub partner : Crossing → Partner
+partner x = partnerOf (take (x .table .pairs) (x .levels)) (x .label .level)
+
+abbrev pub known : Partner → Bool
+known Missing = false
+known (Level v) = true
+
+abbrev pub levelOr0 : Partner → ℕ
+levelOr0 Missing = 0
+levelOr0 (Level v) = v
+
+-- the table's domains are the two ports', and the level and every category have a number
+abbrev pub hasNumbers : Crossing → Bool
+hasNumbers x =
+    eqb (x .table .from) (x .domain)
+    && (eqb (x .table .to) (x .leaving .domain) && (known (partner x) && numbered (usedRows (x .table)) (used (x .label))))
+
+-- 16: the domains differ, and there is no number
+unfoldable pub numberCheck : Crossing → Option Refusal
+numberCheck x = when (not (stays x || hasNumbers x)) (barred 16 9)
+
+-- the level and the whole set of categories with which the datagram leaves: with equal domains the label stays
+unfoldable pub leavingLevel : Crossing → ℕ
+leavingLevel x = cond (stays x) (x .label .level) (levelOr0 (partner x))
+
+unfoldable pub leavingRuns : Crossing → List Run
+leavingRuns x = cond (stays x) (used (x .label)) (imageRuns (x .label) (x .table))
+
+-- 17: outside the leaving port's range, the whole set, however many runs it has
+unfoldable pub leavingCheck : Crossing → Option Refusal
+leavingCheck x =
+    when (not (setInRange (x .leaving .lowest) (x .leaving .highest) (leavingLevel x) (leavingRuns x))) (barred 17 9)
+
+-- the label with which the datagram leaves, where a label holds it
+abbrev pub leavingLabel : Crossing → Label
+leavingLabel x = labelOf (x .leaving .domain) (leavingLevel x) (leavingRuns x)
+
+-- the option in its one spelling
+abbrev pub leavingOption : Crossing → Option (List ℕ)
+leavingOption x = spellingOf (x .leaving .domain) (leavingLevel x) (leavingRuns x)
+
+-- no valid option means the label, or the options exceed 40 octets
+abbrev pub noRoom : Option (List ℕ) → List ℕ → Bool
+noRoom option kept = lacking option || ltb 40 (lengthOf option + length kept)
+
+-- 18: no label holds the set, it has no spelling, or there is no room
+unfoldable pub spellingCheck : Crossing → List ℕ → Option Refusal
+spellingCheck x kept = when (ltb 120 (length (leavingRuns x)) || noRoom (leavingOption x) kept) (barred 18 9)

@@ -1,0 +1,44 @@
+-- Document 01, "The order of checks" and "The leaving area": the decision of a forwarding as the table reads, and what the output holds.
+use mathlib.Core.List.{List, [], _∷_}
+use mathlib.Core.Option.{Option, none, some}
+use Prim.Native.Nat.{ℕ, _+_}
+use lib.ListN.{length}
+use Rattle.spelling.specs.Spelling.{lengthOf}
+use Rattle.leaving.specs.Kept.{keptOf, roundUp, leavingOf}
+use Rattle.arrival.specs.declared.Decision.{Decision}
+use Rattle.arrival.specs.Checks.{Refusal, firstOf, walkCheck, requiredCheck, optionCheck, rangeCheck}
+use Rattle.gateway.specs.Crossing.{Forwarding, sizes, records, numberCheck, leavingCheck, spellingCheck, crossing, leavingLabel, leavingOption}
+use Rattle.arrival.specs.Decision.{decided}
+
+-- forward: the checks in the order of their numbers
+abbrev pub forwardChecks : Forwarding → List (Option Refusal)
+forwardChecks f =
+    sizes f  -- 1
+    ∷ records f  -- 2
+    ∷ walkCheck (f .area)  -- 3, 4, 5
+    ∷ requiredCheck (f .arriving) (f .area)  -- 6
+    ∷ optionCheck (f .arriving) (f .area)  -- 7 to 13
+    ∷ rangeCheck (f .arriving) (f .area) 9  -- 14
+    ∷ numberCheck (crossing f)  -- 16
+    ∷ leavingCheck (crossing f)  -- 17
+    ∷ spellingCheck (crossing f) (keptOf (f .area))  -- 18
+    ∷ []
+
+-- option, kept options and padding
+abbrev pub leavingCount : Forwarding → ℕ
+leavingCount f = roundUp (lengthOf (leavingOption (crossing f)) + length (keptOf (f .area)))
+
+unfoldable pub forwardOf : Forwarding → Decision
+forwardOf f = decided (f .icmp) (firstOf (forwardChecks f)) (leavingLabel (crossing f)) (leavingCount f)
+
+abbrev pub octetsOf : Option (List ℕ) → List ℕ
+octetsOf none = []
+octetsOf (some s) = s
+
+abbrev pub written : Option Refusal → List ℕ → List ℕ → List ℕ → List ℕ
+written (some r) option kept out = out
+written none option kept out = leavingOf option kept out
+
+-- the output at the end: a refusal writes nothing
+unfoldable pub outputOf : Forwarding → List ℕ → List ℕ
+outputOf f out = written (firstOf (forwardChecks f)) (octetsOf (leavingOption (crossing f))) (keptOf (f .area)) out
