@@ -1,0 +1,26 @@
+-- Demand 1: the first refusal that applies decides.
+use mathlib.Core.Path.{_≡_, refl, sym, _∙_, ap}
+use mathlib.Core.List.{List, [], _∷_, _++_}
+use mathlib.Core.Option.{Option, none, some}
+use Prim.Native.Nat.{ℕ}
+use Rattle.arrival.specs.Checks.{Refusal, firstOf, Delivery}
+use Rattle.arrival.specs.Decision.{refused, deliverChecks, deliverOf}
+use Rattle.arrival.proofs.First.{orElse, first-append, none-first}
+use Rattle.arrival.proofs.Deliveries.{deliver-refused}
+use Rattle.gateway.specs.Crossing.{Forwarding}
+use Rattle.gateway.specs.Forward.{forwardChecks, forwardOf, outputOf}
+use Rattle.gateway.proofs.Forwards.{forward-refused}
+use Rattle.demands.specs.Demands.{FirstIs, Demand1}
+
+pub first-is : (cs : List (Option Refusal)) (x : Refusal) → FirstIs cs x → firstOf cs ≡ some x
+first-is cs x f =
+    ap firstOf (f .order)
+    ∙ first-append (f .before) (some x ∷ f .after)
+    ∙ rw (none-first (f .before) (f .passed))
+
+pub demand1 : Demand1
+demand1 =
+    record {
+      forward = λ f x out h. (let q = forward-refused f x out (first-is (forwardChecks f) x h) in (sym (q .0), sym (q .1)));
+      deliver = λ d x h. sym (deliver-refused d x (first-is (deliverChecks d) x h));
+    }

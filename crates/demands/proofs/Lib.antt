@@ -1,0 +1,4 @@
+pub mod First
+pub mod Second
+pub mod Third
+pub mod Demands

@@ -1,0 +1,321 @@
+-- Demand 2: forwarded and delivered exactly when the conditions hold.
+use mathlib.Core.Path.{_≡_, refl, sym, _∙_, ap, subst}
+use mathlib.Core.Bool.{Bool, true, false, cond, not, _&&_, _||_, true≢false}
+use mathlib.Core.List.{List, [], _∷_, _++_}
+use mathlib.Core.Logic.{_↔_}
+use mathlib.Core.Option.{Option, none, some}
+use Prim.Native.Nat.{ℕ, zero, suc, _+_, _%_, _≤_, _<_}
+use native.Mathlib.Omega.{arith}
+use lib.Dec.{ltb, eqb}
+use lib.ListN.{length, getD}
+use borrow.Author.Tests.{eqb-true, eqb-false, eq-eqb, ne-eqb, le-ltb, ltb-false}
+use Rattle.label.specs.declared.Label.{Label}
+use Rattle.label.specs.Label.{wellFormed, inRange}
+use Rattle.label.proofs.Bools.{and-left, and-right, and-both}
+use Rattle.option.specs.Option.{Octets, Means}
+use Rattle.option.specs.Spelling.{spelledOf}
+use Rattle.option.specs.Theorems.{Spells}
+use Rattle.option.proofs.Spellings.{one-spelling}
+use Rattle.reading.specs.declared.Reading.{Reading}
+use Rattle.reading.specs.Reading.{found, readingFor}
+use Rattle.reading.proofs.Theorems.{reads}
+use Rattle.spelling.specs.Spelling.{lacking, lengthOf}
+use Rattle.area.specs.declared.Place.{Place}
+use Rattle.area.specs.declared.Place.the-variants.{Nowhere, At}
+use Rattle.area.specs.declared.Walk.{Walk}
+use Rattle.area.specs.declared.Walk.the-variants.{Sound, Refused}
+use Rattle.area.specs.Area.{walkOf}
+use Rattle.area.proofs.Laws.{area-placed}
+use Rattle.leaving.specs.Kept.{keptOf, roundUp, leavingOf}
+use Rattle.port.specs.declared.Port.{Port}
+use Rattle.port.specs.Port.{portSound, hostSound}
+use Rattle.port.proofs.Laws.{sound}
+use Rattle.table.specs.Table.{tableSound}
+use Rattle.renumber.specs.declared.Renumbered.{Renumbered}
+use Rattle.renumber.specs.Renumber.{done, carriedOf}
+use Rattle.renumber.specs.Theorems.{Far}
+use Rattle.renumber.proofs.Theorems.{renumbering, agrees}
+use Rattle.arrival.specs.declared.Decision.{Decision}
+use Rattle.arrival.specs.Checks.{Refusal, silent, barred, when, firstOf, NoneApplies, badArea, walkRefusal, walkCheck, placeIn, optionAt, requiredBy, requiredCheck, optionBy, optionCheck, labelBy, arrivingLabel, rangeCheck, Delivery, deliverySizes, deliveryRecords, hostCheck}
+use Rattle.arrival.specs.Decision as decision
+use Rattle.arrival.specs.Decision.{refused, decided, arrivalChecks, deliverChecks, deliverOf}
+use Rattle.arrival.proofs.First.{Real, AllReal, real-first, real-when, first-none, none-first, when-none, orElse, first-append}
+use Rattle.arrival.proofs.Arrival.{placed-framed, octets-part, Held, arrival-held, arrival-real, in-range-held}
+use Rattle.arrival.proofs.Deliveries.{deliver-done}
+use Rattle.gateway.specs.Crossing.{Forwarding, sameDomain, Crossing, crossing, stays, leavingLabel, leavingOption, noRoom}
+use Rattle.gateway.specs.Forward.{forwardChecks, forwardOf, outputOf}
+use Rattle.gateway.specs.Stages.{crossingChecks}
+use Rattle.gateway.proofs.Crossings.{label-stays, stays-inside, stays-outside, Crossed, crossed, crossed-carried, crosses-passed}
+use Rattle.gateway.proofs.Forwards.{recordsTest, Passed, forward-passed, passed-formed, forward-real, forward-fits, forward-done, leaving-spelled}
+use Rattle.demands.specs.Demands.{AreaSound, LabelOf, own, assigned, Forwards, Delivers, Demand2}
+
+not-false-yes : (b : Bool) → not b ≡ false → b ≡ true
+not-false-yes true e = refl
+not-false-yes false e = absurd (true≢false e)
+
+or-none : (a b : Bool) → (a || b) ≡ false → (a ≡ false) × (b ≡ false)
+or-none false b e = (refl, e)
+or-none true b e = absurd (true≢false e)
+
+-- The area.
+
+pub area-sound : (area : List ℕ) → badArea area ≡ false → AreaSound area
+area-sound area e =
+    let q = or-none (ltb 40 (length area)) (not (eqb (length area % 4) 0)) e in
+    record { few = ltb-false _ _ (q .0); fourfold = eqb-true _ _ (not-false-yes _ (q .1)) }
+
+pub sound-area : (area : List ℕ) → AreaSound area → badArea area ≡ false
+sound-area area a = rw (le-ltb 40 (length area) (a .few), eq-eqb _ _ (a .fourfold))
+
+-- The label of an area that has passed checks 3 to 14.
+
+octets-at : (xs : List ℕ) → Octets xs → (i : ℕ) → getD xs i 0 < 256
+octets-at [] o i = omega arith
+octets-at (x ∷ xs) o zero = o .0
+octets-at (x ∷ xs) o (suc i) = octets-at xs (o .1) i
+
+walk-sound : (w : Walk) → walkRefusal w ≡ none → (q : Place) × (w ≡ Sound q)
+walk-sound (Sound q) e = (q, refl)
+walk-sound (Refused n at) e = let z : _≡_ {A = ℕ} 0 1 = cc in absurd (omega arith)
+
+pub passed-label : (p : Port) (area : List ℕ) (code : ℕ) → Octets area → portSound p ≡ true → firstOf (arrivalChecks p area code) ≡ none → LabelOf p area (arrivingLabel p area)
+unfolding walkCheck requiredCheck optionCheck arrivingLabel
+passed-label p area code oct s e = go (walkOf area) refl
+  where
+    n : NoneApplies (arrivalChecks p area code)
+    n = first-none (arrivalChecks p area code) e
+
+    at-place : (q : Place) → walkOf area ≡ Sound q → requiredBy q p ≡ none → optionBy q p area ≡ none → labelBy q p area ≡ arrivingLabel p area → LabelOf p area (arrivingLabel p area)
+    at-place Nowhere w r o l = assigned w (when-none (p .required) _ r) l
+    at-place (At i) w r o l =
+        let f = placed-framed area i (area-placed area i w) in
+        let z : readingFor (p .domain) (optionAt i area) .number ≡ 0 = eqb-true _ _ (not-false-yes _ (when-none _ _ o)) in
+        let m = reads .for (p .domain) .means (optionAt i area) (octets-part (getD area (i + 1) 0) i area (octets-at area oct)) (f .framed) (sound p s .owned) z in
+        own i w (rw l at m) (arrival-held p area code s e .domain)
+
+    go : (w : Walk) → walkOf area ≡ w → LabelOf p area (arrivingLabel p area)
+    go (Sound q) w = at-place q w (rw w at (n .1 .0)) (rw w at (n .1 .1 .0)) (rw w)
+    go (Refused k at) w = let c : some _ ≡ none = rw w at (n .0) in let z : _≡_ {A = ℕ} 0 1 = cc in absurd (omega arith)
+
+-- and back: an area with this label passes them.
+pub record Reads (p : Port) (area : List ℕ) (l : Label) : Type 0 where
+  pub label : arrivingLabel p area ≡ l
+  pub walk : walkCheck area ≡ none
+  pub required : requiredCheck p area ≡ none
+  pub option : optionCheck p area ≡ none
+
+pub label-reads : (p : Port) (area : List ℕ) (l : Label) → LabelOf p area l → Reads p area l
+unfolding walkCheck requiredCheck optionCheck arrivingLabel
+label-reads p area l (own i w m d) =
+    let r : readingFor (p .domain) (optionAt i area) ≡ found l = reads .for (p .domain) .back (optionAt i area) l m d in
+    record { label = rw w (ap (λ (x : Reading). x .label) r); walk = rw w; required = rw w; option = rw w (rw r) }
+label-reads p area l (assigned w r e) = record { label = rw w e; walk = rw w; required = rw w (rw r); option = rw w }
+
+pub label-arrives : (p : Port) (area : List ℕ) (code : ℕ) (l : Label) → Reads p area l → inRange (p .lowest) (p .highest) l ≡ true → firstOf (arrivalChecks p area code) ≡ none
+unfolding rangeCheck
+label-arrives p area code l r e =
+    none-first (arrivalChecks p area code) (r .walk, (r .required, (r .option, (rw (r .label, e), tt))))
+
+-- a decision of number 0 has passed every check
+decided-none : (icmp : Bool) (o : Option Refusal) (l : Label) (n : ℕ) → Real o → decided icmp o l n .number ≡ 0 → o ≡ none
+decided-none icmp none l n r e = refl
+decided-none icmp (some x) l n r e = absurd (r e)
+
+-- Forwarding.
+
+pub forwarded-passes : (f : Forwarding) → forwardOf f .number ≡ 0 → firstOf (forwardChecks f) ≡ none
+unfolding forwardOf
+forwarded-passes f e = decided-none (f .icmp) (firstOf (forwardChecks f)) _ _ (forward-real f) e
+
+module _ (f : Forwarding) (p : Passed f) where
+  arriving-sound : portSound (f .arriving) ≡ true
+  arriving-sound = and-left (portSound (f .arriving)) _ (p .sound)
+
+  others : (portSound (f .leaving) && (sameDomain f || tableSound (f .table) (f .levels))) ≡ true
+  others = and-right (portSound (f .arriving)) _ (p .sound)
+
+  leaving-sound : portSound (f .leaving) ≡ true
+  leaving-sound = and-left (portSound (f .leaving)) _ others
+
+  table-sound : (f .arriving .domain ≡ f .leaving .domain → ⊥) → tableSound (f .table) (f .levels) ≡ true
+  table-sound h = rw (ne-eqb _ _ h) at (and-right (portSound (f .leaving)) _ others)
+
+  abbrev x : Crossing
+  x = crossing f
+
+  formed : wellFormed (x .label) ≡ true
+  formed = arrival-held (f .arriving) (f .area) 9 arriving-sound (p .arrived) .formed
+
+  domain : x .label .domain ≡ x .domain
+  domain = arrival-held (f .arriving) (f .area) 9 arriving-sound (p .arrived) .domain
+
+  over : (f .arriving .domain ≡ f .leaving .domain → ⊥) → Crossed x
+  over h = crossed x (ne-eqb _ _ h) (p .crossed)
+
+  leaves : inRange (f .leaving .lowest) (f .leaving .highest) (leavingLabel x) ≡ true
+  leaves = by (stays x) refl
+    where
+      here : f .arriving .domain ≡ f .leaving .domain → (b : Bool) → inRange (f .leaving .lowest) (f .leaving .highest) (x .label) ≡ b → b ≡ true
+      here s true e = refl
+      here s false e = let q = stays-outside x formed domain leaving-sound s e in let c = p .crossed in let z : _≡_ {A = ℕ} 0 1 = cc in absurd (omega arith)
+
+      by : (b : Bool) → stays x ≡ b → inRange (f .leaving .lowest) (f .leaving .highest) (leavingLabel x) ≡ true
+      by true s =
+          ap (inRange (f .leaving .lowest) (f .leaving .highest)) (label-stays x formed domain leaving-sound (eqb-true _ _ s))
+          ∙ here (eqb-true _ _ s) (inRange (f .leaving .lowest) (f .leaving .highest) (x .label)) refl
+      by false s = crossed-carried x formed domain leaving-sound (table-sound (eqb-false _ _ s)) (over (eqb-false _ _ s)) .held
+
+  pub passed-forwards : Octets (f .area) → Forwards f (x .label) (leavingLabel x) (p .fits .octets)
+  passed-forwards oct =
+      record {
+        area = area-sound (f .area) (p .area);
+        room = p .room;
+        arriving = arriving-sound;
+        leaving = leaving-sound;
+        table = table-sound;
+        label = passed-label (f .arriving) (f .area) 9 oct arriving-sound (p .arrived);
+        arrives = arrival-held (f .arriving) (f .area) 9 arriving-sound (p .arrived) .within;
+        stays = λ s. sym (label-stays x formed domain leaving-sound s);
+        from = λ h. over h .from;
+        to = λ h. over h .to;
+        numbered = λ h. crossed-carried x formed domain leaving-sound (table-sound h) (over h) .far;
+        leaves = leaves;
+        spelled = one-spelling .spells (leavingLabel x) (p .fits .octets) (passed-formed f p) .0 (leaving-spelled x ∙ p .fits .spelled);
+        fits = p .fits .room;
+      }
+
+-- The conditions let every check pass.
+module _ (f : Forwarding) (l m : Label) (s : List ℕ) (h : Forwards f l m s) where
+  r : Reads (f .arriving) (f .area) l
+  r = label-reads (f .arriving) (f .area) l (h .label)
+
+  held : Held (f .arriving) l
+  held = in-range-held (f .arriving) l (h .arriving) (h .arrives)
+
+  abbrev y : Crossing
+  y = crossing f
+
+  y-formed : wellFormed (y .label) ≡ true
+  y-formed = rw (r .label) (held .formed)
+
+  y-domain : y .label .domain ≡ y .domain
+  y-domain = rw (r .label) (held .domain)
+
+  tested : recordsTest f ≡ true
+  tested = by (sameDomain f) refl
+    where
+      by : (b : Bool) → sameDomain f ≡ b → recordsTest f ≡ true
+      by true e = rw (h .arriving, h .leaving, e)
+      by false e = rw (h .arriving, h .leaving, e, h .table (eqb-false _ _ e))
+
+  pub record Crosses : Type 0 where
+    pub none : firstOf (crossingChecks y) ≡ none
+    pub label : leavingLabel y ≡ m
+
+  crosses : Crosses
+  crosses = by (sameDomain f) refl
+    where
+      by : (b : Bool) → sameDomain f ≡ b → Crosses
+      by true e =
+          let d : f .arriving .domain ≡ f .leaving .domain = eqb-true _ _ e in
+          let same : y .label ≡ m = r .label ∙ h .stays d in
+          record {
+            none = stays-inside y y-formed y-domain (h .leaving) d (ap (inRange (f .leaving .lowest) (f .leaving .highest)) same ∙ h .leaves);
+            label = label-stays y y-formed y-domain (h .leaving) d ∙ same;
+          }
+      by false e =
+          let d : (f .arriving .domain ≡ f .leaving .domain → ⊥) = eqb-false _ _ e in
+          let g = sound (f .leaving) (h .leaving) .range in
+          let ts = h .table d in
+          let from : y .label .domain ≡ f .table .from = y-domain ∙ sym (h .from d) in
+          let far : Far (y .label) (f .table) (f .levels) m = rw (r .label) (h .numbered d) in
+          let n = renumbering .found (y .label) (f .table) (f .levels) m ts y-formed from far in
+          let a = agrees (y .label) (f .table) (f .levels) (f .leaving .lowest) (f .leaving .highest) m (g .low-formed) (g .high-formed) (g .low-domain ∙ sym (h .to d)) (g .high-domain ∙ sym (h .to d)) n in
+          let c : done m ≡ carriedOf (y .label) (f .table) (f .levels) (f .leaving .lowest) (f .leaving .highest) = sym (a ∙ rw (h .leaves)) in
+          let q = crosses-passed y d (h .from d) (h .to d) (done m) c refl in
+          record { none = q .0; label = sym (ap (λ (z : Renumbered). z .label) (q .1)) }
+
+  m-formed : wellFormed m ≡ true
+  m-formed = h .spelled .means .label
+
+  pub option-is : leavingOption y ≡ some s
+  option-is = sym (leaving-spelled y) ∙ ap spelledOf (crosses .label) ∙ one-spelling .spells m s m-formed .1 (h .spelled)
+
+  pub forwards-passes : firstOf (forwardChecks f) ≡ none
+  forwards-passes =
+      forward-fits f (sound-area (f .area) (h .area)) (h .room) tested (label-arrives (f .arriving) (f .area) 9 l r (h .arrives)) false (crosses .none)
+      (rw (option-is, le-ltb 40 (length s + length (keptOf (f .area))) (h .fits)))
+
+  pub forwards-done : (out : List ℕ)
+      → (forwardOf f ≡ decision.done m (roundUp (length s + length (keptOf (f .area))))) × (outputOf f out ≡ leavingOf s (keptOf (f .area)) out)
+  forwards-done out =
+      let q = forward-done f s out forwards-passes option-is in
+      (q .0 ∙ ap (λ (z : Label). decision.done z (roundUp (length s + length (keptOf (f .area))))) (crosses .label), q .1)
+
+-- Delivering.
+
+one : _≡_ {A = ℕ} 1 0 → ⊥
+one z = omega arith
+
+two : _≡_ {A = ℕ} 2 0 → ⊥
+two z = omega arith
+
+fifteen : _≡_ {A = ℕ} 15 0 → ⊥
+fifteen z = omega arith
+
+real-else : (a b : Option Refusal) → Real a → Real b → Real (orElse a b)
+real-else none b r q = q
+real-else (some x) b r q = r
+
+deliver-real : (d : Delivery) → Real (firstOf (deliverChecks d))
+unfolding deliverySizes deliveryRecords hostCheck
+deliver-real d =
+    subst Real (sym (first-append (deliverySizes d ∷ deliveryRecords d ∷ []) (arrivalChecks (d .port) (d .area) 10 ++ (hostCheck d ∷ []))))
+    (real-else (firstOf (deliverySizes d ∷ deliveryRecords d ∷ [])) _
+    (real-first (deliverySizes d ∷ deliveryRecords d ∷ []) (real-when (badArea (d .area)) (silent 1) one, (real-when (not (portSound (d .port) && hostSound (d .host) (d .port .domain))) (silent 2) two, tt)))
+    (subst Real (sym (first-append (arrivalChecks (d .port) (d .area) 10) (hostCheck d ∷ [])))
+    (real-else (firstOf (arrivalChecks (d .port) (d .area) 10)) _ (arrival-real (d .port) (d .area) 10)
+    (real-first (hostCheck d ∷ []) (real-when (not (inRange (d .host .lowest) (d .host .highest) (arrivingLabel (d .port) (d .area)))) (barred 15 10) fifteen, tt)))))
+
+pub delivered-passes : (d : Delivery) → deliverOf d .number ≡ 0 → firstOf (deliverChecks d) ≡ none
+unfolding deliverOf
+delivered-passes d e = decided-none (d .icmp) (firstOf (deliverChecks d)) _ _ (deliver-real d) e
+
+passes-delivered : (d : Delivery) → firstOf (deliverChecks d) ≡ none → deliverOf d .number ≡ 0
+unfolding deliverOf
+passes-delivered d e = rw e
+
+pub delivered-conditions : (d : Delivery) → Octets (d .area) → firstOf (deliverChecks d) ≡ none → Delivers d (arrivingLabel (d .port) (d .area))
+unfolding deliverySizes deliveryRecords hostCheck
+delivered-conditions d oct e =
+    let n = first-none (deliverChecks d) e in
+    let t : (portSound (d .port) && hostSound (d .host) (d .port .domain)) ≡ true = not-false-yes _ (when-none _ (silent 2) (n .1 .0)) in
+    let p = and-left (portSound (d .port)) _ t in
+    let a : firstOf (arrivalChecks (d .port) (d .area) 10) ≡ none = none-first (arrivalChecks (d .port) (d .area) 10) (n .1 .1 .0, (n .1 .1 .1 .0, (n .1 .1 .1 .1 .0, (n .1 .1 .1 .1 .1 .0, tt)))) in
+    record {
+      area = area-sound (d .area) (when-none _ (silent 1) (n .0));
+      port = p;
+      host = and-right (portSound (d .port)) _ t;
+      label = passed-label (d .port) (d .area) 10 oct p a;
+      arrives = arrival-held (d .port) (d .area) 10 p a .within;
+      held = not-false-yes _ (when-none _ (barred 15 10) (n .1 .1 .1 .1 .1 .1 .0));
+    }
+
+pub conditions-delivered : (d : Delivery) (l : Label) → Delivers d l → deliverOf d ≡ decision.done l 0
+conditions-delivered d l h =
+    let r = label-reads (d .port) (d .area) l (h .label) in
+    sym
+    (deliver-done d (sound-area (d .area) (h .area)) (h .port) (h .host) (label-arrives (d .port) (d .area) 10 l r (h .arrives)) (rw (r .label) (h .held)))
+    ∙ ap (λ (z : Label). decision.done z 0) (r .label)
+
+pub demand2 : Demand2
+demand2 =
+    record {
+      only = λ f oct e.
+          (let p = forward-passed f (forwarded-passes f e) in
+          (crossing f .label, leavingLabel (crossing f), p .fits .octets, passed-forwards f p oct));
+      always = λ f l m s out h. forwards-done f l m s h out;
+      delivered = λ d oct e. (arrivingLabel (d .port) (d .area), delivered-conditions d oct (delivered-passes d e));
+      delivers = conditions-delivered;
+      exactly = λ d. (λ e. first-none (deliverChecks d) (delivered-passes d e), λ n. passes-delivered d (none-first (deliverChecks d) n));
+    }

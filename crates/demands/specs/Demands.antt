@@ -1,0 +1,159 @@
+-- Demands 1, 2 and 3 of the customer, beside his sentences. "Any octets, port record or table get a reply, and the work ends": the public
+-- functions have no `requires`, and their contracts equate what they answer with `forwardOf`, `outputOf`, `deliverOf`, `readingOf`,
+-- `spellingAnswer`, `spellingOut` and `renumberedOf` for every input; here is what these say.
+use mathlib.Core.Path.{_≡_}
+use mathlib.Core.Bool.{Bool, true, false}
+use mathlib.Core.List.{List, [], _∷_, _++_}
+use mathlib.Core.Logic.{_↔_}
+use mathlib.Core.Option.{Option, none, some}
+use Prim.Native.Nat.{ℕ, _+_, _%_, _≤_}
+use lib.ListN.{length, take, drop}
+use Rattle.label.specs.declared.Label.{Label}
+use Rattle.label.specs.Label.{wellFormed, inRange}
+use Rattle.option.specs.Option.{Octets, Means}
+use Rattle.option.specs.Spelling.{padded, spelledOf}
+use Rattle.option.specs.Theorems.{Spells, OneSpelling}
+use Rattle.reading.specs.Reading.{found, readingOf}
+use Rattle.spelling.specs.Spelling.{spellingAnswer, spellingOut}
+use Rattle.area.specs.declared.Place.the-variants.{Nowhere, At}
+use Rattle.area.specs.declared.Walk.the-variants.{Sound}
+use Rattle.area.specs.Area.{walkOf}
+use Rattle.leaving.specs.Kept.{keptOf, roundUp, leavingOf}
+use Rattle.port.specs.declared.Port.{Port}
+use Rattle.port.specs.Port.{portSound, hostSound}
+use Rattle.table.specs.Table.{tableSound}
+use Rattle.renumber.specs.Theorems.{Far}
+use Rattle.arrival.specs.Checks.{Refusal, NoneApplies, optionAt, Delivery, deliverySizes, deliveryRecords}
+use Rattle.arrival.specs.Decision.{refused, done, deliverChecks, deliverOf}
+use Rattle.gateway.specs.Crossing.{Forwarding, sizes, records}
+use Rattle.gateway.specs.Forward.{forwardChecks, forwardOf, outputOf}
+
+-- Demand 1: "Bad input gets the first refusal that applies in document 01's order, with its ICMP type, code and pointer, and the output buffer
+-- is untouched."
+
+-- of the checks in order, x is the first refusal that applies
+pub record FirstIs (checks : List (Option Refusal)) (x : Refusal) : Type 0 where
+  pub before : List (Option Refusal)
+  pub after : List (Option Refusal)
+  pub order : checks ≡ before ++ (some x ∷ after)
+  pub passed : NoneApplies before
+
+pub record Demand1 : Type 0 where
+  pub forward : (f : Forwarding) (x : Refusal) (out : List ℕ)
+      → FirstIs (forwardChecks f) x
+      → (forwardOf f ≡ refused (f .icmp) x) × (outputOf f out ≡ out)
+  pub deliver : (d : Delivery) (x : Refusal) → FirstIs (deliverChecks d) x → deliverOf d ≡ refused (d .icmp) x
+
+-- Demand 2: "A datagram is forwarded exactly when its area, records and options are sound, its label (its own, or the port's if it has none and
+-- none is required) lies in the arriving port's range, every part has a number in the far domain if the domains differ, the renumbered label lies
+-- in the leaving port's range, and the result has a spelling and room. It leaves with that label and its other kept options in order."
+
+-- the area is sound: at most 40 octets, a multiple of 4
+pub record AreaSound (area : List ℕ) : Type 0 where
+  pub few : length area ≤ 40
+  pub fourfold : length area % 4 ≡ 0
+
+-- its options are sound, and this is its label: its walk refuses nothing and meets a valid option 134 that means the label in the port's domain,
+-- or meets none where none is required and the label is the port's
+pub data LabelOf (p : Port) (area : List ℕ) (l : Label) : Type 0 where
+  own : (at : ℕ) → walkOf area ≡ Sound (At at) → Means (optionAt at area) l → l .domain ≡ p .domain → LabelOf p area l
+  assigned : walkOf area ≡ Sound Nowhere → p .required ≡ false → p .assigned ≡ l → LabelOf p area l
+
+-- a datagram that arrives with label l leaves with label m, spelled as s
+pub record Forwards (f : Forwarding) (l m : Label) (s : List ℕ) : Type 0 where
+  pub area : AreaSound (f .area)
+  pub room : 40 ≤ f .room
+  pub arriving : portSound (f .arriving) ≡ true
+  pub leaving : portSound (f .leaving) ≡ true
+  pub table : (f .arriving .domain ≡ f .leaving .domain → ⊥) → tableSound (f .table) (f .levels) ≡ true
+  pub label : LabelOf (f .arriving) (f .area) l
+  pub arrives : inRange (f .arriving .lowest) (f .arriving .highest) l ≡ true
+  pub stays : f .arriving .domain ≡ f .leaving .domain → l ≡ m
+  pub from : (f .arriving .domain ≡ f .leaving .domain → ⊥) → f .table .from ≡ f .arriving .domain
+  pub to : (f .arriving .domain ≡ f .leaving .domain → ⊥) → f .table .to ≡ f .leaving .domain
+  pub numbered : (f .arriving .domain ≡ f .leaving .domain → ⊥) → Far l (f .table) (f .levels) m
+  pub leaves : inRange (f .leaving .lowest) (f .leaving .highest) m ≡ true
+  pub spelled : Spells s m
+  pub fits : length s + length (keptOf (f .area)) ≤ 40
+
+-- a delivery with label l
+pub record Delivers (d : Delivery) (l : Label) : Type 0 where
+  pub area : AreaSound (d .area)
+  pub port : portSound (d .port) ≡ true
+  pub host : hostSound (d .host) (d .port .domain) ≡ true
+  pub label : LabelOf (d .port) (d .area) l
+  pub arrives : inRange (d .port .lowest) (d .port .highest) l ≡ true
+  pub held : inRange (d .host .lowest) (d .host .highest) l ≡ true
+
+pub record Demand2 : Type 0 where
+  -- forwarded only when the conditions hold
+  pub only : (f : Forwarding) → Octets (f .area) → forwardOf f .number ≡ 0
+      → (l : Label) × (m : Label) × (s : List ℕ) × Forwards f l m s
+  -- and always then, with that label, the option in its one spelling and the kept options in order, zeros after them, and the count
+  pub always : (f : Forwarding) (l m : Label) (s out : List ℕ) → Forwards f l m s
+      → (forwardOf f ≡ done m (roundUp (length s + length (keptOf (f .area)))))
+      × (outputOf f out ≡ leavingOf s (keptOf (f .area)) out)
+  -- delivered exactly when none of the refusals applies, and with which label
+  pub delivered : (d : Delivery) → Octets (d .area) → deliverOf d .number ≡ 0 → (l : Label) × Delivers d l
+  pub delivers : (d : Delivery) (l : Label) → Delivers d l → deliverOf d ≡ done l 0
+  pub exactly : (d : Delivery) → (deliverOf d .number ≡ 0) ↔ NoneApplies (deliverChecks d)
+
+-- Demand 3: "One label, one spelling."
+
+-- two forwardings of areas past checks 1 to 5 whose options 134 are valid and mean one label of the arriving port's domain, with kept options in
+-- order, records and ICMP mark alike; the outputs may differ
+pub record Alike (f g : Forwarding) (l : Label) : Type 0 where
+  pub arriving : f .arriving ≡ g .arriving
+  pub leaving : f .leaving ≡ g .leaving
+  pub table : f .table ≡ g .table
+  pub levels : f .levels ≡ g .levels
+  pub icmp : f .icmp ≡ g .icmp
+  pub kept : keptOf (f .area) ≡ keptOf (g .area)
+  pub sized : (sizes f ≡ none) × (sizes g ≡ none)
+  pub sound : (records f ≡ none) × (records g ≡ none)
+  pub first : (at : ℕ) × (walkOf (f .area) ≡ Sound (At at)) × Means (optionAt at (f .area)) l
+  pub second : (at : ℕ) × (walkOf (g .area) ≡ Sound (At at)) × Means (optionAt at (g .area)) l
+  pub domain : l .domain ≡ f .arriving .domain
+
+pub record AlikeDelivered (d e : Delivery) (l : Label) : Type 0 where
+  pub port : d .port ≡ e .port
+  pub host : d .host ≡ e .host
+  pub icmp : d .icmp ≡ e .icmp
+  pub sized : (deliverySizes d ≡ none) × (deliverySizes e ≡ none)
+  pub sound : (deliveryRecords d ≡ none) × (deliveryRecords e ≡ none)
+  pub first : (at : ℕ) × (walkOf (d .area) ≡ Sound (At at)) × Means (optionAt at (d .area)) l
+  pub second : (at : ℕ) × (walkOf (e .area) ≡ Sound (At at)) × Means (optionAt at (e .area)) l
+  pub domain : l .domain ≡ d .port .domain
+
+pub record Demand3 : Type 0 where
+  -- "Given at least 40 octets to write in, every well-formed label is refused a spelling exactly when no valid option means it."
+  pub refused : (l : Label) (out : List ℕ) → wellFormed l ≡ true → 40 ≤ length out
+      → (spellingAnswer l (length out) .number ≡ 0 → ⊥) ↔ ((o : List ℕ) → Means o l → ⊥)
+  -- "Whatever label the box spells, alone or in a leaving area, it writes the shortest valid option that means it: every other valid option that
+  -- means it has at least as many octets, and equal lengths go to tag 1, then 2, then 5."
+  pub alone : (l : Label) (out : List ℕ) → wellFormed l ≡ true → 40 ≤ length out → spellingAnswer l (length out) .number ≡ 0
+      → (s : List ℕ) × Spells s l × (spellingAnswer l (length out) .count ≡ length s) × (take 40 (spellingOut l out) ≡ padded s)
+  pub leaving : (f : Forwarding) (out : List ℕ) → Octets (f .area) → forwardOf f .number ≡ 0
+      → (s : List ℕ) × Spells s (forwardOf f .label) × (take (length s) (outputOf f out) ≡ s)
+  -- "The option written, read alone, gives that label back, as does every valid option that means it."
+  pub back : (o : List ℕ) (l : Label) → Means o l → readingOf o ≡ found l
+  -- "Any two labels that have spellings, each given at least 40 octets, get equal first 40 octets exactly when they are one label."
+  pub told : (a b : Label) (out out′ : List ℕ)
+      → wellFormed a ≡ true
+      → wellFormed b ≡ true
+      → 40 ≤ length out
+      → 40 ≤ length out′
+      → spellingAnswer a (length out) .number ≡ 0
+      → spellingAnswer b (length out′) .number ≡ 0
+      → (take 40 (spellingOut a out) ≡ take 40 (spellingOut b out′)) ↔ (a ≡ b)
+  -- "Take any two areas past checks 1 to 5 whose options 134 are valid and mean one label .. they are decided alike: the same number, type, code,
+  -- pointer, label and count and, if forwarded, the same first 40 octets of output."
+  pub decided : (f g : Forwarding) (l : Label) → Alike f g l → forwardOf f ≡ forwardOf g
+  pub written : (f g : Forwarding) (l : Label) (out out′ : List ℕ) → Alike f g l → 40 ≤ length out → 40 ≤ length out′ → forwardOf f .number ≡ 0
+      → take 40 (outputOf f out) ≡ take 40 (outputOf g out′)
+  pub delivered : (d e : Delivery) (l : Label) → AlikeDelivered d e l → deliverOf d ≡ deliverOf e
+
+pub record Demands : Type 0 where
+  pub first : Demand1
+  pub second : Demand2
+  pub third : Demand3
