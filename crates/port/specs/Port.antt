@@ -3,7 +3,7 @@ use mathlib.Core.Bool.{Bool, cond, not, _&&_}
 use Prim.Native.Nat.{ℕ}
 use lib.Dec.{eqb}
 use Rattle.label.specs.declared.Label.{Label}
-use Rattle.label.specs.Label.{wellFormed, leq, inRange, isZero}
+use Rattle.label.specs.Label.{leq, inRange, isZero}
 use Rattle.port.specs.declared.Port.{Port}
 use Rattle.port.specs.declared.Host.{Host}
 

@@ -8,10 +8,9 @@ use native.Mathlib.Omega.{arith}
 use native.Mathlib.Decide.{decLe}
 use lib.Dec.{leb, ltb}
 use borrow.Author.Tests.{le-leb, lt-leb, leb-true, leb-false, ltb-true, ltb-false}
-use Rattle.label.specs.declared.Run.{Run}
 use Rattle.label.specs.Runs.{inRun, covers, spaced}
 use Rattle.label.proofs.Bools.{and-left, and-right}
-use Rattle.order.specs.Order.{Sorted, all, insertKey, sortOnto, sortKeys}
+use Rattle.order.specs.Order.{Sorted, all, insertKey, sortOnto}
 use Rattle.renumber.specs.Keys.{keyRun, keyRuns, stretched, joinFrom, joinAll, Key}
 
 or-swap : (a b c : Bool) → (a || (b || c)) ≡ (b || (a || c))

@@ -2,34 +2,31 @@
 use mathlib.Core.Path.{_≡_, refl, sym, _∙_, ap}
 use mathlib.Core.Bool.{Bool, true, false, cond, _&&_, _||_}
 use mathlib.Core.List.{List}
-use mathlib.Core.Logic.{_⊎_, inl, inr, ⊎-elim}
-use Prim.Native.Nat.{ℕ, _+_, _≤_, _<_, max}
+use mathlib.Core.Logic.{_⊎_, ⊎-elim}
+use Prim.Native.Nat.{ℕ, _≤_, max}
 use native.Mathlib.Omega.{arith}
 use lib.Dec.{leb, ltb, eqb}
 use lib.ListN.{length, take}
-use borrow.Author.Tests.{leb-true, leb-false, le-leb, lt-leb, eqb-true, eqb-false, eq-eqb, lt-ltb, ltb-true}
+use borrow.Author.Tests.{leb-true, le-leb, eqb-true, eq-eqb, lt-ltb}
 use Rattle.label.specs.declared.Run.{Run}
 use Rattle.label.specs.declared.Label.{Label}
-use Rattle.label.specs.Runs.{covers, spaced, subset}
-use Rattle.label.specs.Label.{used, labelOf, wellFormed, member, atMost, leq, inRange}
-use Rattle.label.specs.Theorems.{AtMost}
-use Rattle.label.proofs.Bools.{never, and-left, and-right, or-cases, or-true-right, same-yes, less-or}
-use Rattle.label.proofs.Runs.{Sub, one-form, covers-top}
-use Rattle.label.proofs.Labels.{formed, well-formed, formed-of, used-of, used-length, of-used, member-is, member-formed, same-label, leq-says, leq-said, leq-at-most}
+use Rattle.label.specs.Runs.{covers, subset}
+use Rattle.label.specs.Label.{used, labelOf, wellFormed, member, atMost, inRange}
+use Rattle.label.proofs.Bools.{and-right, or-cases, or-true-right, same-yes, less-or}
+use Rattle.label.proofs.Runs.{one-form}
+use Rattle.label.proofs.Labels.{formed, well-formed, formed-of, used-of, used-length, of-used, member-is, leq-says, leq-said, leq-at-most}
 use Rattle.label.proofs.Theorems as label-theorems
 use Rattle.table.specs.declared.Table.{Table}
 use Rattle.table.specs.declared.Partner.{Partner}
 use Rattle.table.specs.declared.Partner.the-variants.{Level, Missing}
 use Rattle.table.specs.Table.{usedRows, tableSound}
-use Rattle.table.specs.Numbers.{partnerOf, hasNumber, sends, numbered, inImage}
-use Rattle.table.proofs.Sound.{Sound, sound, Rows, sound-rows}
+use Rattle.table.specs.Numbers.{partnerOf, sends, numbered, inImage}
+use Rattle.table.proofs.Sound.{sound, Rows, sound-rows}
 use Rattle.table.proofs.Numbers.{one-category, one-number, has-number, number-has, partners-order, partner-level, Ordered}
 use Rattle.renumber.specs.declared.Renumbered.{Renumbered}
-use Rattle.renumber.specs.Sets.{runsOf}
 use Rattle.renumber.specs.Renumber.{refusal, done, imageRuns, fitted, whenNumbered, renumberedOf, setInRange, carriedOf}
-use Rattle.renumber.specs.Theorems.{Far, Renumbering, Agrees, Carried, Carrying, KeepsOrder, Join, KeepsJoins}
+use Rattle.renumber.specs.Theorems.{Far, Renumbering, Agrees, Carried, Carrying, KeepsOrder, KeepsJoins}
 use Rattle.renumber.proofs.Sets.{set-covers, set-spaced, the-runs}
-use Rattle.renumber.proofs.Image.{Numbered}
 use Rattle.renumber.proofs.Pass.{numbered-yes, numbered-all, image-hits, sends-hits, hits-sends}
 use Rattle.renumber.proofs.Answers.{renumbered-fitted, carried-outside, carried-fitted}
 

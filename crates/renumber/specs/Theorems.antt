@@ -1,5 +1,5 @@
 -- Document 01, "Labels" and "Records": what is proved of renumbering, over membership.
-use mathlib.Core.Bool.{Bool, true, cond, _||_}
+use mathlib.Core.Bool.{true, cond, _||_}
 use mathlib.Core.List.{List}
 use mathlib.Core.Path.{_≡_}
 use Prim.Native.Nat.{ℕ, max}

@@ -1,6 +1,6 @@
 -- Laws of the numbers that rows and level pairs give: what has a number has one, and each number comes from one.
-use mathlib.Core.Path.{_≡_, refl, sym, _∙_, ap}
-use mathlib.Core.Bool.{Bool, true, false, cond, _&&_, _||_}
+use mathlib.Core.Path.{_≡_, refl, sym}
+use mathlib.Core.Bool.{Bool, true, false, cond, _&&_}
 use mathlib.Core.List.{List, [], _∷_, map}
 use mathlib.Core.Logic.{_⊎_, inl, inr, ⊎-elim}
 use Prim.Native.Nat.{ℕ, _+_, _-_, _≤_, _<_}
@@ -8,12 +8,10 @@ use native.Mathlib.Omega.{arith}
 use lib.Dec.{leb, ltb, eqb}
 use lib.ListN.{getD}
 use borrow.Author.Tests.{le-leb, leb-true, ltb-true, eqb-true, eq-eqb}
-use Rattle.label.specs.Runs.{inRun, covers}
+use Rattle.label.specs.Runs.{inRun}
 use Rattle.label.proofs.Bools.{never, and-left, and-right, or-cases, or-true-right}
 use Rattle.label.proofs.Runs.{covers-in, covers-cases}
 use Rattle.table.specs.declared.Row.{Row}
-use Rattle.table.specs.declared.Table.{Table}
-use Rattle.table.specs.declared.Partner.{Partner}
 use Rattle.table.specs.declared.Partner.the-variants.{Level, Missing}
 use Rattle.table.specs.Table.{targetEnd, rising, apart, apartFrom, targetsApart, levelsRise, levelNumbers}
 use Rattle.table.specs.Numbers.{partnerOf, source, hasNumber, sends}

@@ -1,21 +1,20 @@
 -- Laws of rows: disjoint targets, by their keys in order, and the parts of a sound table.
-use mathlib.Core.Path.{_≡_, refl, sym, _∙_, ap}
-use mathlib.Core.Bool.{Bool, true, false, cond, _&&_, _||_, true≢false}
-use mathlib.Core.List.{List, [], _∷_, _++_, map, map-append}
-use native.Mathlib.Numerals.{add-one}
-use lib.ListN.{length, take, drop, set, getD, length-map}
-use lib.Seq.{take-suc, take-suc-set, take-at, length-take-le}
-use Prim.Native.Nat.{ℕ, suc, _+_, _-_, _*_, _/_, _%_, _≤_, _<_}
+use mathlib.Core.Path.{_≡_, refl, sym, _∙_}
+use mathlib.Core.Bool.{Bool, true, false, cond, _&&_, _||_}
+use mathlib.Core.List.{List, [], _∷_, _++_, map}
+use lib.ListN.{length, take, drop, length-map}
+use lib.Seq.{take-at, length-take-le}
+use Prim.Native.Nat.{ℕ, _+_, _-_, _/_, _%_, _≤_}
 use native.Mathlib.Omega.{arith}
 use lib.Dec.{leb, ltb}
-use borrow.Author.Tests.{le-leb, lt-leb, leb-true, leb-false, lt-ltb, le-ltb}
+use borrow.Author.Tests.{le-leb, lt-leb, leb-true, lt-ltb, le-ltb}
 use Rattle.order.specs.Order.{Sorted, all, insertKey, sortOnto, sortKeys}
 use native.Mathlib.Decide.{decLe}
 use Rattle.order.proofs.Laws.{insert-all, sort-sorted, sort-all, sort-length}
 use Rattle.table.specs.declared.Row.{Row}
 use Rattle.table.specs.declared.Table.{Table}
 use Rattle.label.proofs.Bools.{and-left, and-right}
-use Rattle.table.specs.Table.{usedRows, unusedRows, rowsSound, targetEnd, rising, apart, apartFrom, targetsApart}
+use Rattle.table.specs.Table.{usedRows, unusedRows, rowsSound, targetEnd, rising, apartFrom, targetsApart}
 use Rattle.table.specs.Keys.{chain, targetKey}
 
 or-comm : (a b : Bool) → (a || b) ≡ (b || a)
@@ -184,12 +183,6 @@ targets-chain rs e =
     let s : Sorted 0 (sortKeys ks) = sort-sorted [] ks tt in
     let g : Ranges (sortKeys ks) ≡ true = sort-all (λ k. leb (k / 65536) (k % 65536)) [] ks ∙ keys-ranges 0 rs e in
     targets-keys 0 rs e ∙ sym (chain-is 0 0 (sortKeys ks) s g ∙ rw (sorted-from 0 0 (sortKeys ks) s (omega arith)) (sorted-disjoint ks))
-
--- One row more: its key at its place.
-pub keys-next : (rs : List Row) (keys : List ℕ) (i : ℕ) (d : Row) → i < length rs → i < length keys → take i keys ≡ map targetKey (take i rs)
-    → take (i + 1) (set keys i (targetKey (getD rs i d))) ≡ map targetKey (take (i + 1) rs)
-keys-next rs keys i d h k e =
-    rw (add-one i, take-suc-set keys i (targetKey (getD rs i d)) k, take-suc rs i d h, e) (sym (map-append targetKey (take i rs) (getD rs i d ∷ [])))
 
 -- The sorted keys decide.
 pub sound-chain : (t : Table) (ks s : List ℕ) → length (t .rows) ≡ 64 → t .count ≤ 64 → rising 0 (usedRows t) ≡ true → unusedRows (drop (t .count) (t .rows)) ≡ true

@@ -1,11 +1,9 @@
 -- The theorem of `specs/Theorems.antt`.
-use mathlib.Core.Path.{_≡_}
-use Prim.Native.Nat.{ℕ, _≤_}
 use native.Mathlib.Omega.{arith}
 use native.Mathlib.Nat.{le-refl}
 use lib.ListN.{take}
 use Rattle.table.specs.Table.{usedRows}
-use Rattle.table.specs.Theorems.{OneNumber, Numbering}
+use Rattle.table.specs.Theorems.{Numbering}
 use Rattle.table.proofs.Sound.{sound, sound-rows}
 use Rattle.table.proofs.Numbers.{has-number, one-number, one-category, partners-order}
 

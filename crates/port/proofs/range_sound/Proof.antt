@@ -1,7 +1,7 @@
 -- `port::range_sound` meets its contract.
 use borrow.Author.Needs.{needs}
-use borrow.Author.Tests.{not-true, not-false, eq-eqb, ne-eqb}
-use mathlib.Core.Path.{_≡_, sym, _∙_}
+use borrow.Author.Tests.{not-true, not-false, ne-eqb}
+use mathlib.Core.Path.{sym, _∙_}
 use mathlib.Core.Bool.{and-false}
 use Rattle.port.specs.Port.{rangeSound}
 use Rattle.port.proofs.Laws.{range-at-most, range-ill-low, range-ill-high}

@@ -1,9 +1,6 @@
 -- `renumber::image_keys` meets its contract.
 use borrow.Author.Needs.{needs}
 use native.Mathlib.Omega.{arith}
-use Prim.Native.Nat.{_≤_}
-use mathlib.Core.Path.{_≡_, refl, sym, _∙_, ap}
-use lib.ListN.{length}
 use Rattle.label.specs.Label.{used}
 use Rattle.label.proofs.Labels.{formed}
 use Rattle.table.specs.Table.{usedRows}

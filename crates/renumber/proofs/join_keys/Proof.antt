@@ -1,11 +1,8 @@
 -- `renumber::join_keys` meets its contract.
 use borrow.Author.Needs.{needs}
 use native.Mathlib.Omega.{arith}
-use Prim.Native.Nat.{_≤_, _-_, _+_, _<_}
-use mathlib.Core.Path.{_≡_, refl, sym, _∙_, ap}
-use mathlib.Core.List.{List, [], _∷_}
-use lib.ListN.{take, length, length-set}
-use Rattle.renumber.specs.Keys.{joinAll}
+use Prim.Native.Nat.{_-_}
+use mathlib.Core.Path.{_≡_}
 use Rattle.renumber.proofs.Turns.{Joining, join-start, join-on, join-new, join-end}
 use Rattle.renumber.proofs.join_keys.Statement.{statement}
 use Rattle.renumber.proofs.join_keys.Tie as tie

@@ -1,13 +1,13 @@
 -- `renumber::keys_within` meets its contract. The loop's invariant: what is left of the two lists decides whether the first lies in the second.
 -- The measure is what is left of both. Assumes nothing.
 use native.Mathlib.Omega.{arith}
-use Prim.Native.Nat.{_≤_, _-_, _+_, _<_}
-use mathlib.Core.Path.{_≡_, refl, sym, _∙_}
+use Prim.Native.Nat.{_≤_, _-_, _+_}
+use mathlib.Core.Path.{_≡_, sym}
 use mathlib.Core.Bool.{true, false}
 use mathlib.Core.List.{List, _∷_}
-use lib.ListN.{take, drop, getD, length}
+use lib.ListN.{take, drop, getD}
 use Rattle.label.specs.declared.Run.{Run}
-use Rattle.label.specs.Runs.{spaced, subset}
+use Rattle.label.specs.Runs.{spaced}
 use Rattle.label.proofs.Runs.{Sub, Left, start, pass-over, pass-in, stops-before, stops-past, stops-none, sub-nil, sub-subset, not-subset}
 use Rattle.label.proofs.Steps.{next-used, used-up}
 use Rattle.renumber.specs.Keys.{keyRun, keyRuns, Within}

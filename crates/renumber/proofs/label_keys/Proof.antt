@@ -1,16 +1,16 @@
 -- `renumber::label_keys` meets its contract.
 use borrow.Author.Needs.{needs}
 use native.Mathlib.Omega.{arith}
-use Prim.Native.Nat.{_≤_, _-_, _+_, _<_}
-use mathlib.Core.Path.{_≡_, refl, sym, _∙_}
+use Prim.Native.Nat.{_≤_, _-_}
+use mathlib.Core.Path.{_≡_, refl}
 use mathlib.Core.List.{map}
-use lib.ListN.{take, drop, getD, length, length-set}
+use lib.ListN.{take, length, length-set}
 use lib.Seq.{length-take-le, take-all, getD-take}
 use Rattle.label.specs.Label.{noRun}
 use Rattle.label.proofs.Steps.{length-mapped}
 use Rattle.label.specs.Label.{used}
 use Rattle.renumber.specs.Keys.{runKey}
-use Rattle.renumber.proofs.Held.{keys-next}
+use Rattle.order.proofs.Laws.{keys-next}
 use Rattle.renumber.proofs.label_keys.Statement.{statement}
 use Rattle.renumber.proofs.label_keys.Tie as tie
 
@@ -58,7 +58,7 @@ loop-again c =
       omega arith,
       simp length-set (v .inv .1),
       rw (c .run-key .ensures, ← getD-take (l .count) (l .runs) (v .i) noRun (d .loop-test .taken))
-          (keys-next (used l) (v .keys) (v .i) noRun (omega (arith, used-sized s)) (omega (arith, s .pre .1)) (v .inv .2)),
+          (keys-next runKey (used l) (v .keys) (v .i) noRun (omega (arith, used-sized s)) (omega (arith, s .pre .1)) (v .inv .2)),
     )
 
 same-length : tie.Need-same-length Inv-loop μ-loop

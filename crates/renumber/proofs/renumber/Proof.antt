@@ -2,17 +2,11 @@
 use borrow.Author.Needs.{needs}
 use borrow.Author.Tests.{not-true, not-false}
 use native.Mathlib.Omega.{arith}
-use Prim.Native.Nat.{ℕ, _≤_}
-use mathlib.Core.Path.{_≡_, refl, sym, _∙_, ap}
-use mathlib.Core.Bool.{true, false}
-use mathlib.Core.List.{List}
-use lib.ListN.{length, take}
-use Rattle.label.specs.declared.Run.{Run}
+use mathlib.Core.Path.{_≡_, sym, _∙_, ap}
+use mathlib.Core.Bool.{true}
 use Rattle.label.specs.Label.{wellFormed}
 use Rattle.label.proofs.Labels.{formed}
-use Rattle.table.specs.declared.Partner.the-variants.{Level, Missing}
 use Rattle.table.specs.Table.{tableSound}
-use Rattle.table.specs.Numbers.{partnerOf}
 use Rattle.table.proofs.Sound.{sound}
 use Rattle.renumber.specs.Renumber.{fitted}
 use Rattle.renumber.specs.Keys.{Ready}

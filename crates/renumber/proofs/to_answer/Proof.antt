@@ -1,10 +1,6 @@
 -- `renumber::to_answer` meets its contract.
 use borrow.Author.Needs.{needs}
-use borrow.Author.Tests.{le-leb, lt-leb}
-use native.Mathlib.Omega.{arith}
-use Prim.Native.Nat.{_≤_, _<_}
-use mathlib.Core.Path.{_≡_, sym, _∙_}
-use Rattle.renumber.specs.Keys.{keyRuns}
+use mathlib.Core.Path.{_∙_}
 use Rattle.renumber.proofs.Answers.{fitted-many, fitted-done}
 use Rattle.renumber.proofs.to_answer.Statement.{statement}
 use Rattle.renumber.proofs.to_answer.Tie as tie

@@ -1,9 +1,9 @@
 -- `renumber::to_label` meets its contract.
 use borrow.Author.Needs.{needs}
 use native.Mathlib.Omega.{arith}
-use Prim.Native.Nat.{_≤_, _-_, _+_, _<_}
-use mathlib.Core.Path.{_≡_, refl, sym, _∙_, ap}
-use lib.ListN.{take, length}
+use Prim.Native.Nat.{_≤_, _-_}
+use mathlib.Core.Path.{_≡_, refl}
+use lib.ListN.{take}
 use Rattle.label.specs.Label.{labelOf}
 use Rattle.renumber.specs.Keys.{keyRuns}
 use Rattle.renumber.proofs.Turns.{label-next}

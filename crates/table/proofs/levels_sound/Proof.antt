@@ -1,6 +1,6 @@
 -- `table::levels_sound` meets its contract.
 use borrow.Author.Tests.{not-true, not-false}
-use mathlib.Core.Path.{_≡_, sym, _∙_}
+use mathlib.Core.Path.{sym, _∙_}
 use mathlib.Core.Bool.{true≢false}
 use Rattle.table.specs.Table.{levelsSound}
 use borrow.Author.Needs.{needs}

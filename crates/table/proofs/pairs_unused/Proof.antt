@@ -1,12 +1,12 @@
 use borrow.Author.Needs.{needs}
-use borrow.Author.Tests.{eq-eqb, ne-eqb, le-leb, lt-leb}
+use borrow.Author.Tests.{eq-eqb, ne-eqb}
 use native.Mathlib.Omega.{arith}
-use Prim.Native.Nat.{_≤_, _-_, _+_, _<_}
-use mathlib.Core.Path.{_≡_, refl, sym, _∙_}
-use mathlib.Core.List.{List, [], _∷_}
-use lib.ListN.{take, drop, getD, length, drop-of-length-le}
+use Prim.Native.Nat.{_≤_, _-_, _+_}
+use mathlib.Core.Path.{_≡_, sym, _∙_}
+use mathlib.Core.List.{[], _∷_}
+use lib.ListN.{drop, getD, length, drop-of-length-le}
 use Rattle.table.specs.Table.{unusedPairs}
-use Rattle.label.proofs.Steps.{next, next-used, used-up}
+use Rattle.label.proofs.Steps.{next}
 use Rattle.table.proofs.pairs_unused.Statement.{statement}
 use Rattle.table.proofs.pairs_unused.Tie as tie
 

@@ -1,17 +1,17 @@
 -- `table::rows_rise` meets its contract.
 use borrow.Author.Needs.{needs}
-use borrow.Author.Tests.{eq-eqb, ne-eqb, le-leb, lt-leb}
+use borrow.Author.Tests.{le-leb, lt-leb}
 use native.Mathlib.Omega.{arith}
-use Prim.Native.Nat.{_≤_, _-_, _+_, _<_, _*_, _/_, _%_}
-use mathlib.Core.Path.{_≡_, refl, sym, _∙_, ap}
+use Prim.Native.Nat.{_≤_, _-_, _+_}
+use mathlib.Core.Path.{_≡_, refl, sym, _∙_}
 use mathlib.Core.Bool.{true, false, true≢false}
-use mathlib.Core.List.{List, [], _∷_, map}
-use lib.ListN.{take, drop, getD, set, length, length-map, length-set, drop-of-length-le}
+use mathlib.Core.List.{_∷_, map}
+use lib.ListN.{take, drop, getD, length, length-set}
 use lib.Seq.{length-take-le, take-all, getD-take}
-use Rattle.label.proofs.Steps.{next, next-used, used-up, length-mapped}
-use Rattle.table.specs.Table.{usedRows, rising, unusedRows, rowsSound, targetEnd, noRow}
-use Rattle.table.specs.Keys.{chain, targetKey}
-use Rattle.table.proofs.Rows.{keys-next}
+use Rattle.label.proofs.Steps.{next-used, used-up, length-mapped}
+use Rattle.table.specs.Table.{usedRows, rising, noRow}
+use Rattle.table.specs.Keys.{targetKey}
+use Rattle.order.proofs.Laws.{keys-next}
 use Rattle.table.proofs.rows_rise.Statement.{statement}
 use Rattle.table.proofs.rows_rise.Tie as tie
 
@@ -136,7 +136,7 @@ loop-again c =
       omega arith,
       simp length-set (d .before .loop .inv .1),
       rw (← getD-take (l .count) (l .rows) i noRow (d .loop-test .taken))
-          (keys-next (usedRows l) (d .before .loop .keys) i noRow (omega (arith, used-sized (d .before .before))) (omega (arith, d .before .before .pre .1)) (d .before .loop .inv .2)),
+          (keys-next targetKey (usedRows l) (d .before .loop .keys) i noRow (omega (arith, used-sized (d .before .before))) (omega (arith, d .before .before .pre .1)) (d .before .loop .inv .2)),
       d .before .loop .inv .3 ∙ rw (seen d) (simp (le-leb _ _ (e1 .if1 .left), le-leb _ _ (e2 .if2 .left), le-leb _ _ (e3 .if3 .left), le-leb _ _ (e4 .if4 .left))),
     )
 

@@ -1,17 +1,13 @@
 -- `table::rows_unused` meets its contract.
 use borrow.Author.Needs.{needs}
-use borrow.Author.Tests.{eq-eqb, ne-eqb, le-leb, lt-leb}
+use borrow.Author.Tests.{eq-eqb, ne-eqb}
 use native.Mathlib.Omega.{arith}
-use Prim.Native.Nat.{_≤_, _-_, _+_, _<_, _*_, _/_, _%_}
-use mathlib.Core.Path.{_≡_, refl, sym, _∙_, ap}
-use mathlib.Core.Bool.{true, false, true≢false}
-use mathlib.Core.List.{List, [], _∷_, map}
-use lib.ListN.{take, drop, getD, set, length, length-map, length-set, drop-of-length-le}
-use lib.Seq.{length-take-le, take-all, getD-take}
-use Rattle.label.proofs.Steps.{next, next-used, used-up, length-mapped}
-use Rattle.table.specs.Table.{usedRows, rising, unusedRows, rowsSound, targetEnd, noRow}
-use Rattle.table.specs.Keys.{chain, targetKey}
-use Rattle.table.proofs.Rows.{keys-next}
+use Prim.Native.Nat.{_≤_, _-_, _+_}
+use mathlib.Core.Path.{_≡_, sym, _∙_}
+use mathlib.Core.List.{_∷_}
+use lib.ListN.{drop, getD, length, drop-of-length-le}
+use Rattle.label.proofs.Steps.{next, length-mapped}
+use Rattle.table.specs.Table.{unusedRows, noRow}
 use Rattle.table.proofs.rows_unused.Statement.{statement}
 use Rattle.table.proofs.rows_unused.Tie as tie
 
