@@ -27,20 +27,21 @@ pub record Lengths (t n m : ℕ) : Type 0 where
 
 pub lengths : (t n m : ℕ) → (goodLength t n && leb (n + 6) m) ≡ true → Lengths t n m
 lengths t n m e =
-    let g : goodLength t n ≡ true = and-left (goodLength t n) _ e in
-    let r : ((eqb t 1 || isEven n) && leb n (cond (eqb t 5) 32 34)) ≡ true = and-right (leb 4 n) _ g in
-    let s : leb n (cond (eqb t 5) 32 34) ≡ true = and-right (eqb t 1 || isEven n) _ r in
+    let g = and-left (goodLength t n) _ e in
+    let r = and-right (leb 4 n) _ g in
+    let q = and-left (eqb t 1 || isEven n) _ r in
+    let s = and-right (eqb t 1 || isEven n) _ r in
     record {
       least = leb-true _ _ (and-left (leb 4 n) _ g);
-      most = top (eqb t 5) s;
-      even = λ z. eqb-true _ _ (let q : (eqb t 1 || isEven n) ≡ true = and-left (eqb t 1 || isEven n) _ r in rw (ne-eqb t 1 z) at q);
+      most = either _ _ (omega arith) (omega arith) (eqb t 5) s;
+      even = λ z. eqb-true _ _ (rw (ne-eqb t 1 z) at q);
       five = λ z. leb-true _ _ (rw (eq-eqb t 5 z) at s);
       inside = leb-true _ _ (and-right (goodLength t n) _ e);
     }
   where
-    top : (z : Bool) → leb n (cond z 32 34) ≡ true → n ≤ 34
-    top true p = omega (arith, leb-true n 32 p)
-    top false p = leb-true _ _ p
+    either : (x y : ℕ) → x ≤ 34 → y ≤ 34 → (z : Bool) → leb n (cond z x y) ≡ true → n ≤ 34
+    either x y h k true p = omega (arith, leb-true n x p)
+    either x y h k false p = omega (arith, leb-true n y p)
 
 pub good-lengths : (t n m : ℕ) → Lengths t n m → (goodLength t n && leb (n + 6) m) ≡ true
 good-lengths t n m l = rw (le-leb 4 n (l .least), le-leb (n + 6) m (l .inside)) (simp mathlib.Core.Bool.and-true (go (eqb t 1) refl (eqb t 5) refl))

@@ -3,9 +3,9 @@ use Prim.Native.Nat.{ℕ, zero, suc, _+_, _*_, _/_, _%_, _≤_, _<_, zero-le}
 use mathlib.Core.Path.{_≡_, refl, ap, sym, _∙_}
 use mathlib.Core.List.{List, []}
 use mathlib.Core.Bool.{Bool, true, false, cond}
-use mathlib.Core.Logic.{_⊎_, inl, inr}
+use mathlib.Core.Logic.{_⊎_, inl, inr, ⊎-elim}
 use lib.ListN.{length}
-use lib.Dec.{eqb}
+use lib.Dec.{leb, ltb, eqb}
 use native.Mathlib.Omega.{arith}
 use native.Mathlib.Numerals.{add-one}
 use Rattle.label.specs.declared.Run.{Run}
@@ -13,7 +13,7 @@ use Rattle.label.specs.Runs.{pushRun, joined}
 use Rattle.label.proofs.Bools.{less-or}
 use Rattle.label.proofs.Canon.{canon-length}
 use Rattle.label.proofs.Push.{push-length, push-more}
-use borrow.Author.Tests.{eq-eqb, ne-eqb}
+use borrow.Author.Tests.{eq-eqb, ne-eqb, le-leb, lt-leb, lt-ltb, le-ltb}
 use Rattle.option.specs.Bitmap.{bitAt}
 use Rattle.option.specs.Option.{numbersIn, singles, pairsIn}
 use Rattle.option.specs.Reading.{turned, bitPieces, pieces}
@@ -111,3 +111,7 @@ module _ (t : ℕ) (b : List ℕ) where
       go : (z : Bool) → rangeRuns (λ k. cond z (numberAt b k) (lowPair b k)) (λ k. cond z (numberAt b k) (highPair b k)) (cond z (length b / 2) (pairsOf b)) ≡ joined (cond z (turned [] (singles (numbersIn b))) (pairsIn (numbersIn b)))
       go true = numbers-joined b even
       go false = pairs-joined b even
+
+-- below the next number is at most this one
+pub below-next : (a b : ℕ) → ltb a (b + 1) ≡ leb a b
+below-next a b = ⊎-elim (λ w. lt-ltb a (b + 1) (omega arith) ∙ sym (le-leb a b (omega arith))) (λ w. le-ltb a (b + 1) w ∙ sym (lt-leb a b (omega arith))) (less-or a (b + 1))

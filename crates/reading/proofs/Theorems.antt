@@ -13,11 +13,12 @@ use Rattle.label.specs.Label.{labelOf}
 use Rattle.label.proofs.Bools.{less-or}
 use Rattle.label.proofs.Labels.{formed}
 use Rattle.option.specs.Option.{Octets, domainOf, levelOf, valid, Means}
-use Rattle.option.specs.Reading.{runsOf}
+use Rattle.option.specs.Reading.{pieces, runsOf}
 use Rattle.option.proofs.Meaning.{parts}
 use Rattle.reading.specs.declared.Reading.{Reading}
 use Rattle.reading.specs.Reading.{found, refusal, firstOf, tagChecks, labelIn, readingBy, framed, readingOf, readingFor}
 use Rattle.reading.specs.Theorems.{ReadsAlone, ReadsFor, Reads}
+use Rattle.reading.specs.Examples.{examples, Holds}
 use Rattle.reading.proofs.Checks.{Framed, parts-framed, framed-parts, stops3, alone, for-port, stops7, stops8, goes-on}
 use Rattle.reading.proofs.Valid.{zero-passed, passed-valid, valid-passes, read-means, means-read}
 
@@ -101,5 +102,13 @@ reads-for d =
       back = λ o l m e. port-reads d o (m .octets) (m .good) (m .domain ∙ e) ∙ ap found (means-read o l m);
     }
 
+-- an option of another domain is refused as such
+pub port-foreign : (d : ℕ) (o : List ℕ) → valid o ≡ true → (domainOf o ≡ d → ⊥) → readingFor d o ≡ refusal 8 2
+port-foreign d o v n = for-port d o ∙ stops8 o (not (eqb (domainOf o) d)) (ap not (ne-eqb (domainOf o) d n)) (parts o v .long)
+
 pub reads : Reads
 reads = record { alone = reads-alone; for = reads-for }
+
+pub examples-hold : Holds examples
+unfolding readingOf readingBy tagChecks labelIn pieces
+examples-hold = (refl, (refl, (refl, (refl, (refl, (refl, (refl, (refl, (refl, (refl, (refl, (refl, (refl, (refl, (refl, (refl, (refl, (refl, (refl, (refl, (refl, (refl, (refl, (refl, (refl, (refl, (refl, tt)))))))))))))))))))))))))))

@@ -231,7 +231,7 @@ fn bad_number(octets: &[u8], k: usize) -> bool
     x <= y
 }
 
-// Tag 5: a top that is 65535, below its bottom, or not below the bottom before it.
+// Tag 5: a top that is 65535, below its bottom, or not below the bottom before it; the category after the top may be that bottom.
 fn bad_pair(octets: &[u8], j: usize) -> bool
     requires { ⌜ j ≤ 40 ⌝ }
     ensures { λ r. ⌜ r ≡ badPair (now (octets .entry)) j ⌝ }
@@ -248,7 +248,8 @@ fn bad_pair(octets: &[u8], j: usize) -> bool
         return false;
     }
     let before = number_at(octets, 2 * (j - 1) + 1);
-    before <= top
+    let next = (top as u32) + 1;
+    (before as u32) < next
 }
 
 // Whether number k of a tag 2, or pair k of a tag 5, is bad.

@@ -3,7 +3,9 @@ use borrow.Author.Needs.{needs}
 use native.Mathlib.Omega.{arith}
 use mathlib.Core.Path.{_≡_, sym, _∙_}
 use borrow.Author.Tests.{eq-eqb, ne-eqb, lt-ltb, le-ltb}
+use Prim.Native.Nat.{_-_}
 use Rattle.option.specs.Index.{topAt, bottomAt}
+use Rattle.reading.proofs.Loops.{below-next}
 use Rattle.reading.proofs.bad_pair.Statement.{statement}
 use Rattle.reading.proofs.bad_pair.Tie as tie
 
@@ -53,12 +55,22 @@ add-number-at-2 c = search needs
 number-at-requires-3 : tie.Need-number-at-requires-3
 number-at-requires-3 c κs = search needs
 
+cast-next : tie.Need-cast-next
+cast-next c = search needs
+
+add-next : tie.Need-add-next
+add-next c = search needs
+
+cast-result : tie.Need-cast-result
+cast-result c = search needs
+
 returns-4 : tie.Need-returns-4
 returns-4 c =
     let s = c .before .before .before .before .before .before .before .args .octets .now in
     let j = c .before .before .before .before .before .before .before .args .j in
     let z : (j ≡ 0 → ⊥) = c .before .if3 .left in
     rw (ne-eqb (topAt s j) 65535 (λ e. c .before .before .before .if1 .left (c .before .before .before .before .before .number-at .ensures ∙ e)), le-ltb (topAt s j) (bottomAt s j) (omega (arith, c .before .before .before .before .before .number-at .ensures, c .before .before .before .before .number-at2 .ensures, c .before .before .if2 .left)), lt-ltb 0 j (omega arith), c .number-at3 .ensures, c .before .before .before .before .before .number-at .ensures)
+    (below-next (bottomAt s (j - 1)) (topAt s j))
 
 pub bad-pair-spec : {M : Type 1} → statement M
 bad-pair-spec =
@@ -76,4 +88,7 @@ bad-pair-spec =
     mul-number-at-3
     add-number-at-2
     number-at-requires-3
+    cast-next
+    add-next
+    cast-result
     returns-4)
