@@ -14,7 +14,8 @@ use Rattle.option.specs.Spelling.{tagFor, bodyFor, spelledBy, spellingOf, padde
 use Rattle.option.proofs.Theorems.{spelled-is, spelled-none, spelled-some}
 use Rattle.spelling.specs.declared.Spelling.{Spelling}
 use Rattle.spelling.specs.Parts.{zeroed}
-use Rattle.spelling.specs.Spelling.{spelledOf, lengthOf, spellingNumber, spellingAnswer, spellingOut, Writes}
+use Rattle.option.specs.Spelling.{spelledOf}
+use Rattle.spelling.specs.Spelling.{lengthOf, spellingNumber, spellingAnswer, spellingOut, Writes}
 use Rattle.spelling.proofs.Bodies.{body-short}
 use Rattle.spelling.proofs.Writing.{zero-after}
 

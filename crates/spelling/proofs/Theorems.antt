@@ -13,7 +13,8 @@ use Rattle.label.specs.declared.Label.{Label}
 use Rattle.label.specs.Label.{used, wellFormed}
 use Rattle.option.specs.Spelling.{padded}
 use Rattle.spelling.specs.declared.Spelling.{Spelling}
-use Rattle.spelling.specs.Spelling.{spelledOf, lacking, spellingNumber, spellingAnswer, spellingOut}
+use Rattle.option.specs.Spelling.{spelledOf}
+use Rattle.spelling.specs.Spelling.{lacking, spellingNumber, spellingAnswer, spellingOut}
 use Rattle.spelling.specs.Theorems.{SpellingAlone}
 use Rattle.spelling.proofs.Answers.{spelled-bounds, number-short, number-ill, number-none, number-done, answer-refused, answer-done, out-refused, out-done}
 

@@ -7,13 +7,9 @@ use mathlib.Core.Option.{Option, none, some}
 use lib.ListN.{length, drop}
 use lib.Dec.{ltb, eqb}
 use Rattle.label.specs.declared.Label.{Label}
-use Rattle.label.specs.Label.{used, wellFormed}
-use Rattle.option.specs.Spelling.{spellingOf, padded}
+use Rattle.label.specs.Label.{wellFormed}
+use Rattle.option.specs.Spelling.{padded, spelledOf}
 use Rattle.spelling.specs.declared.Spelling.{Spelling}
-
--- the one spelling of the label, where it has one
-abbrev pub spelledOf : Label → Option (List ℕ)
-spelledOf l = spellingOf (l .domain) (l .level) (used l)
 
 abbrev pub lengthOf : Option (List ℕ) → ℕ
 lengthOf none = 0

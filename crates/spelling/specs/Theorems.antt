@@ -9,7 +9,8 @@ use lib.ListN.{length, take, drop}
 use Rattle.label.specs.declared.Label.{Label}
 use Rattle.label.specs.Label.{wellFormed}
 use Rattle.option.specs.Spelling.{padded}
-use Rattle.spelling.specs.Spelling.{spelledOf, lacking, spellingAnswer, spellingOut}
+use Rattle.option.specs.Spelling.{spelledOf}
+use Rattle.spelling.specs.Spelling.{lacking, spellingAnswer, spellingOut}
 
 pub record SpellingAlone : Type 0 where
   -- a well-formed label and at least 40 octets of output: done exactly where the label has a spelling

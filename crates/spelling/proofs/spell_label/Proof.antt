@@ -9,7 +9,7 @@ use mathlib.Core.Bool.{true}
 use mathlib.Core.Option.{none}
 use lib.ListN.{length}
 use Rattle.label.specs.Label.{wellFormed}
-use Rattle.spelling.specs.Spelling.{spelledOf}
+use Rattle.option.specs.Spelling.{spelledOf}
 use Rattle.spelling.proofs.Answers.{number-short, number-ill, number-none, refused, nothing-written, something-written, completed}
 use Rattle.spelling.proofs.spell_label.Statement.{statement}
 use Rattle.spelling.proofs.spell_label.Tie as tie

@@ -9,7 +9,7 @@ use Rattle.label.specs.Label.{used}
 use Rattle.label.proofs.Labels.{formed}
 use Rattle.option.specs.Spelling.{tagFor, bodyFor}
 use Rattle.option.proofs.Theorems.{spelled-none, spelled-some}
-use Rattle.spelling.specs.Spelling.{spelledOf}
+use Rattle.option.specs.Spelling.{spelledOf}
 use Rattle.spelling.proofs.Sizes.{choice-tag, choice-size}
 use Rattle.spelling.proofs.Bodies.{body-short}
 use Rattle.spelling.proofs.Writing.{put-long, option-written}
