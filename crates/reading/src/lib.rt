@@ -322,7 +322,7 @@ fn good_length(tag: u8, size: usize, n: usize) -> bool
     requires { ⌜ size < 256 ⌝ }
     ensures { λ r. ⌜ r ≡ (goodLength tag size && leb (size + 6) n) ⌝ }
 {
-    if n < size + 6 {
+    if n < size + option::TAG_TYPE_AT {
         return false;
     }
     if size < 4 {
@@ -352,7 +352,7 @@ fn widen(x: u8) -> u32
     x as u32
 }
 
-// The four octets of the domain.
+// The domain: four octets from octets[2] on, big-endian.
 fn domain_in(octets: &[u8]) -> u32
     requires { ⌜ 10 ≤ length (now octets) ⌝ }
     ensures { λ r. ⌜ r ≡ domainOf (now (octets .entry)) ⌝ }
@@ -381,7 +381,7 @@ fn read_tag(octets: &[u8], domain: u32) -> Reading
     if octets[option::ALIGNMENT_AT] != 0 {
         return refuse(11, option::ALIGNMENT_AT);
     }
-    let end = size + 6;
+    let end = size + option::TAG_TYPE_AT;
     let categories = &octets[option::CATEGORIES_AT..end];
     let place = bad_place(tag, categories);
     if place < categories.len() {
@@ -413,7 +413,7 @@ pub fn read_option(octets: &[u8]) -> Reading
     if size != n {
         return refuse(3, 0);
     }
-    if n < 10 {
+    if n < option::CATEGORIES_AT {
         return refuse(7, option::LENGTH_AT);
     }
     let domain = domain_in(octets);
@@ -427,7 +427,7 @@ pub fn read_option(octets: &[u8]) -> Reading
 pub fn read_option_of(octets: &[u8], domain: u32) -> Reading
     ensures { λ r. ⌜ r ≡ readingFor domain (now (octets .entry)) ⌝ }
 {
-    if octets.len() < 10 {
+    if octets.len() < option::CATEGORIES_AT {
         return refuse(7, option::LENGTH_AT);
     }
     if domain_in(octets) != domain {
