@@ -111,6 +111,7 @@ pub record Delivery : Type 0 where
   pub icmp : Bool
   pub area : List ℕ
 
+-- 1, of a delivery: nothing is built, so there is no output
 unfoldable pub deliverySizes : Delivery → Option Refusal
 deliverySizes d = when (badArea (d .area)) (silent 1)
 

@@ -30,12 +30,14 @@ pub record Forwarding : Type 0 where
   pub area : List ℕ
   pub room : ℕ
 
+-- 1: the area is over 40 octets or not a multiple of 4, or the output is under 40 octets
 unfoldable pub sizes : Forwarding → Option Refusal
 sizes f = when (badArea (f .area) || ltb (f .room) 40) (silent 1)
 
 abbrev pub sameDomain : Forwarding → Bool
 sameDomain f = eqb (f .arriving .domain) (f .leaving .domain)
 
+-- 2: a record that is read is unsound: both ports, and the table when their domains differ
 unfoldable pub records : Forwarding → Option Refusal
 records f =
     when (not (portSound (f .arriving) && (portSound (f .leaving) && (sameDomain f || tableSound (f .table) (f .levels))))) (silent 2)
@@ -58,6 +60,7 @@ crossing f =
       levels = f .levels;
     }
 
+-- the domains are equal
 abbrev pub stays : Crossing → Bool
 stays x = eqb (x .domain) (x .leaving .domain)
 

@@ -196,7 +196,7 @@ ends-most (r ∷ []) = go (eqb (r .low) 0)
     go false = omega arith
 ends-most (r ∷ s ∷ ds) = omega (arith, ends-most (s ∷ ds))
 
--- what the study's writer writes, m numbers of it, is the body of tag 5
+-- the first m numbers, written by index, are the body of tag 5
 pub pairs-out : (rs : List Run) (m : ℕ) → 2 * m ≡ size5 rs → numbersOut (pairNumber rs) m ≡ octetsOut (endsOf (turned [] rs))
 pairs-out rs m e =
     let l : m ≡ length (endsOf (turned [] rs)) = omega (arith, ends-length rs) in
