@@ -1,0 +1,480 @@
+// Cases: one call of one entry each, read from octets and answered in one line.
+//
+// The input is a sequence of cases, each led by its length in two octets, then one octet for the entry. Every number is big-endian.
+// A case that doesn't parse gives BROKEN and the next is read; one cut off gives it and ends.
+//
+//   1 contains   label, category (2)                                        YES or NO
+//   2 within     label, label                                               YES or NO
+//   3 renumber   label, table                                               number, label
+//   4 spell      label, output                                              number, count, output
+//   5 read       n (1), n octets                                            number, pointer, label
+//   6 forward    port, port, table, mark (1), n (1), n octets, output       number, type, code, pointer, count, label, output
+//   7 deliver    port, host, mark (1), n (1), n octets                      number, type, code, pointer, count, label
+//
+//   label    domain (4), level (1), count (1), stored (1, at most 120), that many runs of low (2) and high (2)
+//   port     domain (4), lowest label, highest label, required (1), assigned label
+//   host     lowest label, highest label
+//   table    from (4), to (4), level pair count (1), stored (1, at most 16), that many pairs (1 + 1),
+//            row count (2), stored (1, at most 64), that many rows of low (2), high (2), target low (2)
+//   output   length (2, at most 512), the octet that fills it (1)
+//
+// Places that are not stored are 0. Counts are free: a count over its limit is what the entries must refuse.
+
+use std::io::{self, Read, Write};
+
+use crate::decision::{deliver, forward, Decision};
+use crate::label::{HeldLabel, Run, MAX_RUNS};
+use crate::option::{read_alone, spell_alone};
+use crate::records::{renumber_alone, HostRecord, PortRecord, Row, TableRecord, MAX_LEVEL_PAIRS, MAX_ROWS};
+
+pub const CONTAINS: u8 = 1;
+pub const WITHIN: u8 = 2;
+pub const RENUMBER: u8 = 3;
+pub const SPELL: u8 = 4;
+pub const READ: u8 = 5;
+pub const FORWARD: u8 = 6;
+pub const DELIVER: u8 = 7;
+
+pub const MAX_OUTPUT: usize = 512;
+pub const BROKEN: &str = "BROKEN";
+
+#[derive(Clone, Copy)]
+pub struct Output {
+    pub length: usize,
+    pub fill: u8,
+}
+
+#[derive(Clone)]
+pub struct ForwardCase {
+    pub arriving: PortRecord,
+    pub leaving: PortRecord,
+    pub table: TableRecord,
+    pub icmp_mark: bool,
+    pub area: Vec<u8>,
+    pub output: Output,
+}
+
+#[derive(Clone)]
+pub struct DeliverCase {
+    pub port: PortRecord,
+    pub host: HostRecord,
+    pub icmp_mark: bool,
+    pub area: Vec<u8>,
+}
+
+#[derive(Clone)]
+pub enum Case {
+    Contains(HeldLabel, u16),
+    Within(HeldLabel, HeldLabel),
+    Renumber(HeldLabel, TableRecord),
+    Spell(HeldLabel, Output),
+    Read(Vec<u8>),
+    Forward(Box<ForwardCase>),
+    Deliver(Box<DeliverCase>),
+}
+
+/// Takes fields from the front of a case. None where a field is cut off or a number is over its limit.
+struct Fields<'a> {
+    rest: &'a [u8],
+}
+
+impl<'a> Fields<'a> {
+    fn octets(&mut self, count: usize) -> Option<&'a [u8]> {
+        if count > self.rest.len() {
+            return None;
+        }
+        let (taken, rest) = self.rest.split_at(count);
+        self.rest = rest;
+        Some(taken)
+    }
+
+    fn one(&mut self) -> Option<u8> {
+        self.octets(1).map(|octets| octets[0])
+    }
+
+    fn two(&mut self) -> Option<u16> {
+        self.octets(2).map(|octets| u16::from_be_bytes([octets[0], octets[1]]))
+    }
+
+    fn four(&mut self) -> Option<u32> {
+        self.octets(4).map(|octets| u32::from_be_bytes([octets[0], octets[1], octets[2], octets[3]]))
+    }
+
+    fn stored(&mut self, limit: usize) -> Option<usize> {
+        self.one().map(|stored| stored as usize).filter(|stored| *stored <= limit)
+    }
+
+    fn flag(&mut self) -> Option<bool> {
+        match self.one()? {
+            0 => Some(false),
+            1 => Some(true),
+            _ => None,
+        }
+    }
+
+    fn counted_octets(&mut self) -> Option<Vec<u8>> {
+        let count = self.one()? as usize;
+        self.octets(count).map(|octets| octets.to_vec())
+    }
+
+    fn label(&mut self) -> Option<HeldLabel> {
+        let (domain, level, count) = (self.four()?, self.one()?, self.one()?);
+        let mut label = HeldLabel { domain, level, count, ..HeldLabel::ALL_ZERO };
+        for place in 0..self.stored(MAX_RUNS)? {
+            label.places[place] = Run { low: self.two()?, high: self.two()? };
+        }
+        Some(label)
+    }
+
+    fn port(&mut self) -> Option<PortRecord> {
+        Some(PortRecord {
+            domain: self.four()?,
+            lowest: self.label()?,
+            highest: self.label()?,
+            required: self.flag()?,
+            assigned: self.label()?,
+        })
+    }
+
+    fn host(&mut self) -> Option<HostRecord> {
+        Some(HostRecord { lowest: self.label()?, highest: self.label()? })
+    }
+
+    fn table(&mut self) -> Option<TableRecord> {
+        let mut table = TableRecord { from: self.four()?, to: self.four()?, ..TableRecord::ALL_ZERO };
+        table.level_count = self.one()?;
+        for place in 0..self.stored(MAX_LEVEL_PAIRS)? {
+            table.levels[place] = [self.one()?, self.one()?];
+        }
+        table.row_count = self.two()?;
+        for place in 0..self.stored(MAX_ROWS)? {
+            table.rows[place] = Row { low: self.two()?, high: self.two()?, target_low: self.two()? };
+        }
+        Some(table)
+    }
+
+    fn output(&mut self) -> Option<Output> {
+        let length = self.two()? as usize;
+        if length > MAX_OUTPUT {
+            return None;
+        }
+        Some(Output { length, fill: self.one()? })
+    }
+}
+
+/// The case that the octets after a length mean, or none where they don't parse.
+pub fn parse(octets: &[u8]) -> Option<Case> {
+    let mut fields = Fields { rest: octets };
+    let case = match fields.one()? {
+        CONTAINS => Case::Contains(fields.label()?, fields.two()?),
+        WITHIN => Case::Within(fields.label()?, fields.label()?),
+        RENUMBER => Case::Renumber(fields.label()?, fields.table()?),
+        SPELL => Case::Spell(fields.label()?, fields.output()?),
+        READ => Case::Read(fields.counted_octets()?),
+        FORWARD => Case::Forward(Box::new(ForwardCase {
+            arriving: fields.port()?,
+            leaving: fields.port()?,
+            table: fields.table()?,
+            icmp_mark: fields.flag()?,
+            area: fields.counted_octets()?,
+            output: fields.output()?,
+        })),
+        DELIVER => Case::Deliver(Box::new(DeliverCase {
+            port: fields.port()?,
+            host: fields.host()?,
+            icmp_mark: fields.flag()?,
+            area: fields.counted_octets()?,
+        })),
+        _ => return None,
+    };
+    if fields.rest.is_empty() {
+        Some(case)
+    } else {
+        None
+    }
+}
+
+/// Writes cases. `spare` is a number of unused places that are stored as zeros though they need not be.
+pub struct Encoder {
+    pub octets: Vec<u8>,
+    pub spare: usize,
+}
+
+impl Encoder {
+    fn two(&mut self, number: u16) {
+        self.octets.extend(number.to_be_bytes());
+    }
+
+    fn four(&mut self, number: u32) {
+        self.octets.extend(number.to_be_bytes());
+    }
+
+    fn stored(&self, needed: usize, limit: usize) -> usize {
+        (needed + self.spare).min(limit)
+    }
+
+    pub fn label(&mut self, label: &HeldLabel) {
+        let needed = label.places.iter().rposition(|run| *run != Run::ZERO).map_or(0, |last| last + 1);
+        let stored = self.stored(needed, MAX_RUNS);
+        self.four(label.domain);
+        self.octets.extend([label.level, label.count, stored as u8]);
+        for run in &label.places[..stored] {
+            self.two(run.low);
+            self.two(run.high);
+        }
+    }
+
+    pub fn port(&mut self, port: &PortRecord) {
+        self.four(port.domain);
+        self.label(&port.lowest);
+        self.label(&port.highest);
+        self.octets.push(port.required as u8);
+        self.label(&port.assigned);
+    }
+
+    fn host(&mut self, host: &HostRecord) {
+        self.label(&host.lowest);
+        self.label(&host.highest);
+    }
+
+    fn table(&mut self, table: &TableRecord) {
+        self.four(table.from);
+        self.four(table.to);
+        let needed = table.levels.iter().rposition(|pair| *pair != [0, 0]).map_or(0, |last| last + 1);
+        let stored = self.stored(needed, MAX_LEVEL_PAIRS);
+        self.octets.extend([table.level_count, stored as u8]);
+        for pair in &table.levels[..stored] {
+            self.octets.extend(pair);
+        }
+        let needed = table.rows.iter().rposition(|row| *row != Row::ZERO).map_or(0, |last| last + 1);
+        let stored = self.stored(needed, MAX_ROWS);
+        self.two(table.row_count);
+        self.octets.push(stored as u8);
+        for row in &table.rows[..stored] {
+            self.two(row.low);
+            self.two(row.high);
+            self.two(row.target_low);
+        }
+    }
+
+    fn counted_octets(&mut self, octets: &[u8]) {
+        self.octets.push(octets.len() as u8);
+        self.octets.extend(octets);
+    }
+
+    fn output(&mut self, output: Output) {
+        self.two(output.length as u16);
+        self.octets.push(output.fill);
+    }
+}
+
+/// The octets of a case after its length: `parse` gives the case back.
+pub fn encode(case: &Case, spare: usize) -> Vec<u8> {
+    let mut encoder = Encoder { octets: Vec::new(), spare };
+    match case {
+        Case::Contains(label, category) => {
+            encoder.octets.push(CONTAINS);
+            encoder.label(label);
+            encoder.two(*category);
+        }
+        Case::Within(label, bound) => {
+            encoder.octets.push(WITHIN);
+            encoder.label(label);
+            encoder.label(bound);
+        }
+        Case::Renumber(label, table) => {
+            encoder.octets.push(RENUMBER);
+            encoder.label(label);
+            encoder.table(table);
+        }
+        Case::Spell(label, output) => {
+            encoder.octets.push(SPELL);
+            encoder.label(label);
+            encoder.output(*output);
+        }
+        Case::Read(octets) => {
+            encoder.octets.push(READ);
+            encoder.counted_octets(octets);
+        }
+        Case::Forward(case) => {
+            encoder.octets.push(FORWARD);
+            encoder.port(&case.arriving);
+            encoder.port(&case.leaving);
+            encoder.table(&case.table);
+            encoder.octets.push(case.icmp_mark as u8);
+            encoder.counted_octets(&case.area);
+            encoder.output(case.output);
+        }
+        Case::Deliver(case) => {
+            encoder.octets.push(DELIVER);
+            encoder.port(&case.port);
+            encoder.host(&case.host);
+            encoder.octets.push(case.icmp_mark as u8);
+            encoder.counted_octets(&case.area);
+        }
+    }
+    encoder.octets
+}
+
+/// A line of words parted by one blank; numbers are decimal.
+pub struct Line {
+    pub text: String,
+}
+
+impl Line {
+    pub fn new() -> Line {
+        Line { text: String::new() }
+    }
+
+    pub fn word(&mut self, word: &str) {
+        if !self.text.is_empty() {
+            self.text.push(' ');
+        }
+        self.text.push_str(word);
+    }
+
+    pub fn number(&mut self, number: usize) {
+        self.word(&number.to_string());
+    }
+
+    /// "a label is its domain, level, count and then low and high of each of the first `count` runs (no more than 120)"
+    pub fn label(&mut self, label: &HeldLabel) {
+        self.number(label.domain as usize);
+        self.number(label.level as usize);
+        self.number(label.count as usize);
+        for run in label.places.iter().take(label.count as usize) {
+            self.number(run.low as usize);
+            self.number(run.high as usize);
+        }
+    }
+
+    /// "an output is all its octets in lower-case hex, after a refusal too, or `-` where it has none"
+    pub fn output(&mut self, output: &[u8]) {
+        if output.is_empty() {
+            self.word("-");
+        } else {
+            self.word(&hex(output));
+        }
+    }
+
+    fn decision(&mut self, decision: &Decision) {
+        self.number(decision.number as usize);
+        self.number(decision.icmp_type as usize);
+        self.number(decision.icmp_code as usize);
+        self.number(decision.pointer as usize);
+        self.number(decision.count);
+        self.label(&decision.label);
+    }
+}
+
+pub fn hex(octets: &[u8]) -> String {
+    const DIGITS: &[u8; 16] = b"0123456789abcdef";
+    let mut text = String::with_capacity(2 * octets.len());
+    for octet in octets {
+        text.push(DIGITS[(octet >> 4) as usize] as char);
+        text.push(DIGITS[(octet & 15) as usize] as char);
+    }
+    text
+}
+
+fn yes_or_no(answer: bool) -> &'static str {
+    if answer {
+        "YES"
+    } else {
+        "NO"
+    }
+}
+
+/// The line that answers a case.
+pub fn answer(case: &Case) -> String {
+    let mut line = Line::new();
+    match case {
+        Case::Contains(label, category) => line.word(yes_or_no(label.contains(*category))),
+        Case::Within(label, bound) => line.word(yes_or_no(label.within(bound))),
+        Case::Renumber(label, table) => {
+            let (number, renumbered) = renumber_alone(label, table);
+            line.number(number as usize);
+            line.label(&renumbered);
+        }
+        Case::Spell(label, output) => {
+            let mut octets = vec![output.fill; output.length];
+            let (number, count) = spell_alone(label, &mut octets);
+            line.number(number as usize);
+            line.number(count);
+            line.output(&octets);
+        }
+        Case::Read(octets) => {
+            let (number, pointer, held) = match read_alone(octets) {
+                Ok(label) => (0, 0, label.held().expect("a valid option means at most 120 runs")),
+                Err(fault) => (fault.number, fault.offset, HeldLabel::ALL_ZERO),
+            };
+            line.number(number as usize);
+            line.number(pointer);
+            line.label(&held);
+        }
+        Case::Forward(case) => {
+            let mut octets = vec![case.output.fill; case.output.length];
+            let decision = forward(&case.arriving, &case.leaving, &case.table, case.icmp_mark, &case.area, &mut octets);
+            line.decision(&decision);
+            line.output(&octets);
+        }
+        Case::Deliver(case) => {
+            let decision = deliver(&case.port, &case.host, case.icmp_mark, &case.area);
+            line.decision(&decision);
+        }
+    }
+    line.text
+}
+
+/// The line for the octets after a length.
+pub fn line_of(octets: &[u8]) -> String {
+    match parse(octets) {
+        Some(case) => answer(&case),
+        None => BROKEN.to_string(),
+    }
+}
+
+/// One case of the input.
+pub enum Next {
+    /// The octets after the length.
+    Whole(Vec<u8>),
+    /// The length is cut off or runs past the end of input. What there is of the case, with its length.
+    CutOff(Vec<u8>),
+    /// The end of input where a case would begin.
+    End,
+}
+
+/// Reads up to `count` octets: fewer only at the end of input.
+pub fn read_up_to(input: &mut impl Read, count: usize) -> io::Result<Vec<u8>> {
+    let mut octets = Vec::with_capacity(count);
+    input.take(count as u64).read_to_end(&mut octets)?;
+    Ok(octets)
+}
+
+pub fn next_case(input: &mut impl Read) -> io::Result<Next> {
+    let mut lead = read_up_to(input, 2)?;
+    if lead.is_empty() {
+        return Ok(Next::End);
+    }
+    if lead.len() < 2 {
+        return Ok(Next::CutOff(lead));
+    }
+    let length = u16::from_be_bytes([lead[0], lead[1]]) as usize;
+    let octets = read_up_to(input, length)?;
+    if octets.len() < length {
+        lead.extend(octets);
+        return Ok(Next::CutOff(lead));
+    }
+    Ok(Next::Whole(octets))
+}
+
+/// Answers every case of the input with one line.
+pub fn run(input: &mut impl Read, output: &mut impl Write) -> io::Result<()> {
+    loop {
+        match next_case(input)? {
+            Next::Whole(octets) => writeln!(output, "{}", line_of(&octets))?,
+            Next::CutOff(_) => return writeln!(output, "{}", BROKEN),
+            Next::End => return Ok(()),
+        }
+    }
+}

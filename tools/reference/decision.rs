@@ -1,0 +1,188 @@
+// The two jobs: forward and deliver.
+//
+// Document 01, "The order of checks, and each number". "The lowest number wins": the checks stand in the order of their numbers.
+
+use crate::area::{build, size_fits, walk, Walk};
+use crate::label::{HeldLabel, Label};
+use crate::option::{read, spell, Fault, MAX_OCTETS};
+use crate::records::{HostRecord, Port, PortRecord, TableRecord};
+
+/// "Pointers count from the header's start: 20 plus the offset in the area."
+const HEADER_OCTETS: usize = 20;
+/// "Gateway code is 9, host code 10."
+const GATEWAY_CODE: u8 = 9;
+const HOST_CODE: u8 = 10;
+
+const PARAMETER_PROBLEM: u8 = 12;
+const UNREACHABLE: u8 = 3;
+/// Code of a parameter problem where an option is missing; the pointer is then the missing type.
+const OPTION_MISSING: u8 = 1;
+const MISSING_TYPE: u8 = 134;
+
+pub struct Decision {
+    pub number: u8,
+    pub icmp_type: u8,
+    pub icmp_code: u8,
+    pub pointer: u8,
+    pub count: usize,
+    pub label: HeldLabel,
+}
+
+/// A refusal whose place is not in the area.
+fn refuse<T>(number: u8) -> Result<T, Fault> {
+    Err(Fault { number, offset: 0 })
+}
+
+/// The column "Type / code / pointer".
+fn report_of(fault: Fault, job_code: u8) -> (u8, u8, u8) {
+    match fault.number {
+        3..=5 | 7..=13 => (PARAMETER_PROBLEM, 0, (HEADER_OCTETS + fault.offset) as u8),
+        6 => (PARAMETER_PROBLEM, OPTION_MISSING, MISSING_TYPE),
+        14..=18 => (UNREACHABLE, job_code, 0),
+        _ => (0, 0, 0),
+    }
+}
+
+/// "If the datagram is marked as ICMP, the number stays and the report is silent. A refusal [...] returns count 0 and an all-zero label".
+fn refused(fault: Fault, job_code: u8, icmp_mark: bool) -> Decision {
+    let (icmp_type, icmp_code, pointer) = if icmp_mark { (0, 0, 0) } else { report_of(fault, job_code) };
+    Decision { number: fault.number, icmp_type, icmp_code, pointer, count: 0, label: HeldLabel::ALL_ZERO }
+}
+
+fn done(label: HeldLabel, count: usize) -> Decision {
+    Decision { number: 0, icmp_type: 0, icmp_code: 0, pointer: 0, count, label }
+}
+
+/// Checks 3 to 14 on an area of a fitting size at a sound port: the datagram's label, "its own, or the port's if it has none and none
+/// is required", and what the walk met.
+fn arrive<'a>(area: &'a [u8], port: &Port) -> Result<(Label, Walk<'a>), Fault> {
+    // 3 to 5.
+    let met = walk(area)?;
+    let label = match (met.cipso, &port.assigned) {
+        // 6: "label required, none there".
+        (None, None) => return refuse(6),
+        (None, Some(assigned)) => assigned.clone(),
+        // 7 to 13, 8 for a domain that is "not the port's" too.
+        (Some((at, option)), _) => match read(option, |domain| domain == port.domain) {
+            Ok(label) => label,
+            Err(fault) => return Err(Fault { number: fault.number, offset: at + fault.offset }),
+        },
+    };
+    // 14: "outside the arriving port's range".
+    if !port.in_range(&label) {
+        return refuse(14);
+    }
+    Ok((label, met))
+}
+
+/// The leaving label and the leaving area, or the first refusal.
+fn decide_forward(
+    arriving: &PortRecord,
+    leaving: &PortRecord,
+    table: &TableRecord,
+    area: &[u8],
+    output_length: usize,
+) -> Result<(Label, Vec<u8>), Fault> {
+    // 1: "area over 40 octets or not a multiple of 4; on forward, output under 40 octets".
+    if !size_fits(area) || output_length < MAX_OCTETS {
+        return refuse(1);
+    }
+    // 2: "a record that is read is unsound". "Forward reads both ports, and the table when their domains differ".
+    let (arriving, leaving) = match (arriving.sound(), leaving.sound()) {
+        (Some(arriving), Some(leaving)) => (arriving, leaving),
+        _ => return refuse(2),
+    };
+    let domains_differ = arriving.domain != leaving.domain;
+    let table = if domains_differ {
+        match table.sound() {
+            Some(table) => Some(table),
+            None => return refuse(2),
+        }
+    } else {
+        None
+    };
+    // 3 to 14.
+    let (label, met) = arrive(area, &arriving)?;
+    // 16: "forward, domains differ: table's domains aren't the two ports', or a level or category has no number". "With equal port
+    // domains the table isn't read and the label stays."
+    let label = match table {
+        None => label,
+        Some(table) => {
+            if table.from != arriving.domain || table.to != leaving.domain {
+                return refuse(16);
+            }
+            match table.renumber(&label) {
+                Some(renumbered) => renumbered,
+                None => return refuse(16),
+            }
+        }
+    };
+    // 17: "forward: outside the leaving port's range". The whole set is tested, also where it has over 120 runs.
+    if !leaving.in_range(&label) {
+        return refuse(17);
+    }
+    // 18: "no valid option means the label, or the options exceed 40 octets". A set of over 120 runs has no valid option.
+    let option = match spell(&label) {
+        Some(option) => option,
+        None => return refuse(18),
+    };
+    match build(&option, &met.kept) {
+        Some(octets) => Ok((label, octets)),
+        None => refuse(18),
+    }
+}
+
+/// "forward (gateway, two ports)". "Octets from the count to 39 are 0, octets from 40 on are unchanged." A refusal writes nothing.
+pub fn forward(
+    arriving: &PortRecord,
+    leaving: &PortRecord,
+    table: &TableRecord,
+    icmp_mark: bool,
+    area: &[u8],
+    output: &mut [u8],
+) -> Decision {
+    match decide_forward(arriving, leaving, table, area, output.len()) {
+        Err(fault) => refused(fault, GATEWAY_CODE, icmp_mark),
+        Ok((label, octets)) => {
+            output[..MAX_OCTETS].fill(0);
+            output[..octets.len()].copy_from_slice(&octets);
+            let held = label.held().expect("a label that has a spelling has at most 120 runs");
+            done(held, octets.len())
+        }
+    }
+}
+
+/// The delivered label, or the first refusal.
+fn decide_deliver(port: &PortRecord, host: &HostRecord, area: &[u8]) -> Result<Label, Fault> {
+    // 1: "area over 40 octets or not a multiple of 4".
+    if !size_fits(area) {
+        return refuse(1);
+    }
+    // 2: "deliver reads its port and the host".
+    let port = match port.sound() {
+        Some(port) => port,
+        None => return refuse(2),
+    };
+    let host = match host.sound(port.domain) {
+        Some(host) => host,
+        None => return refuse(2),
+    };
+    // 3 to 14.
+    let (label, _) = arrive(area, &port)?;
+    // 15: "deliver: outside the host's range".
+    if !host.in_range(&label) {
+        return refuse(15);
+    }
+    Ok(label)
+}
+
+/// "deliver (host, one port and a host range; nothing is built)". "a delivery returns its label and count 0".
+pub fn deliver(port: &PortRecord, host: &HostRecord, icmp_mark: bool, area: &[u8]) -> Decision {
+    match decide_deliver(port, host, area) {
+        Err(fault) => refused(fault, HOST_CODE, icmp_mark),
+        Ok(label) => {
+            let held = label.held().expect("a label that was read or assigned has at most 120 runs");
+            done(held, 0)
+        }
+    }
+}

@@ -1,0 +1,107 @@
+// Holds the fast variant against the plain reference on generated cases of the entries that it has.
+
+use crate::cases::{hex, parse, Case, Line};
+use crate::fast;
+use crate::generator::Generator;
+use crate::label::{HeldLabel, Run};
+use crate::records::{PortRecord, TableRecord};
+
+fn label(held: &HeldLabel) -> fast::Label {
+    let runs = held.places.map(|run| fast::Run { low: run.low, high: run.high });
+    fast::Label { domain: held.domain, level: held.level, count: held.count, runs }
+}
+
+fn held(label: &fast::Label) -> HeldLabel {
+    let places = label.runs.map(|run| Run { low: run.low, high: run.high });
+    HeldLabel { domain: label.domain, level: label.level, count: label.count, places }
+}
+
+fn port(record: &PortRecord) -> fast::Port {
+    fast::Port {
+        domain: record.domain,
+        lowest: label(&record.lowest),
+        highest: label(&record.highest),
+        required: record.required,
+        assigned: label(&record.assigned),
+    }
+}
+
+fn table(record: &TableRecord) -> fast::Table {
+    fast::Table {
+        from: record.from,
+        to: record.to,
+        level_count: record.level_count,
+        levels: record.levels,
+        row_count: record.row_count,
+        rows: record.rows.map(|row| fast::Row { low: row.low, high: row.high, target_low: row.target_low }),
+    }
+}
+
+/// The line for a label that is returned, whose unused places must be 0 also where the line does not show them.
+fn add_label(line: &mut Line, returned: &fast::Label) {
+    line.label(&held(returned));
+    if *returned != fast::Label::ALL_ZERO && !returned.well_formed() {
+        line.word("ill-formed");
+    }
+}
+
+/// The fast variant's line, or none for an entry that it doesn't have.
+fn answer(case: &Case) -> Option<String> {
+    let mut line = Line::new();
+    match case {
+        Case::Spell(held, output) => {
+            let mut octets = vec![output.fill; output.length];
+            let (number, count) = match fast::spell_label(&label(held), &mut octets) {
+                Ok(count) => (0, count),
+                Err(number) => (number, 0),
+            };
+            line.number(number as usize);
+            line.number(count as usize);
+            line.output(&octets);
+        }
+        Case::Read(octets) => {
+            let (number, pointer, label) = match fast::read_option(octets) {
+                Ok(label) => (0, 0, label),
+                Err(refusal) => (refusal.number, refusal.offset, fast::Label::ALL_ZERO),
+            };
+            line.number(number as usize);
+            line.number(pointer as usize);
+            add_label(&mut line, &label);
+        }
+        Case::Forward(case) => {
+            let mut octets = vec![case.output.fill; case.output.length];
+            let (arriving, leaving, table) = (port(&case.arriving), port(&case.leaving), table(&case.table));
+            let decision = fast::forward(&arriving, &leaving, &table, case.icmp_mark, &case.area, &mut octets);
+            for number in [decision.number, decision.icmp_type, decision.icmp_code, decision.pointer, decision.count] {
+                line.number(number as usize);
+            }
+            add_label(&mut line, &decision.label);
+            line.output(&octets);
+        }
+        _ => return None,
+    }
+    Some(line.text)
+}
+
+/// Goes through `count` generated cases. True where there is no difference.
+pub fn run(count: usize, seed: u64) -> bool {
+    let mut generator = Generator::new(seed);
+    let mut compared = 0;
+    for number in 1..=count {
+        let (octets, expected) = generator.next();
+        let found = match parse(&octets).as_ref().and_then(answer) {
+            Some(line) => line,
+            None => continue,
+        };
+        compared += 1;
+        if found != expected {
+            println!("case {} differs", number);
+            println!("  plain:  {}", expected);
+            println!("  fast:   {}", found);
+            println!("  octets: {}", hex(&octets));
+            return false;
+        }
+    }
+    println!("{} cases, {} of entries 4, 5 and 6 compared, no difference", count, compared);
+    true
+}

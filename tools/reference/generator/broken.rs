@@ -1,0 +1,112 @@
+// Cases that don't parse.
+
+use crate::cases::{encode, Case, Encoder, Output, CONTAINS, FORWARD, MAX_OUTPUT, RENUMBER};
+use crate::label::HeldLabel;
+
+use super::deliver::delivered;
+use super::drafts::*;
+use super::forward::forwarded;
+use super::labels::{contains_yes, renumbered, spelled, within_yes};
+use super::random::Random;
+use super::reading::read_valid;
+use super::{octets_of, Made, Maker};
+
+/// The octets of a good case of any entry.
+pub fn any_case(random: &mut Random) -> Vec<u8> {
+    let make: Maker = random.pick(&[contains_yes as Maker, within_yes, renumbered, spelled, read_valid, forwarded, delivered]);
+    octets_of(make(random, 3, 0), 0)
+}
+
+/// A label with `stored` places, as an entry 1; over 120 it doesn't parse, though all octets are there.
+pub fn stored_runs(stored: usize) -> Vec<u8> {
+    let mut octets = vec![CONTAINS, 0, 0, 0, 5, 3, 1, stored as u8];
+    octets.extend(vec![0; 4 * stored + 2]);
+    octets
+}
+
+/// A renumbering with that many stored level pairs and rows.
+pub fn stored_table(levels: usize, rows: usize) -> Vec<u8> {
+    let mut octets = vec![RENUMBER, 0, 0, 0, 5, 3, 0, 0];
+    octets.extend([0, 0, 0, 5, 0, 0, 0, 9, 0, levels as u8]);
+    octets.extend(vec![0; 2 * levels]);
+    octets.extend([0, 0, rows as u8]);
+    octets.extend(vec![0; 6 * rows]);
+    octets
+}
+
+pub fn broken(random: &mut Random, turn: usize, _number: u8) -> Made {
+    let mut octets = any_case(random);
+    let (kind, round) = (turn % 16, turn / 16);
+    match kind {
+        // No entry octet; an unknown one; nothing but one.
+        0 => octets.clear(),
+        1 => octets[0] = [0, 8, 255, 9, 128][round % 5],
+        2 => octets.truncate(1),
+        // A field is cut off.
+        3 => octets.truncate(octets.len() - 1),
+        4 | 5 => octets.truncate(random.between(1, octets.len() - 1)),
+        // Octets are left over.
+        6 => octets.push(0),
+        7 => {
+            let count = random.between(2, 9);
+            octets.extend(random.octets(count));
+        }
+        // `stored` is over its limit.
+        8 => octets = stored_runs([121, 255, 122, 128][round % 4]),
+        9 => octets = stored_table([17, 255, 18][round % 3], random.below(3)),
+        10 => octets = stored_table(random.below(3), [65, 255, 66][round % 3]),
+        // `required` is neither 0 nor 1: it stands before the assigned label of the arriving or the leaving port.
+        11 => {
+            let case = forward_draft(random, &ANY).finish(random);
+            let leaving = round % 2 == 1;
+            let mut before = Encoder { octets: vec![FORWARD], spare: 0 };
+            before.port(&case.arriving);
+            if leaving {
+                before.port(&case.leaving);
+            }
+            let mut assigned = Encoder { octets: Vec::new(), spare: 0 };
+            assigned.label(if leaving { &case.leaving.assigned } else { &case.arriving.assigned });
+            let flag = before.octets.len() - assigned.octets.len() - 1;
+            octets = encode(&Case::Forward(Box::new(case)), 0);
+            octets[flag] = [2, 255, 3, 128][round % 4];
+        }
+        // `mark` is neither 0 nor 1.
+        12 => {
+            let case = forward_draft(random, &ANY).finish(random);
+            let after = 1 + case.area.len() + 3;
+            octets = encode(&Case::Forward(Box::new(case)), 0);
+            let mark = octets.len() - after - 1;
+            octets[mark] = [2, 255, 3, 128][round % 4];
+        }
+        13 => {
+            let case = deliver_draft(random, &ANY).finish(random);
+            let after = 1 + case.area.len();
+            octets = encode(&Case::Deliver(Box::new(case)), 0);
+            let mark = octets.len() - after - 1;
+            octets[mark] = [2, 255, 3, 128][round % 4];
+        }
+        // An output over its limit.
+        14 => {
+            let length = [MAX_OUTPUT + 1, 65_535, MAX_OUTPUT + 2][round % 3];
+            octets = encode(&Case::Spell(HeldLabel::empty(5, 3), Output { length, fill: 0 }), 0);
+        }
+        // Longer than any case that parses; once the longest there can be.
+        _ => {
+            let length = if round == 0 { 65_535 } else { random.between(3700, 4200) };
+            octets.resize(length, 0);
+        }
+    }
+    Made::Octets(octets)
+}
+
+/// What stands at the very end: a length cut off, or one that runs past the end of input.
+pub fn cut_off(random: &mut Random) -> Vec<u8> {
+    let octets = any_case(random);
+    let length = (octets.len() as u16).to_be_bytes();
+    match random.below(4) {
+        0 => length[..1].to_vec(),
+        1 => length.to_vec(),
+        2 => [&length[..], &octets[..octets.len() - 1]].concat(),
+        _ => [&[255, 255], &octets[..]].concat(),
+    }
+}

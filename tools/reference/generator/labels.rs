@@ -1,0 +1,180 @@
+// Cases of labels alone: contains, within, renumber and spell.
+
+use crate::cases::{Case, Output};
+use crate::label::{HeldLabel, Run};
+
+use super::drafts::*;
+use super::forward::sound_draft;
+use super::random::Random;
+use super::ranges::*;
+use super::sets::*;
+use super::tables::*;
+use super::unsound::*;
+use super::Made;
+
+pub fn contains_yes(random: &mut Random, _turn: usize, _number: u8) -> Made {
+    let (domain, shape) = (random_domain(random), random_shape(random));
+    let label = random_label(random, domain, shape);
+    let category = near_category(random, &label);
+    Made::Case(Case::Contains(label, category))
+}
+
+/// A category at or next to the end of a run, or anywhere.
+pub fn near_category(random: &mut Random, label: &HeldLabel) -> u16 {
+    match runs_of(label).get(random.below(label.count.max(1) as usize)) {
+        Some(run) if random.chance(4, 5) => random.pick(&[run.low.saturating_sub(1), run.low, run.high, run.high.saturating_add(1)]),
+        _ => random.pick(&[0, 1, 239, 240, 65_534, 65_535, 300]),
+    }
+}
+
+pub fn contains_no(random: &mut Random, turn: usize, number: u8) -> Made {
+    // An unused place is not the category 0.
+    if turn % 5 == 0 {
+        let low = random.between(1, 300) as u16;
+        let label = held(random_domain(random), random_level(random), &[Run { low, high: low + 3 }]);
+        return Made::Case(Case::Contains(label, 0));
+    }
+    contains_yes(random, turn, number)
+}
+
+/// An ill-formed label says no also for a category that its runs cover.
+pub fn contains_ill_formed(random: &mut Random, turn: usize, _number: u8) -> Made {
+    let mut label = random_label(random, 5, Shape::Ranges);
+    let mut category = near_category(random, &label);
+    ill_form(random, &mut label, turn);
+    let first = label.places[0];
+    if first.low <= first.high {
+        category = random.pick(&[category, first.low, first.high]);
+    }
+    Made::Case(Case::Contains(label, category))
+}
+
+/// A label and one above it.
+pub fn two_labels(random: &mut Random) -> (HeldLabel, HeldLabel) {
+    let (domain, shape) = (random_domain(random), random_shape(random));
+    let bound = random_label(random, domain, shape);
+    let level = if random.chance(1, 3) { bound.level } else { random.between(0, bound.level as usize) as u8 };
+    let runs = if random.chance(1, 3) { runs_of(&bound).to_vec() } else { shrink(random, runs_of(&bound)) };
+    (held(domain, level, &runs), bound)
+}
+
+pub fn within_yes(random: &mut Random, _turn: usize, _number: u8) -> Made {
+    let (label, bound) = two_labels(random);
+    Made::Case(Case::Within(label, bound))
+}
+
+pub fn within_no(random: &mut Random, turn: usize, _number: u8) -> Made {
+    let (mut label, mut bound) = two_labels(random);
+    match turn % 4 {
+        0 => label.level = bound.level.saturating_add(1),
+        1 => add_category(random, &mut label, &bound),
+        2 => label.domain = other_domain(random, bound.domain),
+        _ => lack_category(random, &mut bound, &label),
+    }
+    Made::Case(Case::Within(label, bound))
+}
+
+pub fn within_ill_formed(random: &mut Random, turn: usize, _number: u8) -> Made {
+    let label = random_label(random, 5, Shape::Ranges);
+    let (mut lower, mut upper) = (label.clone(), label);
+    match turn / ILL_FORMED % 3 {
+        0 => ill_form(random, &mut lower, turn),
+        1 => ill_form(random, &mut upper, turn),
+        _ => {
+            ill_form(random, &mut lower, turn);
+            upper = lower.clone();
+        }
+    }
+    Made::Case(Case::Within(lower, upper))
+}
+
+pub fn renumbered(random: &mut Random, turn: usize, _number: u8) -> Made {
+    let (domain, far_domain) = (random_domain(random), random_domain(random));
+    let shape = match turn % 12 {
+        0 => Shape::Many,
+        3 => Shape::Alternating,
+        _ => random_shape(random),
+    };
+    let label = random_label(random, domain, shape);
+    let targets = random.pick(&[Targets::Small, Targets::Anywhere, Targets::High, Targets::Parted]);
+    let table = if turn % 12 == 6 {
+        full_table_for(random, &label, far_domain, targets)
+    } else {
+        table_for(random, &label, far_domain, false, targets)
+    };
+    Made::Case(Case::Renumber(label, table))
+}
+
+pub fn renumber_no_number(random: &mut Random, turn: usize, _number: u8) -> Made {
+    let (domain, far_domain, shape) = (random_domain(random), random_domain(random), random_shape(random));
+    let label = random_label(random, domain, shape);
+    let mut table = table_for(random, &label, far_domain, false, Targets::Anywhere);
+    match turn % 4 {
+        0 => table.from = other_domain(random, domain),
+        1 => lose_level(&mut table, label.level),
+        _ => lose_category(random, &mut table, &label),
+    }
+    Made::Case(Case::Renumber(label, table))
+}
+
+pub fn renumber_over_large(random: &mut Random, turn: usize, _number: u8) -> Made {
+    let (label, table) = if turn % 6 == 5 { over_large_held(random, 5, 9) } else { over_large(random, 5, 9) };
+    Made::Case(Case::Renumber(label, table))
+}
+
+pub fn renumber_unsound(random: &mut Random, turn: usize, _number: u8) -> Made {
+    let draft = sound_draft(random, Some(false));
+    let (mut label, mut table) = (draft.label, draft.case.table);
+    let clause = turn % (ILL_FORMED + TABLE_CLAUSES);
+    if clause < ILL_FORMED {
+        ill_form(random, &mut label, clause);
+    } else {
+        break_table(random, &mut table, clause - ILL_FORMED);
+    }
+    // 2 comes before 16.
+    if random.chance(1, 6) {
+        table.from = table.from.wrapping_add(1);
+    }
+    Made::Case(Case::Renumber(label, table))
+}
+
+pub fn spelled(random: &mut Random, turn: usize, _number: u8) -> Made {
+    let shape = match turn % 8 {
+        0..=2 => Shape::Tie,
+        3 | 4 => Shape::Limit,
+        5 => Shape::Ranges,
+        _ => random_shape(random),
+    };
+    let domain = random_domain(random);
+    let label = random_label(random, domain, shape);
+    Made::Case(Case::Spell(label, random_output(random)))
+}
+
+pub fn spell_short_output(random: &mut Random, turn: usize, _number: u8) -> Made {
+    let (domain, shape) = (random_domain(random), random_shape(random));
+    let mut label = random_label(random, domain, shape);
+    // 1 comes before 2.
+    if turn % 3 == 0 {
+        ill_form(random, &mut label, turn);
+    }
+    let length = random.pick(&[0, 1, 9, 10, 12, 38, 39, 39, 39]);
+    Made::Case(Case::Spell(label, Output { length, fill: random.octet() }))
+}
+
+pub fn spell_ill_formed(random: &mut Random, turn: usize, _number: u8) -> Made {
+    let domain = random_domain(random);
+    let mut label = random_label(random, domain, Shape::Ranges);
+    ill_form(random, &mut label, turn);
+    Made::Case(Case::Spell(label, random_output(random)))
+}
+
+pub fn spell_none(random: &mut Random, turn: usize, _number: u8) -> Made {
+    let shape = match turn % 4 {
+        0 | 1 => Shape::Limit,
+        2 => Shape::Unspellable,
+        _ => random.pick(&[Shape::Unspellable, Shape::Unspellable, Shape::Unspellable, Shape::Many]),
+    };
+    let domain = random_domain(random);
+    let label = random_label(random, domain, shape);
+    Made::Case(Case::Spell(label, random_output(random)))
+}

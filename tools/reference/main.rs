@@ -1,0 +1,96 @@
+// The reference: a second program for the label gateway, written from document 01 alone and meant to be read beside it.
+//
+//   label, categories     what a label is            option     one CIPSO option
+//   records               port, host, table          area       the options area
+//   decision              forward and deliver        cases      calls read from octets, answered in lines
+//   sample                the sample program's job   fast       the same answers, written for speed
+//
+// The other files generate cases and compare answers.
+
+mod area;
+mod cases;
+mod categories;
+mod decision;
+mod differ;
+mod fast;
+mod fastcheck;
+mod generator;
+mod label;
+mod option;
+mod records;
+mod sample;
+mod selfcheck;
+
+use std::fs::File;
+use std::io::{self, BufReader, BufWriter, Write};
+use std::process::ExitCode;
+
+const BUFFER: usize = 1 << 20;
+
+const USAGE: &str = "usage:
+  reference cases                                    cases from standard input, one line each
+  reference sample                                   records from standard input, one line each
+  reference generate COUNT SEED CASES LINES          writes cases and their expected lines
+  reference sample-records COUNT SEED RECORDS        writes records for the sample
+  reference differ-cases CASES EXPECTED FOUND        shows the first difference of two files of lines
+  reference differ-sample RECORDS EXPECTED FOUND
+  reference selfcheck                                checks the reference against document 01's numbers
+  reference fastcheck COUNT SEED                     compares the fast variant on generated cases";
+
+fn reader(path: &str) -> io::Result<BufReader<File>> {
+    Ok(BufReader::with_capacity(BUFFER, File::open(path)?))
+}
+
+fn writer(path: &str) -> io::Result<BufWriter<File>> {
+    Ok(BufWriter::with_capacity(BUFFER, File::create(path)?))
+}
+
+/// True where the work ended well.
+fn run(arguments: &[&str]) -> io::Result<bool> {
+    let number =
+        |text: &str| text.parse::<u64>().map_err(|_| io::Error::new(io::ErrorKind::InvalidInput, format!("{}: not a number", text)));
+    match arguments {
+        ["cases"] | ["sample"] => {
+            let mut input = BufReader::with_capacity(BUFFER, io::stdin().lock());
+            let mut output = BufWriter::with_capacity(BUFFER, io::stdout().lock());
+            if arguments[0] == "cases" {
+                cases::run(&mut input, &mut output)?;
+            } else {
+                sample::run(&mut input, &mut output)?;
+            }
+            output.flush()?;
+            Ok(true)
+        }
+        ["generate", count, seed, cases, lines] => {
+            let (mut cases, mut lines) = (writer(cases)?, writer(lines)?);
+            let enough = generator::cases(number(count)? as usize, number(seed)?, &mut cases, &mut lines)?;
+            cases.flush()?;
+            lines.flush()?;
+            Ok(enough)
+        }
+        ["sample-records", count, seed, records] => {
+            let mut records = writer(records)?;
+            let enough = generator::sample_records::records(number(count)? as usize, number(seed)?, &mut records)?;
+            records.flush()?;
+            Ok(enough)
+        }
+        ["differ-cases", cases, expected, found] => differ::cases(&mut reader(cases)?, &mut reader(expected)?, &mut reader(found)?),
+        ["differ-sample", records, expected, found] => differ::sample(&mut reader(records)?, &mut reader(expected)?, &mut reader(found)?),
+        ["selfcheck"] => Ok(selfcheck::run()),
+        ["fastcheck", count, seed] => Ok(fastcheck::run(number(count)? as usize, number(seed)?)),
+        _ => Err(io::Error::new(io::ErrorKind::InvalidInput, USAGE)),
+    }
+}
+
+fn main() -> ExitCode {
+    let arguments: Vec<String> = std::env::args().skip(1).collect();
+    let arguments: Vec<&str> = arguments.iter().map(String::as_str).collect();
+    match run(&arguments) {
+        Ok(true) => ExitCode::SUCCESS,
+        Ok(false) => ExitCode::FAILURE,
+        Err(error) => {
+            eprintln!("{}", error);
+            ExitCode::FAILURE
+        }
+    }
+}

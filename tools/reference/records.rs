@@ -1,0 +1,215 @@
+// Port, host and renumbering table: the records as they come, and what they say where they are sound.
+//
+// Document 01, "Records".
+
+use crate::categories::Categories;
+use crate::label::{HeldLabel, Label, HIGHEST_CATEGORY};
+
+/// "up to 16 level pairs"
+pub const MAX_LEVEL_PAIRS: usize = 16;
+/// "up to 64 rows (low, high, target low)"
+pub const MAX_ROWS: usize = 64;
+
+/// "Port: domain, lowest and highest label, whether a label is required, an assigned label."
+#[derive(Clone, PartialEq, Eq)]
+pub struct PortRecord {
+    pub domain: u32,
+    pub lowest: HeldLabel,
+    pub highest: HeldLabel,
+    pub required: bool,
+    pub assigned: HeldLabel,
+}
+
+/// What a sound port record says. `assigned` is none where a label is required.
+pub struct Port {
+    pub domain: u32,
+    pub lowest: Label,
+    pub highest: Label,
+    pub assigned: Option<Label>,
+}
+
+impl PortRecord {
+    /// "Sound: nonzero domain, all labels used are well formed and of that domain, lowest ≤ highest. If a label isn't required, the
+    /// assigned label is in range; if it is required, the assigned label is all zero."
+    pub fn sound(&self) -> Option<Port> {
+        if self.domain == 0 {
+            return None;
+        }
+        let lowest = label_of_domain(&self.lowest, self.domain)?;
+        let highest = label_of_domain(&self.highest, self.domain)?;
+        if !lowest.within(&highest) {
+            return None;
+        }
+        let assigned = if self.required {
+            if self.assigned != HeldLabel::ALL_ZERO {
+                return None;
+            }
+            None
+        } else {
+            let assigned = label_of_domain(&self.assigned, self.domain)?;
+            if !assigned.in_range(&lowest, &highest) {
+                return None;
+            }
+            Some(assigned)
+        };
+        Some(Port { domain: self.domain, lowest, highest, assigned })
+    }
+}
+
+impl Port {
+    pub fn in_range(&self, label: &Label) -> bool {
+        label.in_range(&self.lowest, &self.highest)
+    }
+}
+
+fn label_of_domain(held: &HeldLabel, domain: u32) -> Option<Label> {
+    held.label().filter(|label| label.domain == domain)
+}
+
+/// The host's lowest and highest label.
+#[derive(Clone, PartialEq, Eq)]
+pub struct HostRecord {
+    pub lowest: HeldLabel,
+    pub highest: HeldLabel,
+}
+
+pub struct Host {
+    pub lowest: Label,
+    pub highest: Label,
+}
+
+impl HostRecord {
+    /// "Host: lowest ≤ highest, both well formed, in the port's domain. House: the draft's rule that the port range lies inside the
+    /// host range isn't tested, so 15 can occur."
+    pub fn sound(&self, port_domain: u32) -> Option<Host> {
+        let lowest = label_of_domain(&self.lowest, port_domain)?;
+        let highest = label_of_domain(&self.highest, port_domain)?;
+        if !lowest.within(&highest) {
+            return None;
+        }
+        Some(Host { lowest, highest })
+    }
+}
+
+impl Host {
+    pub fn in_range(&self, label: &Label) -> bool {
+        label.in_range(&self.lowest, &self.highest)
+    }
+}
+
+/// One row of a table: "Category c of a row goes to target low + c − low."
+#[derive(Clone, Copy, PartialEq, Eq)]
+pub struct Row {
+    pub low: u16,
+    pub high: u16,
+    pub target_low: u16,
+}
+
+impl Row {
+    pub const ZERO: Row = Row { low: 0, high: 0, target_low: 0 };
+
+    /// Wider than a category, since the record of an unsound table may hold any numbers. Asked only where low ≤ high.
+    pub fn target_high(&self) -> u32 {
+        self.target_low as u32 + (self.high - self.low) as u32
+    }
+}
+
+/// "Renumbering table: from and to domain [...]; up to 16 level pairs, held as an array of two-number arrays [...]; up to 64 rows".
+#[derive(Clone, PartialEq, Eq)]
+pub struct TableRecord {
+    pub from: u32,
+    pub to: u32,
+    pub level_count: u8,
+    pub levels: [[u8; 2]; MAX_LEVEL_PAIRS],
+    pub row_count: u16,
+    pub rows: [Row; MAX_ROWS],
+}
+
+/// What a sound table says.
+pub struct Table {
+    pub from: u32,
+    pub to: u32,
+    levels: Vec<[u8; 2]>,
+    rows: Vec<Row>,
+}
+
+impl TableRecord {
+    pub const ALL_ZERO: TableRecord =
+        TableRecord { from: 0, to: 0, level_count: 0, levels: [[0, 0]; MAX_LEVEL_PAIRS], row_count: 0, rows: [Row::ZERO; MAX_ROWS] };
+
+    /// "from and to domain, neither 0; [...] Counts keep to their limits, unused places are 0".
+    pub fn sound(&self) -> Option<Table> {
+        let (level_count, row_count) = (self.level_count as usize, self.row_count as usize);
+        if self.from == 0 || self.to == 0 || level_count > MAX_LEVEL_PAIRS || row_count > MAX_ROWS {
+            return None;
+        }
+        let (levels, unused_levels) = self.levels.split_at(level_count);
+        let (rows, unused_rows) = self.rows.split_at(row_count);
+        let unused_zero = unused_levels.iter().all(|pair| *pair == [0, 0]) && unused_rows.iter().all(|row| *row == Row::ZERO);
+        if !unused_zero || !levels_sound(levels) || !rows_sound(rows) {
+            return None;
+        }
+        Some(Table { from: self.from, to: self.to, levels: levels.to_vec(), rows: rows.to_vec() })
+    }
+}
+
+/// "strictly rising on both sides"
+fn levels_sound(levels: &[[u8; 2]]) -> bool {
+    levels.windows(2).all(|two| two[0][0] < two[1][0] && two[0][1] < two[1][1])
+}
+
+/// "each row has low ≤ high, sources are ascending and disjoint, targets are disjoint, all ends ≤ 65534"
+fn rows_sound(rows: &[Row]) -> bool {
+    let highest = HIGHEST_CATEGORY as u32;
+    let ends = rows.iter().all(|row| row.low <= row.high && row.high as u32 <= highest && row.target_high() <= highest);
+    let sources = rows.windows(2).all(|two| two[0].high < two[1].low);
+    ends && sources && targets_disjoint(rows)
+}
+
+/// Every two rows are held against each other.
+fn targets_disjoint(rows: &[Row]) -> bool {
+    rows.iter().enumerate().all(|(index, row)| {
+        rows[index + 1..].iter().all(|other| row.target_high() < other.target_low as u32 || other.target_high() < row.target_low as u32)
+    })
+}
+
+impl Table {
+    fn level(&self, level: u8) -> Option<u8> {
+        self.levels.iter().find(|pair| pair[0] == level).map(|pair| pair[1])
+    }
+
+    /// "Category c of a row goes to target low + c − low."
+    fn category(&self, category: u16) -> Option<u16> {
+        let row = self.rows.iter().find(|row| row.low <= category && category <= row.high)?;
+        Some(row.target_low + (category - row.low))
+    }
+
+    /// The label with the far domain's numbers; none where "a level or category has no number". The domains are the caller's check.
+    pub fn renumber(&self, label: &Label) -> Option<Label> {
+        let level = self.level(label.level)?;
+        let mut categories = Categories::none();
+        for category in label.categories.iter() {
+            categories.insert(self.category(category)?);
+        }
+        Some(Label { domain: self.to, level, categories })
+    }
+}
+
+/// "Renumbering gives 2 (for an unsound table too), then 16 (also for a foreign domain), then 18 over 120 runs. [...] These refusals
+/// come with an all-zero label".
+pub fn renumber_alone(held: &HeldLabel, table: &TableRecord) -> (u8, HeldLabel) {
+    let (label, table) = match (held.label(), table.sound()) {
+        (Some(label), Some(table)) => (label, table),
+        _ => return (2, HeldLabel::ALL_ZERO),
+    };
+    if label.domain != table.from {
+        return (16, HeldLabel::ALL_ZERO);
+    }
+    match table.renumber(&label) {
+        None => (16, HeldLabel::ALL_ZERO),
+        Some(renumbered) => match renumbered.held() {
+            None => (18, HeldLabel::ALL_ZERO),
+            Some(held) => (0, held),
+        },
+    }
+}
