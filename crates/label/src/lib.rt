@@ -192,23 +192,21 @@ fn used_spaced(label: Label) -> bool
     true
 }
 
-// Whether every place past the used runs is zero.
+// Whether every place past the used runs is zero: their sum is, so no place ends the pass early.
 fn rest_unused(label: Label) -> bool
     requires { ⌜ label .count ≤ 120 ⌝ }
     ensures { λ r. ⌜ r ≡ unused (drop (label .count) (label .runs)) ⌝ }
 {
+    let mut sum: u32 = 0;
     let mut i = label.count;
     while i < 120 {
         let run = label.runs[i];
-        if run.low != 0 {
-            return false;
-        }
-        if run.high != 0 {
-            return false;
-        }
+        let low = run.low as u32;
+        let high = run.high as u32;
+        sum = sum + low + high;
         i += 1;
     }
-    true
+    sum == 0
 }
 
 // Whether some used run covers the category.
