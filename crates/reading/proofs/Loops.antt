@@ -1,10 +1,10 @@
 -- How many runs a reader's loop can have made, and its next piece.
-use Prim.Native.Nat.{ℕ, zero, suc, _+_, _*_, _/_, _%_, _≤_, _<_, zero-le}
+use Prim.Native.Nat.{ℕ, zero, suc, _+_, _-_, _*_, _/_, _%_, _≤_, _<_, zero-le}
 use mathlib.Core.Path.{_≡_, refl, ap, sym, _∙_}
 use mathlib.Core.List.{List, []}
 use mathlib.Core.Bool.{Bool, true, false, cond}
 use mathlib.Core.Logic.{_⊎_, inl, inr, ⊎-elim}
-use lib.ListN.{length}
+use lib.ListN.{length, getD}
 use lib.Dec.{leb, ltb, eqb}
 use native.Mathlib.Omega.{arith}
 use native.Mathlib.Numerals.{add-one}
@@ -21,7 +21,8 @@ use Rattle.option.specs.Index.{setRuns, rangeRuns, firstTrue, numberAt, pairsOf
 use Rattle.option.proofs.Pieces.{joined-good, bits-falling}
 use Rattle.option.proofs.Bridge.{set-joined, numbers-joined, pairs-joined}
 use Rattle.reading.specs.Reading.{countIn, badIn, badPlace}
-use Rattle.reading.specs.Building.{lowIn, highIn}
+use Rattle.reading.specs.Building.{leftIn, lowIn, highIn}
+use Rattle.reading.proofs.Octets.{zerosOf, onesOf, restOf, Ones, none-left, ones-left, passed-bits}
 
 -- at most one run a piece
 pub range-most : (lo hi : ℕ → ℕ) (n : ℕ) → length (rangeRuns lo hi n) ≤ n
@@ -64,6 +65,61 @@ module _ (f : ℕ → Bool) (c : ℕ) where
       go (inr w) ih =
           rw (z (suc e) h (omega arith), ← ih w)
           (sym (ap (λ (n : ℕ). pushRun (pushRun (setRuns f c) c e) n (suc e)) (sym (add-one e)) ∙ push-more c e (suc e) (setRuns f c)))
+
+-- Where the reader of a bitmap stands: `left` has the bits of octet i from category c on.
+pub record Inside (b : List ℕ) (i c left : ℕ) : Type 0 where
+  pub from : 8 * i ≤ c
+  pub most : c ≤ 8 * i + 8
+  pub whole : c ≤ 8 * length b
+  pub small : getD b i 0 < 256
+  pub left-is : left ≡ leftIn (getD b i 0) (c - 8 * i)
+
+pub inside-start : (b : List ℕ) (i left : ℕ) → i ≤ length b → getD b i 0 < 256 → left ≡ leftIn (getD b i 0) 0 → Inside b i (8 * i) left
+inside-start b i left h small e =
+    let z : 8 * i - 8 * i ≡ 0 = omega arith in
+    record { from = omega arith; most = omega arith; whole = omega arith; small = small; left-is = rw z e }
+
+module _ {b : List ℕ} {i c left : ℕ} (t : Inside b i c left) where
+  place : 8 * i + (c - 8 * i) ≡ c
+  place = omega (arith, t .from)
+
+  -- nothing is left of the octet
+  pub octet-over : left ≡ 0 → setRuns (bitAt b) (8 * i + 8) ≡ setRuns (bitAt b) c
+  octet-over z =
+      clear-bits (bitAt b) c (8 * i + 8) (t .most) (λ k p q. passed-bits b true i (c - 8 * i) 8 (t .small) (none-left (getD b i 0) (c - 8 * i) left (t .small) (omega (arith, t .from, t .most)) (t .left-is) z) k (omega (arith, place)) q)
+
+  module _ (z : left ≡ 0 → ⊥) where
+    ones : Ones (getD b i 0) (c - 8 * i) left
+    ones = ones-left (getD b i 0) (c - 8 * i) left (t .small) (omega (arith, t .from, t .most)) (t .left-is) z
+
+    pub ones-some : 0 < onesOf left
+    ones-some = ones .some
+
+    pub ones-most : c + zerosOf left + onesOf left ≤ 8 * i + 8
+    ones-most = omega (arith, place, ones .ones-end .most)
+
+    -- the ones are the next piece
+    pub octet-piece : pushRun (setRuns (bitAt b) c) (c + zerosOf left) (c + zerosOf left + onesOf left - 1) ≡ setRuns (bitAt b) (c + zerosOf left + onesOf left)
+    octet-piece =
+        let low : ℕ = c + zerosOf left in
+        let high : ℕ = low + onesOf left - 1 in
+        let e : suc high ≡ low + onesOf left = omega (arith, ones-some) in
+        let clear : setRuns (bitAt b) low ≡ setRuns (bitAt b) c =
+        clear-bits (bitAt b) c low (omega arith) (λ k p q. passed-bits b true i (c - 8 * i) (c - 8 * i + zerosOf left) (t .small) (ones .zeros-end) k (omega (arith, place)) (omega (arith, place))) in
+        ap (λ (rs : List Run). pushRun rs low high) (sym clear)
+        ∙ set-bits (bitAt b) low high (omega (arith, ones-some)) (λ k p q. passed-bits b false i (c - 8 * i + zerosOf left) (c - 8 * i + zerosOf left + onesOf left) (t .small) (ones .ones-end) k (omega (arith, place)) (omega (arith, place, ones-some)))
+        ∙ ap (setRuns (bitAt b)) e
+
+    pub inside-next : i < length b → Inside b i (c + zerosOf left + onesOf left) (restOf left)
+    inside-next h =
+        let e : c - 8 * i + zerosOf left + onesOf left ≡ c + zerosOf left + onesOf left - 8 * i = omega (arith, t .from) in
+        record {
+          from = omega (arith, t .from);
+          most = ones-most;
+          whole = omega (arith, ones-most);
+          small = t .small;
+          left-is = ones .rest-is ∙ ap (leftIn (getD b i 0)) e;
+        }
 
 -- at most 15 numbers or pairs
 pub count-most : (t : ℕ) (b : List ℕ) → length b ≤ 30 → countIn t b ≤ 15

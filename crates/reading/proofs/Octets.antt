@@ -1,46 +1,35 @@
 -- Laws of one octet's bits: each is a test that is computed over all 256 octets.
 use Prim.Native.Nat.{ℕ, _+_, _-_, _*_, _/_, _%_, _^_, _≤_, _<_}
-use mathlib.Core.Path.{_≡_, refl, ap, _∙_}
+use mathlib.Core.Path.{_≡_, refl, ap, sym, _∙_}
 use mathlib.Core.List.{List}
 use lib.ListN.{getD}
 use mathlib.Core.Bool.{Bool, true, false, not, _&&_, _||_, cond}
 use lib.Count.{leadingZeros}
 use lib.Dec.{leb, ltb, eqb}
 use native.Mathlib.Omega.{arith}
-use borrow.Author.Tests.{le-leb, lt-ltb, leb-true, ltb-true, not-true, not-false}
+use borrow.Author.Tests.{le-leb, lt-ltb, eq-eqb, ne-eqb, leb-true, ltb-true, eqb-true, not-true, not-false}
 use Rattle.label.specs.Runs.{allBelow}
 use Rattle.label.proofs.Bools.{and-left, and-right, and-both, implies-yes, all-below}
 use Rattle.option.specs.Bitmap.{bitAt}
-use Rattle.reading.specs.Building.{bitIn, FirstOne}
+use Rattle.reading.specs.Building.{bitIn, FirstOne, leftIn}
 
--- the zeros above the bits from place s on, in 32 bits
-abbrev pub zerosAbove : ℕ → ℕ → ℕ
-zerosAbove x s = leadingZeros 32 (x % (1 * 2 ^ (8 - s) % 4294967296))
+-- What the reader takes from an octet's bits at the top of 32: the zeros above the first ones, those ones at the top, their number, and the bits after them.
+abbrev pub zerosOf : ℕ → ℕ
+zerosOf left = leadingZeros 32 left
+
+abbrev pub raisedOf : ℕ → ℕ
+raisedOf left = left * 2 ^ zerosOf left % 4294967296
+
+abbrev pub onesOf : ℕ → ℕ
+onesOf left = leadingZeros 32 (4294967295 - raisedOf left)
+
+abbrev pub restOf : ℕ → ℕ
+restOf left = raisedOf left * 2 ^ onesOf left % 4294967296
 
 abbrev isFirst : ℕ → ℕ → ℕ → Bool
 isFirst x s r =
     leb s r
     && (leb r 8 && (allBelow 8 (λ k. not (leb s k && ltb k r) || not (bitIn x k)) && (not (ltb r 8) || bitIn x r)))
-
-abbrev fine : ℕ → ℕ → Bool
-fine x s = ltb 0 (1 * 2 ^ (8 - s) % 4294967296) && (leb 24 (zerosAbove x s) && isFirst x s (zerosAbove x s - 24))
-
-all-fine : allBelow 256 (λ x. allBelow 8 (λ s. fine x s)) ≡ true
-unfolding allBelow leadingZeros
-all-fine = refl
-
-module _ (x s : ℕ) (h : x < 256) (k : s < 8) where
-  fine-at : fine x s ≡ true
-  fine-at = all-below 8 (λ z. fine x z) (all-below 256 (λ y. allBelow 8 (λ z. fine y z)) all-fine x h) s k
-
-  pub part-some : 0 < 1 * 2 ^ (8 - s) % 4294967296
-  part-some = ltb-true _ _ (and-left (ltb 0 (1 * 2 ^ (8 - s) % 4294967296)) _ fine-at)
-
-  pub zeros-least : 24 ≤ zerosAbove x s
-  zeros-least = leb-true _ _ (and-left (leb 24 (zerosAbove x s)) _ (and-right (ltb 0 (1 * 2 ^ (8 - s) % 4294967296)) _ fine-at))
-
-  first-at : isFirst x s (zerosAbove x s - 24) ≡ true
-  first-at = and-right (leb 24 (zerosAbove x s)) _ (and-right (ltb 0 (1 * 2 ^ (8 - s) % 4294967296)) _ fine-at)
 
 -- what the test says
 first-says : (x s r : ℕ) → isFirst x s r ≡ true → FirstOne x s r
@@ -56,8 +45,42 @@ first-says x s r e =
       here = λ p. implies-yes (ltb r 8) _ (and-right (allBelow 8 (λ k. not (leb s k && ltb k r) || not (bitIn x k))) _ e2) (lt-ltb r 8 p);
     }
 
-pub first-one : (x s : ℕ) → x < 256 → s < 8 → FirstOne x s (zerosAbove x s - 24)
-first-one x s h k = first-says x s (zerosAbove x s - 24) (first-at x s h k)
+-- from place s on: zeros, then at least one 1, then the rest
+pub record Ones (x s left : ℕ) : Type 0 where
+  pub zeros-end : FirstOne x s (s + zerosOf left)
+  pub ones-end : FirstOne (255 - x) (s + zerosOf left) (s + zerosOf left + onesOf left)
+  pub some : 0 < onesOf left
+  pub rest-is : restOf left ≡ leftIn x (s + zerosOf left + onesOf left)
+
+abbrev hasOnes : ℕ → ℕ → ℕ → Bool
+hasOnes x s left =
+    isFirst x s (s + zerosOf left)
+    && (isFirst (255 - x) (s + zerosOf left) (s + zerosOf left + onesOf left) && (ltb 0 (onesOf left) && eqb (restOf left) (leftIn x (s + zerosOf left + onesOf left))))
+
+all-fine : allBelow 256 (λ x. allBelow 9 (λ s. cond (eqb (leftIn x s) 0) (isFirst x s 8) (hasOnes x s (leftIn x s)))) ≡ true
+unfolding allBelow leadingZeros
+all-fine = refl
+
+ones-says : (x s left : ℕ) → hasOnes x s left ≡ true → Ones x s left
+ones-says x s left e =
+    let e1 = and-right (isFirst x s (s + zerosOf left)) _ e in
+    let e2 = and-right (isFirst (255 - x) (s + zerosOf left) (s + zerosOf left + onesOf left)) _ e1 in
+    record {
+      zeros-end = first-says x s (s + zerosOf left) (and-left (isFirst x s (s + zerosOf left)) _ e);
+      ones-end = first-says (255 - x) (s + zerosOf left) (s + zerosOf left + onesOf left) (and-left (isFirst (255 - x) (s + zerosOf left) (s + zerosOf left + onesOf left)) _ e1);
+      some = ltb-true _ _ (and-left (ltb 0 (onesOf left)) _ e2);
+      rest-is = eqb-true _ _ (and-right (ltb 0 (onesOf left)) _ e2);
+    }
+
+module _ (x s left : ℕ) (h : x < 256) (k : s ≤ 8) (e : left ≡ leftIn x s) where
+  fine-at : cond (eqb left 0) (isFirst x s 8) (hasOnes x s left) ≡ true
+  fine-at = rw e (all-below 9 (λ s. cond (eqb (leftIn x s) 0) (isFirst x s 8) (hasOnes x s (leftIn x s))) (all-below 256 (λ x. allBelow 9 (λ s. cond (eqb (leftIn x s) 0) (isFirst x s 8) (hasOnes x s (leftIn x s)))) all-fine x h) s (omega arith))
+
+  pub none-left : left ≡ 0 → FirstOne x s 8
+  none-left z = first-says x s 8 (rw (eq-eqb left 0 z) at fine-at)
+
+  pub ones-left : (left ≡ 0 → ⊥) → Ones x s left
+  ones-left z = ones-says x s left (rw (ne-eqb left 0 z) at fine-at)
 
 -- 255 less an octet has every bit turned.
 all-turned : allBelow 256 (λ x. allBelow 8 (λ k. cond (bitIn x k) (not (bitIn (255 - x) k)) (bitIn (255 - x) k))) ≡ true
@@ -71,36 +94,25 @@ turned-bit x k h l = go (bitIn x k) (bitIn (255 - x) k) (all-below 8 (λ k. cond
     go true b e = not-true b e
     go false b e = e
 
--- The bits of a bitmap: what the first place in an octet says of the categories from c on.
-module _ (b : List ℕ) (wanted : Bool) (c place : ℕ) (small : getD b (c / 8) 0 < 256) (f : FirstOne (cond wanted (getD b (c / 8) 0) (255 - getD b (c / 8) 0)) (c % 8) place) where
-  in-octet : (j : ℕ) → j < 8 → bitIn (cond wanted (getD b (c / 8) 0) (255 - getD b (c / 8) 0)) j ≡ cond wanted (bitIn (getD b (c / 8) 0) j) (not (bitIn (getD b (c / 8) 0) j))
+-- The bits of a bitmap: what the first place in an octet says of the categories from there on.
+module _ (b : List ℕ) (wanted : Bool) (i s place : ℕ) (small : getD b i 0 < 256) (f : FirstOne (cond wanted (getD b i 0) (255 - getD b i 0)) s place) where
+  in-octet : (j : ℕ) → j < 8 → bitIn (cond wanted (getD b i 0) (255 - getD b i 0)) j ≡ cond wanted (bitIn (getD b i 0) j) (not (bitIn (getD b i 0) j))
   in-octet j h = go wanted
     where
-      go : (w : Bool) → bitIn (cond w (getD b (c / 8) 0) (255 - getD b (c / 8) 0)) j ≡ cond w (bitIn (getD b (c / 8) 0) j) (not (bitIn (getD b (c / 8) 0) j))
+      go : (w : Bool) → bitIn (cond w (getD b i 0) (255 - getD b i 0)) j ≡ cond w (bitIn (getD b i 0) j) (not (bitIn (getD b i 0) j))
       go true = refl
-      go false = turned-bit (getD b (c / 8) 0) j small h
+      go false = turned-bit (getD b i 0) j small h
 
-  same-octet : (k : ℕ) → c ≤ k → k < 8 * (c / 8) + 8 → bitAt b k ≡ bitIn (getD b (c / 8) 0) (k % 8)
+  same-octet : (k : ℕ) → 8 * i ≤ k → k < 8 * i + 8 → bitAt b k ≡ bitIn (getD b i 0) (k % 8)
   same-octet k p q =
-      let e : k / 8 ≡ c / 8 = omega arith in
-      ap (λ (i : ℕ). bitIn (getD b i 0) (k % 8)) e
+      let e : k / 8 ≡ i = omega arith in
+      ap (λ (j : ℕ). bitIn (getD b j 0) (k % 8)) e
 
-  pub passed-bits : (k : ℕ) → c ≤ k → k < 8 * (c / 8) + place → bitAt b k ≡ not wanted
+  pub passed-bits : (k : ℕ) → 8 * i + s ≤ k → k < 8 * i + place → bitAt b k ≡ not wanted
   passed-bits k p q =
-      same-octet k p (omega (arith, f .most))
-      ∙ go wanted (bitIn (getD b (c / 8) 0) (k % 8)) (mathlib.Core.Path.sym (in-octet (k % 8) (omega arith)) ∙ f .before (k % 8) (omega arith) (omega (arith, f .most)))
+      same-octet k (omega arith) (omega (arith, f .most))
+      ∙ go wanted (bitIn (getD b i 0) (k % 8)) (sym (in-octet (k % 8) (omega arith)) ∙ f .before (k % 8) (omega (arith, f .most)) (omega (arith, f .most)))
     where
       go : (w a : Bool) → cond w a (not a) ≡ false → a ≡ not w
       go true a e = e
       go false a e = not-false a e
-
-  pub found-bit : place < 8 → bitAt b (8 * (c / 8) + place) ≡ wanted
-  found-bit h =
-      let e : (8 * (c / 8) + place) % 8 ≡ place = omega arith in
-      same-octet (8 * (c / 8) + place) (omega (arith, f .from)) (omega arith)
-      ∙ ap (bitIn (getD b (c / 8) 0)) e
-      ∙ go wanted (bitIn (getD b (c / 8) 0) place) (mathlib.Core.Path.sym (in-octet place h) ∙ f .here h)
-    where
-      go : (w a : Bool) → cond w a (not a) ≡ true → a ≡ w
-      go true a e = e
-      go false a e = not-true a e

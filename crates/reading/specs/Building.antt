@@ -1,5 +1,5 @@
 -- How a label is built from ascending pieces, one after the other: what the readers of all three tags do alike.
-use Prim.Native.Nat.{ℕ, _+_, _-_, _*_, _/_, _%_, _≤_, _<_}
+use Prim.Native.Nat.{ℕ, _+_, _-_, _*_, _/_, _%_, _^_, _≤_, _<_}
 use mathlib.Core.Path.{_≡_}
 use mathlib.Core.List.{List, [], _∷_, _++_}
 use mathlib.Core.Bool.{Bool, true, false, not, _&&_, cond}
@@ -52,9 +52,6 @@ pub record FirstOne (x s r : ℕ) : Type 0 where
   pub before : (k : ℕ) → s ≤ k → k < r → bitIn x k ≡ false
   pub here : r < 8 → bitIn x r ≡ true
 
--- r is the first category from c on whose bit is as wanted, or the number of bits
-pub record NextBit (b : List ℕ) (wanted : Bool) (c r : ℕ) : Type 0 where
-  pub from : c ≤ r
-  pub most : r ≤ 8 * length b
-  pub before : (k : ℕ) → c ≤ k → k < r → bitAt b k ≡ not wanted
-  pub here : r < 8 * length b → bitAt b r ≡ wanted
+-- an octet's bits from place s on, at the top of 32 bits
+abbrev pub leftIn : ℕ → ℕ → ℕ
+leftIn x s = x * 2 ^ (24 + s) % 4294967296

@@ -11,7 +11,7 @@ ghost use Rattle.option.specs.Bitmap.{bitAt};
 ghost use Rattle.option.specs.Option.{domainOf};
 ghost use Rattle.option.specs.Reading.{pieces};
 ghost use Rattle.option.specs.Index.{setRuns, rangeRuns, firstTrue, numberAt, badNumber, badPair};
-ghost use Rattle.reading.specs.Building.{afterPiece, FirstOne, NextBit, lowIn, highIn};
+ghost use Rattle.reading.specs.Building.{afterPiece, leftIn, lowIn, highIn};
 ghost use Rattle.reading.specs.Reading.{refusal, firstOf, knownTag, goodLength, countIn, badIn, badPlace, tagChecks, labelIn, readingOf, readingFor};
 use label::Label;
 use label::Run;
@@ -67,49 +67,30 @@ fn add_piece(last: Last, low: u16, high: u16) -> Last
     }
 }
 
-// The first place from s on, counted from the octet's top bit, whose bit is 1; 8 where there is none.
-fn first_one(octet: u8, s: usize) -> usize
-    requires { ⌜ s < 8 ⌝ }
-    ensures { λ r. ⌜ FirstOne octet s r ⌝ }
+// Octet i, or 0 past the end.
+fn octet_at(octets: &[u8], i: usize) -> u16
+    ensures { λ r. ⌜ (r ≡ getD (now (octets .entry)) i 0) × (r < 256) ⌝ }
 {
-    let left = (octet as u32) % (1 << (8 - s));
-    (u32::leading_zeros(left) - 24) as usize
-}
-
-// The octet, or the one with every bit turned.
-fn turn_octet(octet: u8, wanted: bool) -> u8
-    ensures { λ r. ⌜ r ≡ cond wanted octet (255 - octet) ⌝ }
-{
-    if wanted {
-        return octet;
+    if i < octets.len() {
+        octets[i] as u16
+    } else {
+        0
     }
-    255 - octet
 }
 
-// The first category from the given one on whose bit is as wanted, or the number of bits where there is none: octet by octet.
-fn next_bit(octets: &[u8], from: usize, wanted: bool) -> usize
-    requires { ⌜ (length (now octets) ≤ 30) × (from ≤ 8 * length (now octets)) ⌝ }
-    ensures { λ r. ⌜ NextBit (now (octets .entry)) wanted from r ⌝ }
+// Octet i at the top of 32 bits; 0 past the end.
+fn octet_left(octets: &[u8], i: usize) -> u32
+    ensures { λ r. ⌜ (getD (now (octets .entry)) i 0 < 256) × (r ≡ leftIn (getD (now (octets .entry)) i 0) 0) ⌝ }
 {
-    let n = 8 * octets.len();
-    let mut c = from;
-    while c < n {
-        let i = c / 8;
-        let place = first_one(turn_octet(octets[i], wanted), c % 8);
-        if place < 8 {
-            return 8 * i + place;
-        }
-        c = 8 * i + 8;
-    }
-    c
+    (octet_at(octets, i) as u32) << 24
 }
 
-// The label of a bitmap's categories: from each bit that is 1 to the next that is 0.
+// The label of a bitmap's categories: in each octet the ones that stand together are a piece. `left` has the bits of octet i from category c on.
 fn read_bitmap(octets: &[u8], domain: u32, level: u8) -> Label
     requires { ⌜ length (now octets) ≤ 30 ⌝ }
     ensures { λ r. ⌜ r ≡ labelOf domain level (setRuns (bitAt (now (octets .entry))) (8 * length (now (octets .entry)))) ⌝ }
 {
-    let n = 8 * octets.len();
+    let n = octets.len();
     let mut label = Label {
         domain: domain,
         level: level,
@@ -121,31 +102,32 @@ fn read_bitmap(octets: &[u8], domain: u32, level: u8) -> Label
         low: 0,
         next: 0,
     };
-    let mut c = next_bit(octets, 0, true);
-    while c < n {
-        let end = next_bit(octets, c, false);
-        let high = (end - 1) as u16;
-        last = add_piece(last, c as u16, high);
-        let at = last.count - 1;
-        label.runs[at] = Run {
-            low: last.low,
-            high: high,
-        };
-        c = next_bit(octets, end, true);
+    let mut i: usize = 0;
+    let mut c: usize = 0;
+    let mut left = octet_left(octets, 0);
+    while i < n {
+        if left == 0 {
+            i += 1;
+            c = 8 * i;
+            left = octet_left(octets, i);
+        } else {
+            let zeros = u32::leading_zeros(left);
+            let raised = left << zeros;
+            let ones = u32::leading_zeros(4294967295 - raised);
+            let low = c + (zeros as usize);
+            c = low + (ones as usize);
+            let high = (c - 1) as u16;
+            last = add_piece(last, low as u16, high);
+            let at = last.count - 1;
+            label.runs[at] = Run {
+                low: last.low,
+                high: high,
+            };
+            left = raised << ones;
+        }
     }
     label.count = last.count;
     label
-}
-
-// Octet i, or 0 past the end.
-fn octet_at(octets: &[u8], i: usize) -> u16
-    ensures { λ r. ⌜ (r ≡ getD (now (octets .entry)) i 0) × (r < 256) ⌝ }
-{
-    if i < octets.len() {
-        octets[i] as u16
-    } else {
-        0
-    }
 }
 
 // Two-octet number k; octets past the end count as 0.

@@ -1,133 +1,168 @@
--- `reading::read_bitmap` meets its contract. The loop's invariant: the label under construction has the runs of the bits passed, and the next bit is 1.
+-- `reading::read_bitmap` meets its contract. The loop's invariant: the label under construction has the runs of the bits passed, and `left` has the
+-- octet's other bits.
 use borrow.Author.Needs.{needs}
 use native.Mathlib.Omega.{arith}
-use Prim.Native.Nat.{ℕ, suc, _+_, _-_, _*_, _≤_, _<_}
-use mathlib.Core.Path.{_≡_, refl, sym, _∙_, ap}
-use mathlib.Core.Bool.{Bool, true, false, true≢false}
-use mathlib.Core.List.{List, []}
-use mathlib.Core.Logic.{⊎-elim}
+use Prim.Native.Nat.{ℕ, _+_, _-_, _*_, _≤_, _<_}
+use mathlib.Core.Path.{_≡_, _∙_, ap}
+use mathlib.Core.List.{List}
 use lib.ListN.{length}
 use Rattle.label.specs.Runs.{pushRun}
-use Rattle.label.proofs.Bools.{less-or}
 use Rattle.option.specs.Bitmap.{bitAt}
 use Rattle.option.specs.Index.{setRuns}
-use Rattle.reading.specs.Building.{NextBit}
 use Rattle.reading.proofs.Building.{Stands, stands-nil, stands-count, stands-push, piece-count, piece-some, finished}
-use Rattle.reading.proofs.Loops.{set-most, clear-bits, set-bits}
+use Rattle.reading.proofs.Octets.{zerosOf, onesOf}
+use Rattle.reading.proofs.Loops.{set-most, Inside, inside-start, inside-next, octet-over, octet-piece, ones-some, ones-most}
 use Rattle.reading.proofs.read_bitmap.Statement.{statement}
 use Rattle.reading.proofs.read_bitmap.Tie as tie
 
 abbrev Inv-loop : tie.InvT-loop
-Inv-loop octets domain level n label₀ last₀ c₀ label last c =
-    (c ≤ n) × (c < n → bitAt octets c ≡ true) × Stands domain level (setRuns (bitAt octets) c) label last
+Inv-loop octets domain level n label₀ last₀ i₀ c₀ left₀ label last i c left = Inside octets i c left × Stands domain level (setRuns (bitAt octets) c) label last
 
 abbrev μ-loop : tie.MeasureT-loop
-μ-loop octets domain level n label₀ last₀ c₀ label last c = n - c
+μ-loop octets domain level n label₀ last₀ i₀ c₀ left₀ label last i c left = 9 * n - (i + c)
 
--- the bits from the turn's category to the next that is 0
-module _ (c : tie.After-next-bit2 Inv-loop μ-loop) where
+-- the turn's ones: from low to before end
+module _ (c : tie.Else1 Inv-loop μ-loop) where
   abbrev b : List ℕ
   b = c .before .before .before .before .before .args .octets .now
 
-  abbrev at : ℕ
-  at = c .before .before .loop .c
+  inside : Inside b (c .before .before .loop .i) (c .before .before .loop .c) (c .before .before .loop .left)
+  inside = c .before .before .loop .inv .0
+
+  abbrev low : ℕ
+  low = c .before .before .loop .c + zerosOf (c .before .before .loop .left)
 
   abbrev end : ℕ
-  end = c .next-bit2 .result
+  end = low + onesOf (c .before .before .loop .left)
 
-  short : 8 * length b ≤ 240
-  short = omega (arith, c .before .before .before .before .before .pre)
+  some : low < end
+  some = omega (arith, ones-some inside (c .if1 .left))
 
-  goes : NextBit b false at end
-  goes = c .next-bit2 .ensures
+  few : end ≤ 8 * c .before .before .loop .i + 8
+  few = ones-most inside (c .if1 .left)
 
-  some-bits : at < end
-  some-bits = ⊎-elim (λ w. w) (λ w. absurd (go (omega (arith, goes .from)))) (less-or at end)
-    where
-      go : end ≡ at → ⊥
-      go e =
-          true≢false
-          (sym (c .before .before .loop .inv .1 (c .before .loop-test .taken)) ∙ ap (bitAt b) (sym e) ∙ goes .here (omega (arith, c .before .loop-test .taken)))
+  whole : end ≤ 8 * length b
+  whole = omega (arith, few, c .before .loop-test .taken)
 
-  run-is : pushRun (setRuns (bitAt b) at) at (end - 1) ≡ setRuns (bitAt b) end
-  run-is =
-      let e : suc (end - 1) ≡ end = omega (arith, some-bits) in
-      set-bits (bitAt b) at (end - 1) (omega (arith, some-bits)) (λ k p q. goes .before k p (omega (arith, some-bits))) ∙ ap (setRuns (bitAt b)) e
+  short : end ≤ 240
+  short = omega (arith, whole, c .before .before .before .before .before .pre)
 
-  room : length (pushRun (setRuns (bitAt b) at) at (end - 1)) ≤ 120
-  room = rw run-is (set-most (bitAt b) end (omega (arith, short, goes .most)))
+  run-is : pushRun (setRuns (bitAt b) (c .before .before .loop .c)) low (end - 1) ≡ setRuns (bitAt b) end
+  run-is = octet-piece inside (c .if1 .left)
+
+  room : length (pushRun (setRuns (bitAt b) (c .before .before .loop .c)) low (end - 1)) ≤ 120
+  room = rw run-is (set-most (bitAt b) end short)
+
+  -- a shift passes bits of this octet alone
+  zeros-few : zerosOf (c .before .before .loop .left) < 32
+  zeros-few = omega (arith, some, few, inside .from)
+
+  ones-few : onesOf (c .before .before .loop .left) < 32
+  ones-few = omega (arith, some, few, inside .from)
 
 -- where the turn's run is stored
 stored : (c : tie.After-add-piece Inv-loop μ-loop) → (0 < c .add-piece .result .count) × (c .add-piece .result .count ≤ 120)
 stored c =
     let d = c .before in
-    let s = d .before .before .loop .inv .2 in (
-      piece-some s (at d) (end d - 1) _ (c .add-piece .ensures),
-      omega (arith, piece-count s (at d) (end d - 1) _ (c .add-piece .ensures), room d),
+    let s = d .before .before .loop .inv .1 in (
+      piece-some s (low d) (end d - 1) _ (c .add-piece .ensures),
+      omega (arith, piece-count s (low d) (end d - 1) _ (c .add-piece .ensures), room d),
     )
 
-mul-n : tie.Need-mul-n Inv-loop μ-loop
-mul-n c = search needs
-
-next-bit-requires : tie.Need-next-bit-requires Inv-loop μ-loop
-next-bit-requires c κs = (c .before .pre, omega arith)
+octet-left-requires : tie.Need-octet-left-requires Inv-loop μ-loop
+octet-left-requires c κs = search needs
 
 loop-holds : tie.Need-loop-holds Inv-loop μ-loop
 loop-holds c =
     let b′ = c .before .before .args .octets .now in
-    let e : setRuns (bitAt b′) (c .next-bit .result) ≡ [] =
-    clear-bits (bitAt b′) 0 (c .next-bit .result) (omega arith) (c .next-bit .ensures .before) in
-    (c .next-bit .ensures .most, c .next-bit .ensures .here, rw e (stands-nil _ _))
+    (inside-start b′ 0 (c .octet-left .result) (omega arith) (c .octet-left .ensures .0) (c .octet-left .ensures .1), stands-nil _ _)
 
-next-bit-requires-2 : tie.Need-next-bit-requires-2 Inv-loop μ-loop
-next-bit-requires-2 c κs = (c .before .before .before .before .pre, c .before .loop .inv .0)
+add-i : tie.Need-add-i Inv-loop μ-loop
+add-i c = omega (arith, c .before .loop-test .taken, c .before .before .before .before .before .pre)
+
+mul-c : tie.Need-mul-c Inv-loop μ-loop
+mul-c c = omega (arith, c .before .loop-test .taken, c .before .before .before .before .before .pre)
+
+octet-left-requires-2 : tie.Need-octet-left-requires-2 Inv-loop μ-loop
+octet-left-requires-2 c κs = search needs
+
+loop-less : tie.Need-loop-less Inv-loop μ-loop
+loop-less c =
+    let l = c .before .before .before .loop in
+    omega (arith, l .inv .0 .from, l .inv .0 .most, l .inv .0 .whole, c .before .before .loop-test .taken)
+
+loop-again : tie.Need-loop-again Inv-loop μ-loop
+loop-again c =
+    let d = c .before in
+    let l = d .before .before .loop in
+    let b′ = d .before .before .before .before .before .args .octets .now in
+    let e : 8 * (l .i + 1) ≡ 8 * l .i + 8 = omega arith in
+    let same : setRuns (bitAt b′) (8 * (l .i + 1)) ≡ setRuns (bitAt b′) (l .c) = ap (setRuns (bitAt b′)) e ∙ octet-over (l .inv .0) (d .if1 .taken) in (
+      inside-start b′ (l .i + 1) (c .octet-left2 .result) (omega (arith, d .before .loop-test .taken)) (c .octet-left2 .ensures .0) (c .octet-left2 .ensures .1),
+      rw same (l .inv .1),
+    )
+
+shl-raised : tie.Need-shl-raised Inv-loop μ-loop
+shl-raised c = zeros-few c
+
+sub-ones : tie.Need-sub-ones Inv-loop μ-loop
+sub-ones c = search needs
+
+cast-low : tie.Need-cast-low Inv-loop μ-loop
+cast-low c = omega (arith, zeros-few c)
+
+add-low : tie.Need-add-low Inv-loop μ-loop
+add-low c = omega (arith, some c, short c)
+
+cast-c : tie.Need-cast-c Inv-loop μ-loop
+cast-c c = omega (arith, ones-few c)
+
+add-c : tie.Need-add-c Inv-loop μ-loop
+add-c c = omega (arith, short c)
 
 sub-high : tie.Need-sub-high Inv-loop μ-loop
-sub-high c = omega (arith, some-bits c)
+sub-high c = omega (arith, some c)
 
 cast-high : tie.Need-cast-high Inv-loop μ-loop
-cast-high c = omega (arith, goes c .most, short c)
+cast-high c = omega (arith, short c)
 
 cast-add-piece : tie.Need-cast-add-piece Inv-loop μ-loop
-cast-add-piece c = omega (arith, c .before .before .loop .inv .0, short c)
+cast-add-piece c = omega (arith, some c, short c)
 
 add-piece-requires : tie.Need-add-piece-requires Inv-loop μ-loop
 add-piece-requires c κs =
     let l = c .before .before .loop in
-    omega (arith, stands-count (l .inv .2), set-most (bitAt (b c)) (l .c) (omega (arith, short c)))
+    omega (arith, stands-count (l .inv .1), set-most (bitAt (b c)) (l .c) (omega (arith, some c, short c)))
 
 sub-at : tie.Need-sub-at Inv-loop μ-loop
 sub-at c = omega (arith, stored (c .before))
 
-mul-t15 : tie.Need-mul-t15 Inv-loop μ-loop
-mul-t15 c = omega (arith, stored (c .before))
+mul-t20 : tie.Need-mul-t20 Inv-loop μ-loop
+mul-t20 c = omega (arith, stored (c .before))
 
 element-set-from-label : tie.Need-element-set-from-label Inv-loop μ-loop
 element-set-from-label c = omega (arith, stored (c .before))
 
-next-bit-requires-3 : tie.Need-next-bit-requires-3 Inv-loop μ-loop
-next-bit-requires-3 c κs = (c .before .before .before .before .before .before .before .pre, goes (c .before .before) .most)
+shl-left : tie.Need-shl-left Inv-loop μ-loop
+shl-left c = ones-few (c .before .before)
 
-loop-less : tie.Need-loop-less Inv-loop μ-loop
-loop-less c =
-    let d = c .before .before .before in
-    omega (arith, some-bits d, goes d .most, c .next-bit3 .ensures .from, c .next-bit3 .ensures .most)
+loop-less-2 : tie.Need-loop-less-2 Inv-loop μ-loop
+loop-less-2 c =
+    let d = c .before .before in
+    omega (arith, some d, whole d, d .before .loop-test .taken)
 
-loop-again : tie.Need-loop-again Inv-loop μ-loop
-loop-again c =
-    let d = c .before .before .before in
-    let n = c .next-bit3 .ensures in
-    let e : setRuns (bitAt (b d)) (c .next-bit3 .result) ≡ pushRun (setRuns (bitAt (b d)) (at d)) (at d) (end d - 1) =
-    clear-bits (bitAt (b d)) (end d) (c .next-bit3 .result) (n .from) (n .before) ∙ sym (run-is d) in (
-      n .most,
-      n .here,
-      rw e (stands-push (d .before .before .loop .inv .2) (at d) (end d - 1) _ (c .before .before .add-piece .ensures) (room d)),
+loop-again-2 : tie.Need-loop-again-2 Inv-loop μ-loop
+loop-again-2 c =
+    let d = c .before .before in (
+      inside-next (inside d) (d .if1 .left) (d .before .loop-test .taken),
+      rw (← run-is d) (stands-push (d .before .before .loop .inv .1) (low d) (end d - 1) _ (c .before .add-piece .ensures) (room d)),
     )
 
 returns : tie.Need-returns Inv-loop μ-loop
 returns c =
-    let e : c .before .loop .c ≡ 8 * length (c .before .before .before .before .args .octets .now) = omega arith in
-    rw (← e) (finished (c .before .loop .inv .2))
+    let l = c .before .loop in
+    let e : l .c ≡ 8 * length (c .before .before .before .before .args .octets .now) = omega (arith, l .inv .0 .from, l .inv .0 .whole, c .loop-test .left) in
+    rw (← e) (finished (l .inv .1))
 
 pub read-bitmap-spec : {M : Type 1} → statement M
 read-bitmap-spec =
@@ -135,18 +170,27 @@ read-bitmap-spec =
     (tie.spec
     Inv-loop
     μ-loop
-    mul-n
-    next-bit-requires
+    octet-left-requires
     loop-holds
-    next-bit-requires-2
+    add-i
+    mul-c
+    octet-left-requires-2
+    loop-less
+    loop-again
+    shl-raised
+    sub-ones
+    cast-low
+    add-low
+    cast-c
+    add-c
     sub-high
     cast-high
     cast-add-piece
     add-piece-requires
     sub-at
-    mul-t15
+    mul-t20
     element-set-from-label
-    next-bit-requires-3
-    loop-less
-    loop-again
+    shl-left
+    loop-less-2
+    loop-again-2
     returns)
