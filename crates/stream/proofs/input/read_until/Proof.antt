@@ -1,0 +1,56 @@
+-- `stream::read_until` meets its contract.
+use borrow.Author.Needs.{needs}
+use Prim.Native.Nat.{_≤_, _-_, _+_}
+use mathlib.Core.Path.{_≡_}
+use lib.ListN.{length}
+use Rattle.stream.proofs.input.read_until.Statement.{statement}
+use Rattle.stream.proofs.input.read_until.Tie as tie
+
+abbrev Inv-loop : tie.InvT-loop
+Inv-loop input₀ held n end₀ input end = (length input ≡ length input₀) × (end ≤ length input)
+
+abbrev μ-loop : tie.MeasureT-loop
+μ-loop input₀ held n end₀ input end = length input - end
+
+loop-holds : tie.Need-loop-holds Inv-loop μ-loop
+loop-holds c = search needs
+
+read-once-requires : tie.Need-read-once-requires Inv-loop μ-loop
+read-once-requires c κs = search needs
+
+same-length : tie.Need-same-length Inv-loop μ-loop
+same-length c = search needs
+
+returns : tie.Need-returns Inv-loop μ-loop
+returns c = search needs
+
+add-end : tie.Need-add-end Inv-loop μ-loop
+add-end c = search needs
+
+loop-less : tie.Need-loop-less Inv-loop μ-loop
+loop-less c = search needs
+
+loop-again : tie.Need-loop-again Inv-loop μ-loop
+loop-again c = search needs
+
+same-length-2 : tie.Need-same-length-2 Inv-loop μ-loop
+same-length-2 c = search needs
+
+returns-2 : tie.Need-returns-2 Inv-loop μ-loop
+returns-2 c = search needs
+
+pub read-until-spec : {M : Type 1} → statement M
+read-until-spec =
+    tie.close
+    (tie.spec
+    Inv-loop
+    μ-loop
+    loop-holds
+    read-once-requires
+    same-length
+    returns
+    add-end
+    loop-less
+    loop-again
+    same-length-2
+    returns-2)

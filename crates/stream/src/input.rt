@@ -1,0 +1,72 @@
+// Input: a buffer of which a window holds the octets that were read and are not yet used.
+ghost use mathlib.Core.Path.{_≡_};
+ghost use Prim.Native.Nat.{_+_, _-_, _≤_};
+ghost use lib.ListN.{length};
+use libc::STDIN_FILENO;
+
+// The unused octets of a buffer: from `at` up to `end`, where the next ones go.
+pub struct Window {
+    pub at: usize,
+    pub end: usize,
+}
+
+// The window once it holds n octets, or all that the input still has: what is held goes to the front, and the rest of the buffer is read into.
+// A window that does not lie in the buffer counts as empty.
+pub fn hold(input: &mut [u8], window: Window, n: usize) -> Window
+    ensures { λ r. ⌜ (r .at ≤ r .end) × (r .end ≤ length (now (input .exit))) ⌝ }
+{
+    let at = window.at;
+    let end = window.end;
+    if input.len() < end {
+        return Window { at: 0, end: 0 };
+    }
+    if end < at {
+        return Window { at: 0, end: 0 };
+    }
+    if n <= end - at {
+        return Window { at: at, end: end };
+    }
+    move_down(input, at, end);
+    let held = read_until(input, end - at, n);
+    Window { at: 0, end: held }
+}
+
+// Moves the octets from `at` up to `end` to the front.
+fn move_down(input: &mut [u8], at: usize, end: usize)
+    requires { ⌜ at ≤ end ⌝ }
+    requires { ⌜ end ≤ length (now input) ⌝ }
+    ensures { λ _. ⌜ length (now (input .exit)) ≡ length (now (input .entry)) ⌝ }
+{
+    let mut to: usize = 0;
+    let mut from = at;
+    while from < end {
+        input[to] = input[from];
+        to += 1;
+        from += 1;
+    }
+}
+
+// Reads on from `held` until n octets are there, the input ends or the buffer is full, and answers how many are there.
+fn read_until(input: &mut [u8], held: usize, n: usize) -> usize
+    requires { ⌜ held ≤ length (now input) ⌝ }
+    ensures { λ r. ⌜ r ≤ length (now (input .exit)) ⌝ }
+{
+    let mut end = held;
+    while end < n {
+        let got = read_once(input, end);
+        if got == 0 {
+            return end;
+        }
+        end += got;
+    }
+    end
+}
+
+// One read into the buffer from `end` on: how many octets came, 0 at the end of the input.
+fn read_once(input: &mut [u8], end: usize) -> usize
+    requires { ⌜ end ≤ length (now input) ⌝ }
+    ensures { λ r. ⌜ (end + r ≤ length (now (input .exit))) × (length (now (input .exit)) ≡ length (now (input .entry))) ⌝ }
+{
+    let got = libc::read(STDIN_FILENO, &mut input[end..]);
+    io::count(got, &input[end..])
+}
