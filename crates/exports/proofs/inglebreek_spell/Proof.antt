@@ -1,0 +1,68 @@
+-- `exports::inglebreek_spell` meets its contract.
+use borrow.Author.Needs.{needs}
+use mathlib.Core.Path.{_≡_}
+use Prim.Native.Nat.{_≤_, _-_}
+use lib.ListN.{length}
+use Rattle.exports.proofs.inglebreek_spell.Statement.{statement}
+use Rattle.exports.proofs.inglebreek_spell.Tie as tie
+
+abbrev Inv-loop : tie.InvT-loop
+Inv-loop octets out₀ times label₀ total₀ i₀ out label total i = (i ≤ times) × (length out ≡ length out₀)
+
+abbrev μ-loop : tie.MeasureT-loop
+μ-loop octets out₀ times label₀ total₀ i₀ out label total i = times - i
+
+read-option-requires : tie.Need-read-option-requires Inv-loop μ-loop
+read-option-requires c κs = search needs
+
+loop-holds : tie.Need-loop-holds Inv-loop μ-loop
+loop-holds c = search needs
+
+cast-label : tie.Need-cast-label Inv-loop μ-loop
+cast-label c = search needs
+
+spell-label-requires : tie.Need-spell-label-requires Inv-loop μ-loop
+spell-label-requires c κs = search needs
+
+cast-mix : tie.Need-cast-mix Inv-loop μ-loop
+cast-mix c = search needs
+
+mix-requires : tie.Need-mix-requires Inv-loop μ-loop
+mix-requires c κs = search needs
+
+mix-requires-2 : tie.Need-mix-requires-2 Inv-loop μ-loop
+mix-requires-2 c κs = search needs
+
+add-i : tie.Need-add-i Inv-loop μ-loop
+add-i c = search needs
+
+loop-less : tie.Need-loop-less Inv-loop μ-loop
+loop-less c = search needs
+
+loop-again : tie.Need-loop-again Inv-loop μ-loop
+loop-again c = search needs
+
+same-length : tie.Need-same-length Inv-loop μ-loop
+same-length c = c .before .loop .inv .1
+
+returns : tie.Need-returns Inv-loop μ-loop
+returns c = search needs
+
+pub inglebreek-spell-spec : {M : Type 1} → statement M
+inglebreek-spell-spec =
+    tie.close
+    (tie.spec
+    Inv-loop
+    μ-loop
+    read-option-requires
+    loop-holds
+    cast-label
+    spell-label-requires
+    cast-mix
+    mix-requires
+    mix-requires-2
+    add-i
+    loop-less
+    loop-again
+    same-length
+    returns)
