@@ -66,6 +66,14 @@ pub yes-implies : (a b : Bool) → (a ≡ true → b ≡ true) → (not a || b) 
 yes-implies true b h = h refl
 yes-implies false b h = refl
 
+-- a conjunction told from the left
+pub and-chain : (g a b c d : Bool) → (g && (a && (b && (c && d)))) ≡ ((((g && a) && b) && c) && d)
+and-chain false a b c d = refl
+and-chain true false b c d = refl
+and-chain true true false c d = refl
+and-chain true true true false d = refl
+and-chain true true true true d = refl
+
 -- three numbers are zero exactly when their sum is
 pub zero-sum : (s a b : ℕ) (u : Bool) → (eqb s 0 && (eqb a 0 && (eqb b 0 && u))) ≡ (eqb (s + a + b) 0 && u)
 zero-sum zero zero zero u = refl

@@ -54,11 +54,11 @@ unfolding wellFormed
 well-formed l f =
     simp (ne-eqb _ _ (f .owned), le-leb _ _ (f .held), f .runs, f .rest) (typed-yes l (f .domain) (f .level) (f .places))
 
--- the last part decides where the others hold
-pub well-formed-rest : (l : Label) → (l .domain ≡ 0 → ⊥) → l .count ≤ 120 → spaced 0 (used l) ≡ true → typed l ≡ true
-    → wellFormed l ≡ unused (drop (l .count) (l .runs))
+-- the runs decide where the other parts hold
+pub well-formed-runs : (l : Label) → (l .domain ≡ 0 → ⊥) → l .count ≤ 120 → typed l ≡ true
+    → wellFormed l ≡ (spaced 0 (used l) && unused (drop (l .count) (l .runs)))
 unfolding wellFormed
-well-formed-rest l o h s t = simp (ne-eqb _ _ o, le-leb _ _ h, s, t, and-true)
+well-formed-runs l o h t = simp (ne-eqb _ _ o, le-leb _ _ h, t, and-true)
 
 -- The label made of runs.
 

@@ -1,6 +1,7 @@
 pub mod Bools
 pub mod Steps
 pub mod Runs
+pub mod Places
 pub mod Canon
 pub mod Push
 pub mod Count

@@ -1,17 +1,16 @@
 -- `label::Label::well_formed` meets its contract.
-use borrow.Author.Tests.{eq-eqb, ne-eqb, le-leb, lt-leb, not-true, not-false}
+use borrow.Author.Tests.{eq-eqb, ne-eqb, le-leb, lt-leb}
 use mathlib.Core.Path.{_≡_, sym, _∙_}
 use mathlib.Core.Bool.{true}
 use lib.ListN.{length, length-map}
 use Rattle.label.specs.Label.{typed, wellFormed}
-use Rattle.label.proofs.Labels.{typed-yes, well-formed-rest}
+use Rattle.label.proofs.Labels.{typed-yes, well-formed-runs}
 use borrow.Author.Needs.{needs}
 use Rattle.label.proofs.Label.well_formed.Statement.{statement}
 use Rattle.label.proofs.Label.well_formed.Tie as tie
 use Rattle.label.proofs.Label.well_formed.Reads as reads
 use Rattle.label.proofs.Label.well_formed.Lts as lts
-use Rattle.label.proofs.rest_unused.Reads as rest-unused-reads
-use Rattle.label.proofs.used_spaced.Reads as used-spaced-reads
+use Rattle.label.proofs.runs_formed.Reads as runs-formed-reads
 
 -- the types of the fields
 fields : (c : tie.Start) → typed (c .args .self) ≡ true
@@ -27,30 +26,16 @@ returns-2 : tie.Need-returns-2
 unfolding wellFormed
 returns-2 c = simp (ne-eqb _ _ (c .before .before .if1 .left), lt-leb _ _ (c .if2 .taken))
 
-used-spaced-requires : tie.Need-used-spaced-requires
-used-spaced-requires c κs = search needs
+runs-formed-requires : tie.Need-runs-formed-requires
+runs-formed-requires c κs = search needs
 
 returns-3 : tie.Need-returns-3
-unfolding wellFormed
 returns-3 c =
-    simp (
-      ne-eqb _ _ (c .before .before .before .before .if1 .left),
-      le-leb _ _ (c .before .before .if2 .left),
-      sym (c .before .used-spaced .ensures) ∙ not-true _ (c .if3 .taken),
-    )
-
-rest-unused-requires : tie.Need-rest-unused-requires
-rest-unused-requires c κs = search needs
-
-returns-4 : tie.Need-returns-4
-returns-4 c =
-    c .rest-unused .ensures
+    c .runs-formed .ensures
     ∙ sym
-    (well-formed-rest _ (c .before .before .before .before .before .if1 .left) (c .before .before .before .if2 .left)
-    (sym (c .before .before .used-spaced .ensures) ∙ not-false _ (c .before .if3 .left))
-    (fields (c .before .before .before .before .before .before .before)))
+    (well-formed-runs _ (c .before .before .before .if1 .left) (c .before .if2 .left) (fields (c .before .before .before .before .before)))
 
 pub well-formed-spec : {M : Type 1} → statement M
 well-formed-spec =
     tie.close
-    (tie.spec returns returns-2 used-spaced-requires returns-3 rest-unused-requires returns-4)
+    (tie.spec returns returns-2 runs-formed-requires returns-3)
