@@ -96,7 +96,7 @@ module _ {b : List ℕ} {i c left : ℕ} (t : Inside b i c left) where
     ones-some = ones .some
 
     pub ones-most : c + zerosOf left + onesOf left ≤ 8 * i + 8
-    ones-most = omega (arith, place, ones .ones-end .most)
+    ones-most = omega (arith, place, ones .ones-full .most)
 
     -- the ones are the next piece
     pub octet-piece : pushRun (setRuns (bitAt b) c) (c + zerosOf left) (c + zerosOf left + onesOf left - 1) ≡ setRuns (bitAt b) (c + zerosOf left + onesOf left)
@@ -105,9 +105,9 @@ module _ {b : List ℕ} {i c left : ℕ} (t : Inside b i c left) where
         let high : ℕ = low + onesOf left - 1 in
         let e : suc high ≡ low + onesOf left = omega (arith, ones-some) in
         let clear : setRuns (bitAt b) low ≡ setRuns (bitAt b) c =
-        clear-bits (bitAt b) c low (omega arith) (λ k p q. passed-bits b true i (c - 8 * i) (c - 8 * i + zerosOf left) (t .small) (ones .zeros-end) k (omega (arith, place)) (omega (arith, place))) in
+        clear-bits (bitAt b) c low (omega arith) (λ k p q. passed-bits b true i (c - 8 * i) (c - 8 * i + zerosOf left) (t .small) (ones .zeros-clear) k (omega (arith, place)) (omega (arith, place))) in
         ap (λ (rs : List Run). pushRun rs low high) (sym clear)
-        ∙ set-bits (bitAt b) low high (omega (arith, ones-some)) (λ k p q. passed-bits b false i (c - 8 * i + zerosOf left) (c - 8 * i + zerosOf left + onesOf left) (t .small) (ones .ones-end) k (omega (arith, place)) (omega (arith, place, ones-some)))
+        ∙ set-bits (bitAt b) low high (omega (arith, ones-some)) (λ k p q. passed-bits b false i (c - 8 * i + zerosOf left) (c - 8 * i + zerosOf left + onesOf left) (t .small) (ones .ones-full) k (omega (arith, place)) (omega (arith, place, ones-some)))
         ∙ ap (setRuns (bitAt b)) e
 
     pub inside-next : i < length b → Inside b i (c + zerosOf left + onesOf left) (restOf left)

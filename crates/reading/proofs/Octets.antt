@@ -10,8 +10,8 @@ use native.Mathlib.Omega.{arith}
 use borrow.Author.Tests.{le-leb, lt-ltb, eq-eqb, ne-eqb, leb-true, ltb-true, eqb-true, not-true, not-false}
 use Rattle.label.specs.Runs.{allBelow}
 use Rattle.label.proofs.Bools.{and-left, and-right, and-both, implies-yes, all-below}
-use Rattle.option.specs.Bitmap.{bitAt}
-use Rattle.reading.specs.Building.{bitIn, FirstOne, leftIn}
+use Rattle.option.specs.Bitmap.{weight, bitAt}
+use Rattle.reading.specs.Building.{leftIn}
 
 -- What the reader takes from an octet's bits at the top of 32: the zeros above the first ones, those ones at the top, their number, and the bits after them.
 abbrev pub zerosOf : ℕ → ℕ
@@ -26,58 +26,60 @@ onesOf left = leadingZeros 32 (4294967295 - raisedOf left)
 abbrev pub restOf : ℕ → ℕ
 restOf left = raisedOf left * 2 ^ onesOf left % 4294967296
 
-abbrev isFirst : ℕ → ℕ → ℕ → Bool
-isFirst x s r =
-    leb s r
-    && (leb r 8 && (allBelow 8 (λ k. not (leb s k && ltb k r) || not (bitIn x k)) && (not (ltb r 8) || bitIn x r)))
+-- the bit at place k of an octet, counted from the top
+abbrev pub bitIn : ℕ → ℕ → Bool
+bitIn x k = eqb (x / weight k % 2) 1
+
+-- the bits from place s to before place r are 0
+pub record Clear (x s r : ℕ) : Type 0 where
+  pub most : r ≤ 8
+  pub before : (k : ℕ) → s ≤ k → k < r → bitIn x k ≡ false
+
+abbrev isClear : ℕ → ℕ → ℕ → Bool
+isClear x s r = leb r 8 && allBelow 8 (λ k. not (leb s k && ltb k r) || not (bitIn x k))
 
 -- what the test says
-first-says : (x s r : ℕ) → isFirst x s r ≡ true → FirstOne x s r
-first-says x s r e =
-    let e1 = and-right (leb s r) _ e in
-    let e2 = and-right (leb r 8) _ e1 in
-    let below = and-left (allBelow 8 (λ k. not (leb s k && ltb k r) || not (bitIn x k))) _ e2 in
-    let most : r ≤ 8 = leb-true _ _ (and-left (leb r 8) _ e1) in
+clear-says : (x s r : ℕ) → isClear x s r ≡ true → Clear x s r
+clear-says x s r e =
+    let most : r ≤ 8 = leb-true _ _ (and-left (leb r 8) _ e) in
     record {
-      from = leb-true _ _ (and-left (leb s r) _ e);
       most = most;
-      before = λ k p q. not-true _ (implies-yes (leb s k && ltb k r) _ (all-below 8 (λ k. not (leb s k && ltb k r) || not (bitIn x k)) below k (omega arith)) (and-both (le-leb s k p) (lt-ltb k r q)));
-      here = λ p. implies-yes (ltb r 8) _ (and-right (allBelow 8 (λ k. not (leb s k && ltb k r) || not (bitIn x k))) _ e2) (lt-ltb r 8 p);
+      before = λ k p q. not-true _ (implies-yes (leb s k && ltb k r) _ (all-below 8 (λ k. not (leb s k && ltb k r) || not (bitIn x k)) (and-right (leb r 8) _ e) k (omega arith)) (and-both (le-leb s k p) (lt-ltb k r q)));
     }
 
 -- from place s on: zeros, then at least one 1, then the rest
 pub record Ones (x s left : ℕ) : Type 0 where
-  pub zeros-end : FirstOne x s (s + zerosOf left)
-  pub ones-end : FirstOne (255 - x) (s + zerosOf left) (s + zerosOf left + onesOf left)
+  pub zeros-clear : Clear x s (s + zerosOf left)
+  pub ones-full : Clear (255 - x) (s + zerosOf left) (s + zerosOf left + onesOf left)
   pub some : 0 < onesOf left
   pub rest-is : restOf left ≡ leftIn x (s + zerosOf left + onesOf left)
 
 abbrev hasOnes : ℕ → ℕ → ℕ → Bool
 hasOnes x s left =
-    isFirst x s (s + zerosOf left)
-    && (isFirst (255 - x) (s + zerosOf left) (s + zerosOf left + onesOf left) && (ltb 0 (onesOf left) && eqb (restOf left) (leftIn x (s + zerosOf left + onesOf left))))
+    isClear x s (s + zerosOf left)
+    && (isClear (255 - x) (s + zerosOf left) (s + zerosOf left + onesOf left) && (ltb 0 (onesOf left) && eqb (restOf left) (leftIn x (s + zerosOf left + onesOf left))))
 
-all-fine : allBelow 256 (λ x. allBelow 9 (λ s. cond (eqb (leftIn x s) 0) (isFirst x s 8) (hasOnes x s (leftIn x s)))) ≡ true
+all-fine : allBelow 256 (λ x. allBelow 9 (λ s. cond (eqb (leftIn x s) 0) (isClear x s 8) (hasOnes x s (leftIn x s)))) ≡ true
 unfolding allBelow leadingZeros
 all-fine = refl
 
 ones-says : (x s left : ℕ) → hasOnes x s left ≡ true → Ones x s left
 ones-says x s left e =
-    let e1 = and-right (isFirst x s (s + zerosOf left)) _ e in
-    let e2 = and-right (isFirst (255 - x) (s + zerosOf left) (s + zerosOf left + onesOf left)) _ e1 in
+    let e1 = and-right (isClear x s (s + zerosOf left)) _ e in
+    let e2 = and-right (isClear (255 - x) (s + zerosOf left) (s + zerosOf left + onesOf left)) _ e1 in
     record {
-      zeros-end = first-says x s (s + zerosOf left) (and-left (isFirst x s (s + zerosOf left)) _ e);
-      ones-end = first-says (255 - x) (s + zerosOf left) (s + zerosOf left + onesOf left) (and-left (isFirst (255 - x) (s + zerosOf left) (s + zerosOf left + onesOf left)) _ e1);
+      zeros-clear = clear-says x s (s + zerosOf left) (and-left (isClear x s (s + zerosOf left)) _ e);
+      ones-full = clear-says (255 - x) (s + zerosOf left) (s + zerosOf left + onesOf left) (and-left (isClear (255 - x) (s + zerosOf left) (s + zerosOf left + onesOf left)) _ e1);
       some = ltb-true _ _ (and-left (ltb 0 (onesOf left)) _ e2);
       rest-is = eqb-true _ _ (and-right (ltb 0 (onesOf left)) _ e2);
     }
 
 module _ (x s left : ℕ) (h : x < 256) (k : s ≤ 8) (e : left ≡ leftIn x s) where
-  fine-at : cond (eqb left 0) (isFirst x s 8) (hasOnes x s left) ≡ true
-  fine-at = rw e (all-below 9 (λ s. cond (eqb (leftIn x s) 0) (isFirst x s 8) (hasOnes x s (leftIn x s))) (all-below 256 (λ x. allBelow 9 (λ s. cond (eqb (leftIn x s) 0) (isFirst x s 8) (hasOnes x s (leftIn x s)))) all-fine x h) s (omega arith))
+  fine-at : cond (eqb left 0) (isClear x s 8) (hasOnes x s left) ≡ true
+  fine-at = rw e (all-below 9 (λ s. cond (eqb (leftIn x s) 0) (isClear x s 8) (hasOnes x s (leftIn x s))) (all-below 256 (λ x. allBelow 9 (λ s. cond (eqb (leftIn x s) 0) (isClear x s 8) (hasOnes x s (leftIn x s)))) all-fine x h) s (omega arith))
 
-  pub none-left : left ≡ 0 → FirstOne x s 8
-  none-left z = first-says x s 8 (rw (eq-eqb left 0 z) at fine-at)
+  pub none-left : left ≡ 0 → Clear x s 8
+  none-left z = clear-says x s 8 (rw (eq-eqb left 0 z) at fine-at)
 
   pub ones-left : (left ≡ 0 → ⊥) → Ones x s left
   ones-left z = ones-says x s left (rw (ne-eqb left 0 z) at fine-at)
@@ -94,8 +96,8 @@ turned-bit x k h l = go (bitIn x k) (bitIn (255 - x) k) (all-below 8 (λ k. cond
     go true b e = not-true b e
     go false b e = e
 
--- The bits of a bitmap: what the first place in an octet says of the categories from there on.
-module _ (b : List ℕ) (wanted : Bool) (i s place : ℕ) (small : getD b i 0 < 256) (f : FirstOne (cond wanted (getD b i 0) (255 - getD b i 0)) s place) where
+-- The bits of a bitmap: what an octet's places say of its categories.
+module _ (b : List ℕ) (wanted : Bool) (i s place : ℕ) (small : getD b i 0 < 256) (f : Clear (cond wanted (getD b i 0) (255 - getD b i 0)) s place) where
   in-octet : (j : ℕ) → j < 8 → bitIn (cond wanted (getD b i 0) (255 - getD b i 0)) j ≡ cond wanted (bitIn (getD b i 0) j) (not (bitIn (getD b i 0) j))
   in-octet j h = go wanted
     where

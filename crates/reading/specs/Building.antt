@@ -1,15 +1,13 @@
 -- How a label is built from ascending pieces, one after the other: what the readers of all three tags do alike.
-use Prim.Native.Nat.{ℕ, _+_, _-_, _*_, _/_, _%_, _^_, _≤_, _<_}
-use mathlib.Core.Path.{_≡_}
+use Prim.Native.Nat.{ℕ, _+_, _-_, _*_, _%_, _^_}
 use mathlib.Core.List.{List, [], _∷_, _++_}
-use mathlib.Core.Bool.{Bool, true, false, not, _&&_, cond}
+use mathlib.Core.Bool.{_&&_, cond}
 use lib.ListN.{length, replicate}
 use lib.Dec.{ltb, eqb}
 use Rattle.label.specs.declared.Run.{Run}
 use Rattle.label.specs.declared.Label.{Label}
 use Rattle.label.specs.Runs.{topOf}
 use Rattle.label.specs.Label.{noRun}
-use Rattle.option.specs.Bitmap.{weight, bitAt}
 use Rattle.option.specs.Index.{numberAt, lowPair, highPair}
 use Rattle.reading.specs.declared.Last.{Last}
 
@@ -40,17 +38,6 @@ lowIn t b k = cond (eqb t 2) (numberAt b k) (lowPair b k)
 
 abbrev pub highIn : ℕ → List ℕ → ℕ → ℕ
 highIn t b k = cond (eqb t 2) (numberAt b k) (highPair b k)
-
--- the bit at place k of an octet, counted from the top
-abbrev pub bitIn : ℕ → ℕ → Bool
-bitIn x k = eqb (x / weight k % 2) 1
-
--- r is the first place from s on whose bit is 1, or 8
-pub record FirstOne (x s r : ℕ) : Type 0 where
-  pub from : s ≤ r
-  pub most : r ≤ 8
-  pub before : (k : ℕ) → s ≤ k → k < r → bitIn x k ≡ false
-  pub here : r < 8 → bitIn x r ≡ true
 
 -- an octet's bits from place s on, at the top of 32 bits
 abbrev pub leftIn : ℕ → ℕ → ℕ
