@@ -1,0 +1,70 @@
+// The parts of a line.
+use crate::field::LONGEST;
+use crate::field::octets_of;
+use arrival::Decision;
+use label::Label;
+use label::Run;
+use stream::put_decimal;
+use stream::put_hex;
+use stream::put_next;
+use stream::put_octet;
+use stream::put_word;
+
+// YES or NO.
+pub fn put_answer(out: &mut [u8], n: usize, yes: bool) -> usize {
+    if yes {
+        return put_word(out, n, b"YES");
+    }
+    put_word(out, n, b"NO")
+}
+
+// A label: domain, level, count and its first `count` runs, no more than 120.
+pub fn put_label(out: &mut [u8], n: usize, label: Label) -> usize {
+    let named = put_next(out, n, label.domain as u64);
+    let levelled = put_next(out, named, label.level as u64);
+    let counted = put_next(out, levelled, label.count as u64);
+    put_runs(out, counted, label)
+}
+
+fn put_runs(out: &mut [u8], n: usize, label: Label) -> usize {
+    let mut k = n;
+    let mut i: usize = 0;
+    while i < label.count {
+        if Label::MAX_RUNS <= i {
+            return k;
+        }
+        let run = label.runs[i];
+        k = put_run(out, k, run);
+        i += 1;
+    }
+    k
+}
+
+fn put_run(out: &mut [u8], n: usize, run: Run) -> usize {
+    let k = put_next(out, n, run.low as u64);
+    put_next(out, k, run.high as u64)
+}
+
+// An output of `room` octets: all of them in hex, or `-` where it has none.
+pub fn put_output(out: &mut [u8], n: usize, space: &[u8; LONGEST], room: usize) -> usize {
+    let k = put_octet(out, n, b' ');
+    if room == 0 {
+        return put_octet(out, k, b'-');
+    }
+    put_hex(out, k, octets_of(space, 0, room))
+}
+
+// A decision: number, type, code, pointer, count and the label.
+pub fn put_decision(out: &mut [u8], n: usize, d: Decision) -> usize {
+    let numbered = put_decimal(out, n, d.number as u64);
+    let reported = put_report(out, numbered, d.kind, d.code, d.pointer);
+    let counted = put_next(out, reported, d.count as u64);
+    let label = d.label;
+    put_label(out, counted, label)
+}
+
+fn put_report(out: &mut [u8], n: usize, kind: u8, code: u8, pointer: u8) -> usize {
+    let kinded = put_next(out, n, kind as u64);
+    let coded = put_next(out, kinded, code as u64);
+    put_next(out, coded, pointer as u64)
+}
