@@ -453,7 +453,8 @@ fn plot(cases: &[Case], timed: &[Timed]) -> String {
             for (value, colour, offset, after) in [(time.ours, "#1f5fa8", 0, ratio.as_str()), (time.theirs, "#e08a2c", 13, "")] {
                 let width = 480.0 * value / longest;
                 writeln!(svg, "<rect x=\"290\" y=\"{}\" width=\"{:.1}\" height=\"12\" fill=\"{}\"/>", y + offset, width, colour).unwrap();
-                writeln!(svg, "<text x=\"{:.1}\" y=\"{}\" font-size=\"11\">{:.0}{}</text>", 296.0 + width, y + offset + 10, value, after).unwrap();
+                writeln!(svg, "<text x=\"{:.1}\" y=\"{}\" font-size=\"11\">{:.0}{}</text>", 296.0 + width, y + offset + 10, value, after)
+                    .unwrap();
             }
             y += 34;
         }
