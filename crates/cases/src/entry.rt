@@ -22,7 +22,6 @@ use renumber::renumber;
 use spelling::spell_label;
 use stream::put_decimal;
 use stream::put_next;
-use stream::put_octet;
 use stream::put_word;
 
 // The line of one case.
@@ -42,7 +41,8 @@ pub fn answer(case: &[u8], out: &mut [u8], n: usize) -> usize {
     }
 }
 
-fn put_broken(out: &mut [u8], n: usize) -> usize {
+// The word of a case that does not parse.
+pub fn put_broken(out: &mut [u8], n: usize) -> usize {
     put_word(out, n, b"BROKEN")
 }
 

@@ -8,6 +8,7 @@ use stream::put_decimal;
 use stream::put_hex;
 use stream::put_next;
 use stream::put_octet;
+use stream::put_three;
 use stream::put_word;
 
 // YES or NO.
@@ -57,14 +58,8 @@ pub fn put_output(out: &mut [u8], n: usize, space: &[u8; LONGEST], room: usize) 
 // A decision: number, type, code, pointer, count and the label.
 pub fn put_decision(out: &mut [u8], n: usize, d: Decision) -> usize {
     let numbered = put_decimal(out, n, d.number as u64);
-    let reported = put_report(out, numbered, d.kind, d.code, d.pointer);
+    let reported = put_three(out, numbered, d.kind, d.code, d.pointer);
     let counted = put_next(out, reported, d.count as u64);
     let label = d.label;
     put_label(out, counted, label)
-}
-
-fn put_report(out: &mut [u8], n: usize, kind: u8, code: u8, pointer: u8) -> usize {
-    let kinded = put_next(out, n, kind as u64);
-    let coded = put_next(out, kinded, code as u64);
-    put_next(out, coded, pointer as u64)
 }

@@ -10,23 +10,19 @@ mod line;
 mod record;
 
 use entry::answer;
-use stream::Window;
+use entry::put_broken;
+use stream::Place;
+use stream::begin;
 use stream::flush;
+use stream::go_on;
 use stream::hold;
 use stream::put_octet;
-use stream::put_word;
+use stream::stop;
 
 // Two octets of length and the longest case that they can lead, and as much again, so that what is moved to the front is less than what is read.
 const INPUT: usize = 131072;
-
+// How much of the output waits at a time.
 const OUTPUT: usize = 65536;
-
-// What is carried from case to case: the input that is held, how many octets of output wait, and whether to go on.
-struct Place {
-    window: Window,
-    waiting: usize,
-    more: bool,
-}
 
 // One case: its line, or BROKEN where it is cut off; nothing where the input ends.
 fn turn(input: &mut [u8], out: &mut [u8], place: Place) -> Place {
@@ -38,34 +34,25 @@ fn turn(input: &mut [u8], out: &mut [u8], place: Place) -> Place {
     }
     let second = first + 1;
     if led.end <= second {
-        return stop(put_word(out, n, b"BROKEN\n"));
+        return stop(put_cut(out, n));
     }
     let size = case_size(input[first], input[second]);
     let whole = hold(input, led, size);
     let at = whole.at;
     if whole.end - at < size {
-        return stop(put_word(out, n, b"BROKEN\n"));
+        return stop(put_cut(out, n));
     }
     let next = at + size;
     let from = at + 2;
     let answered = answer(&input[from..next], out, n);
     let waiting = put_octet(out, answered, b'\n');
-    Place {
-        window: Window {
-            at: next,
-            end: whole.end,
-        },
-        waiting: waiting,
-        more: true,
-    }
+    go_on(next, whole.end, waiting)
 }
 
-fn stop(waiting: usize) -> Place {
-    Place {
-        window: Window { at: 0, end: 0 },
-        waiting: waiting,
-        more: false,
-    }
+// The line of a case that is cut off.
+fn put_cut(out: &mut [u8], n: usize) -> usize {
+    let broken = put_broken(out, n);
+    put_octet(out, broken, b'\n')
 }
 
 // How many octets a case has, with the two that lead it.
@@ -78,11 +65,7 @@ fn case_size(high: u8, low: u8) -> usize
 fn main() {
     let mut input = [0u8; INPUT];
     let mut out = [0u8; OUTPUT];
-    let mut place = Place {
-        window: Window { at: 0, end: 0 },
-        waiting: 0,
-        more: true,
-    };
+    let mut place = begin();
     // a proved loop has to end, and nothing says that the input does: no run has so many cases
     let mut turns = u64::MAX;
     while turns > 0 && place.more {

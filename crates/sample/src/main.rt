@@ -4,28 +4,24 @@ use gateway::forward;
 use label::Label;
 use label::Run;
 use port::Port;
-use stream::Window;
+use stream::Place;
+use stream::begin;
 use stream::flush;
+use stream::go_on;
 use stream::hold;
-use stream::put_decimal;
 use stream::put_hex;
 use stream::put_next;
 use stream::put_octet;
+use stream::put_three;
 use stream::put_word;
+use stream::stop;
 use table::Row;
 use table::Table;
 
 // How much of the input is held at a time: some 1,600 records of the longest area that can pass.
 const INPUT: usize = 65536;
-
+// How much of the output waits at a time.
 const OUTPUT: usize = 65536;
-
-// What is carried from record to record: the input that is held, how many octets of output wait, and whether to go on.
-struct Place {
-    window: Window,
-    waiting: usize,
-    more: bool,
-}
 
 // The label with the categories from 0 to the highest.
 fn up_to(domain: u32, level: u8, highest: u16) -> Label {
@@ -113,14 +109,14 @@ fn put_first(out: &mut [u8], n: usize, count: usize, area: &[u8]) -> usize {
 fn put_drop(out: &mut [u8], n: usize, number: u8, kind: u8, code: u8, pointer: u8) -> usize {
     let named = put_word(out, n, b"DROP");
     let numbered = put_next(out, named, number as u64);
-    let reported = put_report(out, numbered, kind, code, pointer);
+    let reported = put_three(out, numbered, kind, code, pointer);
     put_octet(out, reported, b'\n')
 }
 
-fn put_report(out: &mut [u8], n: usize, kind: u8, code: u8, pointer: u8) -> usize {
-    let kinded = put_next(out, n, kind as u64);
-    let coded = put_next(out, kinded, code as u64);
-    put_next(out, coded, pointer as u64)
+// The line of a record that is cut short.
+fn put_broken(out: &mut [u8], n: usize) -> usize {
+    let named = put_word(out, n, b"BROKEN");
+    put_octet(out, named, b'\n')
 }
 
 // The line of one area.
@@ -161,19 +157,12 @@ fn turn(
     let whole = hold(input, led, size);
     let at = whole.at;
     if whole.end - at < size {
-        return stop(put_word(out, n, b"BROKEN\n"));
+        return stop(put_broken(out, n));
     }
     let next = at + size;
     let from = at + 1;
     let waiting = answer(arriving, leaving, table, levels, &input[from..next], out, n);
-    Place {
-        window: Window {
-            at: next,
-            end: whole.end,
-        },
-        waiting: waiting,
-        more: true,
-    }
+    go_on(next, whole.end, waiting)
 }
 
 // How many octets a record has, with the one that leads it.
@@ -183,14 +172,6 @@ fn record_size(n: u8) -> usize
     n as usize + 1
 }
 
-fn stop(waiting: usize) -> Place {
-    Place {
-        window: Window { at: 0, end: 0 },
-        waiting: waiting,
-        more: false,
-    }
-}
-
 fn main() {
     let arriving = arriving();
     let leaving = leaving();
@@ -198,11 +179,7 @@ fn main() {
     let levels = levels();
     let mut input = [0u8; INPUT];
     let mut out = [0u8; OUTPUT];
-    let mut place = Place {
-        window: Window { at: 0, end: 0 },
-        waiting: 0,
-        more: true,
-    };
+    let mut place = begin();
     // a proved loop has to end, and nothing says that the input does: no run has so many records
     let mut turns = u64::MAX;
     while turns > 0 && place.more {

@@ -38,6 +38,13 @@ pub fn put_next(out: &mut [u8], n: usize, x: u64) -> usize {
     put_decimal(out, k, x)
 }
 
+// Three numbers in decimal, each after a blank.
+pub fn put_three(out: &mut [u8], n: usize, a: u8, b: u8, c: u8) -> usize {
+    let k = put_next(out, n, a as u64);
+    let l = put_next(out, k, b as u64);
+    put_next(out, l, c as u64)
+}
+
 // The octets in lower-case hex, two digits each.
 pub fn put_hex(out: &mut [u8], n: usize, octets: &[u8]) -> usize {
     let mut k = n;

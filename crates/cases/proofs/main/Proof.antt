@@ -11,6 +11,9 @@ Inv-loop input₀ out₀ place₀ turns₀ input out place turns = (length input
 abbrev μ-loop : tie.MeasureT-loop
 μ-loop input₀ out₀ place₀ turns₀ input out place turns = turns
 
+begin-requires : tie.Need-begin-requires Inv-loop μ-loop
+begin-requires c κs = search needs
+
 loop-holds : tie.Need-loop-holds Inv-loop μ-loop
 loop-holds c = search needs
 
@@ -47,6 +50,7 @@ main-spec =
     (tie.spec
     Inv-loop
     μ-loop
+    begin-requires
     loop-holds
     slice-aggregate-turn
     slice-aggregate-turn-2

@@ -23,6 +23,9 @@ table-requires c κs = search needs
 levels-requires : tie.Need-levels-requires Inv-loop μ-loop
 levels-requires c κs = search needs
 
+begin-requires : tie.Need-begin-requires Inv-loop μ-loop
+begin-requires c κs = search needs
+
 loop-holds : tie.Need-loop-holds Inv-loop μ-loop
 loop-holds c = search needs
 
@@ -63,6 +66,7 @@ main-spec =
     leaving-requires
     table-requires
     levels-requires
+    begin-requires
     loop-holds
     slice-aggregate-turn
     slice-aggregate-turn-2
