@@ -35,7 +35,7 @@ use Rattle.arrival.specs.declared.Decision.{Decision}
 use Rattle.arrival.specs.Decision.{decided, arrivalChecks}
 use Rattle.arrival.specs.Stages.{placeChecks}
 use Rattle.arrival.proofs.Pointer.{reading-pointer}
-use Rattle.arrival.proofs.First.{Real, AllReal, real-first, real-when, first-none, when-none}
+use Rattle.arrival.proofs.First.{Real, AllReal, real-first, real-when, first-none, when-none, not-false-yes}
 
 -- The walk's answer decides which checks are left.
 pub arrival-refused : (p : Port) (area : List ℕ) (code n at : ℕ) → walkOf area ≡ Refused n at → firstOf (arrivalChecks p area code) ≡ some (faulty n at)
@@ -88,10 +88,6 @@ unfolding inRange
 in-range-held p l s e =
     let a = leq-says (p .lowest) l (and-left (leq (p .lowest) l) _ e) in
     record { within = e; formed = a .second; domain = sym (a .domain) ∙ sound p s .range .low-domain }
-
-not-false-yes : (b : Bool) → not b ≡ false → b ≡ true
-not-false-yes true e = refl
-not-false-yes false e = absurd (true≢false e)
 
 pub arrival-held : (p : Port) (area : List ℕ) (code : ℕ) → portSound p ≡ true → firstOf (arrivalChecks p area code) ≡ none → Held p (arrivingLabel p area)
 unfolding rangeCheck

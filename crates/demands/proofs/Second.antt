@@ -39,7 +39,7 @@ use Rattle.arrival.specs.declared.Decision.{Decision}
 use Rattle.arrival.specs.Checks.{Refusal, silent, barred, when, firstOf, NoneApplies, badArea, walkRefusal, walkCheck, placeIn, optionAt, requiredBy, requiredCheck, optionBy, optionCheck, labelBy, arrivingLabel, rangeCheck, Delivery, deliverySizes, deliveryRecords, hostCheck}
 use Rattle.arrival.specs.Decision as decision
 use Rattle.arrival.specs.Decision.{refused, decided, arrivalChecks, deliverChecks, deliverOf}
-use Rattle.arrival.proofs.First.{Real, AllReal, real-first, real-when, first-none, none-first, when-none, orElse, first-append}
+use Rattle.arrival.proofs.First.{Real, AllReal, real-first, real-when, first-none, none-first, when-none, orElse, first-append, not-false-yes, or-none, real-else}
 use Rattle.arrival.proofs.Arrival.{placed-framed, octets-part, Held, arrival-held, arrival-real, in-range-held}
 use Rattle.arrival.proofs.Deliveries.{deliver-done}
 use Rattle.gateway.specs.Crossing.{Forwarding, sameDomain, Crossing, crossing, stays, leavingLabel, leavingOption, noRoom}
@@ -48,14 +48,6 @@ use Rattle.gateway.specs.Stages.{crossingChecks}
 use Rattle.gateway.proofs.Crossings.{label-stays, stays-inside, stays-outside, Crossed, crossed, crossed-carried, crosses-passed}
 use Rattle.gateway.proofs.Forwards.{recordsTest, Passed, forward-passed, passed-formed, forward-real, forward-fits, forward-done, leaving-spelled}
 use Rattle.demands.specs.Demands.{AreaSound, LabelOf, own, assigned, Forwards, Delivers, Demand2}
-
-not-false-yes : (b : Bool) → not b ≡ false → b ≡ true
-not-false-yes true e = refl
-not-false-yes false e = absurd (true≢false e)
-
-or-none : (a b : Bool) → (a || b) ≡ false → (a ≡ false) × (b ≡ false)
-or-none false b e = (refl, e)
-or-none true b e = absurd (true≢false e)
 
 -- The area.
 
@@ -262,10 +254,6 @@ two z = omega arith
 
 fifteen : _≡_ {A = ℕ} 15 0 → ⊥
 fifteen z = omega arith
-
-real-else : (a b : Option Refusal) → Real a → Real b → Real (orElse a b)
-real-else none b r q = q
-real-else (some x) b r q = r
 
 deliver-real : (d : Delivery) → Real (firstOf (deliverChecks d))
 unfolding deliverySizes deliveryRecords hostCheck

@@ -26,7 +26,7 @@ use Rattle.renumber.specs.Renumber.{refusal, done, imageRuns, fitted, whenNumbe
 use Rattle.renumber.specs.Theorems.{Carried}
 use Rattle.renumber.proofs.Theorems.{held-label, carrying}
 use Rattle.arrival.specs.Checks.{Refusal, barred, when, firstOf}
-use Rattle.arrival.proofs.First.{Real, AllReal, real-first, real-when, first-none, when-none}
+use Rattle.arrival.proofs.First.{Real, AllReal, real-first, real-when, first-none, when-none, not-false-yes}
 use Rattle.gateway.specs.Crossing.{Crossing, stays, partner, known, levelOr0, hasNumbers, numberCheck, leavingLevel, leavingRuns, leavingCheck, leavingLabel}
 use Rattle.gateway.specs.Stages.{crossingChecks}
 
@@ -159,11 +159,6 @@ module _ (x : Crossing) (apart : x .domain ≡ x .leaving .domain → ⊥) where
       crosses-passed h =
           let q = both .passed h in
           (checks-are ∙ q .0, q .1 ∙ ap (λ (n : ℕ). done (labelOf n (levelOr0 (partner x)) img)) to ∙ ap done (sym label-is))
-
--- What has passed is a well-formed label.
-not-false-yes : (b : Bool) → not b ≡ false → b ≡ true
-not-false-yes true e = refl
-not-false-yes false e = absurd (true≢false e)
 
 -- what carrying the label over answers
 abbrev carriedBy : Crossing → Renumbered

@@ -24,7 +24,7 @@ use Rattle.table.specs.Table.{tableSound}
 use Rattle.arrival.specs.declared.Decision.{Decision}
 use Rattle.arrival.specs.Checks.{Refusal, silent, barred, when, firstOf, badArea, arrivingLabel}
 use Rattle.arrival.specs.Decision.{refused, done, decided, arrivalChecks}
-use Rattle.arrival.proofs.First.{orElse, first-append, first-none, none-first, when-none, Real, real-first, real-when}
+use Rattle.arrival.proofs.First.{orElse, first-append, first-none, none-first, when-none, Real, real-first, real-when, not-false-yes, or-none, real-else}
 use Rattle.arrival.proofs.Arrival.{arrival-held, arrival-real}
 use Rattle.gateway.specs.Crossing.{Forwarding, sameDomain, sizes, records, Crossing, crossing, numberCheck, leavingRuns, leavingCheck, leavingLabel, leavingOption, noRoom, spellingCheck}
 use Rattle.gateway.specs.Forward.{forwardChecks, leavingCount, forwardOf, octetsOf, outputOf}
@@ -170,14 +170,6 @@ pub record Passed (f : Forwarding) : Type 0 where
   pub crossed : firstOf (crossingChecks (crossing f)) ≡ none
   pub fits : Fits (leavingOption (crossing f)) (keptOf (f .area))
 
-or-none : (a b : Bool) → (a || b) ≡ false → (a ≡ false) × (b ≡ false)
-or-none false b e = (refl, e)
-or-none true b e = absurd (true≢false e)
-
-not-false-yes : (b : Bool) → not b ≡ false → b ≡ true
-not-false-yes true e = refl
-not-false-yes false e = absurd (true≢false e)
-
 pub forward-passed : (f : Forwarding) → firstOf (forwardChecks f) ≡ none → Passed f
 unfolding sizes records spellingCheck
 forward-passed f e =
@@ -208,10 +200,6 @@ two z = omega arith
 
 eighteen : _≡_ {A = ℕ} 18 0 → ⊥
 eighteen z = omega arith
-
-real-else : (a b : Option Refusal) → Real a → Real b → Real (orElse a b)
-real-else none b r q = q
-real-else (some x) b r q = r
 
 -- Every refusal has a number.
 pub forward-real : (f : Forwarding) → Real (firstOf (forwardChecks f))
