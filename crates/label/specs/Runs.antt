@@ -36,6 +36,23 @@ allBelow (suc n) p = p n && allBelow n p
 unfoldable pub subset : List Run → List Run → Bool
 subset xs ys = allBelow 65535 (λ c. not (covers xs c) || covers ys c)
 
+-- one pass over two lists: a run of the second that ends before the run of the first begins is dropped; else the run must lie in it.
+-- It answers for any two lists; where both are spaced it is the subset test (`specs/Theorems.antt`)
+abbrev pub passes : List Run → List Run → Bool
+passes [] ys = true
+passes (x ∷ xs) [] = false
+passes (x ∷ xs) (y ∷ ys) =
+    cond (leb (x .low) (y .high))
+    (leb (y .low) (x .low) && (leb (x .high) (y .high) && passes xs (y ∷ ys)))
+    (passes (x ∷ xs) ys)
+
+-- how many turns the pass takes
+abbrev pub rounds : List Run → List Run → ℕ
+rounds [] ys = 0
+rounds (x ∷ xs) [] = 1
+rounds (x ∷ xs) (y ∷ ys) =
+    1 + cond (leb (x .low) (y .high)) (cond (leb (y .low) (x .low) && leb (x .high) (y .high)) (rounds xs (y ∷ ys)) 0) (rounds (x ∷ xs) ys)
+
 -- at how many numbers below n the test passes
 unfoldable pub countBelow : ℕ → (ℕ → Bool) → ℕ
 countBelow zero p = 0

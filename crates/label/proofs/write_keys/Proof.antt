@@ -1,21 +1,21 @@
--- `renumber::label_keys` meets its contract.
+-- `label::write_keys` meets its contract. The loop's invariant: the head of the list has the runs so far, the rest is as it was.
+-- Assumes nothing.
 use borrow.Author.Needs.{needs}
 use native.Mathlib.Omega.{arith}
 use Prim.Native.Nat.{_≤_, _-_}
 use mathlib.Core.Path.{_≡_, refl}
-use mathlib.Core.List.{map}
-use lib.ListN.{take, length, length-set}
+use mathlib.Core.List.{map, _++_}
+use lib.ListN.{take, drop, length, length-set}
 use lib.Seq.{length-take-le, take-all, getD-take}
-use Rattle.label.specs.Label.{noRun}
+use Rattle.label.specs.Label.{noRun, used}
+use Rattle.label.specs.Keys.{runKey}
 use Rattle.label.proofs.Steps.{length-mapped}
-use Rattle.label.specs.Label.{used}
-use Rattle.renumber.specs.Keys.{runKey}
-use Rattle.order.proofs.Laws.{keys-next}
-use Rattle.renumber.proofs.label_keys.Statement.{statement}
-use Rattle.renumber.proofs.label_keys.Tie as tie
+use Rattle.label.proofs.Keys.{keys-next}
+use Rattle.label.proofs.write_keys.Statement.{statement}
+use Rattle.label.proofs.write_keys.Tie as tie
 
 abbrev Inv-loop : tie.InvT-loop
-Inv-loop keys₀ l n i₀ keys i = (i ≤ n) × (length keys ≡ length keys₀) × (take i keys ≡ map runKey (take i (used l)))
+Inv-loop keys₀ l n i₀ keys i = (i ≤ n) × (length keys ≡ length keys₀) × (keys ≡ map runKey (take i (used l)) ++ drop i keys₀)
 
 abbrev μ-loop : tie.MeasureT-loop
 μ-loop keys₀ l n i₀ keys i = n - i
@@ -54,11 +54,12 @@ loop-again c =
     let d = c .before .before in
     let v = d .before .loop in
     let s = d .before .before .before in
-    let l = s .args .t1 in (
+    let l = s .args .t1 in
+    let ks = s .args .keys .now in (
       omega arith,
       simp length-set (v .inv .1),
-      rw (c .run-key .ensures, ← getD-take (l .count) (l .runs) (v .i) noRun (d .loop-test .taken))
-          (keys-next runKey (used l) (v .keys) (v .i) noRun (omega (arith, used-sized s)) (omega (arith, s .pre .1)) (v .inv .2)),
+      rw (c .run-key .ensures, v .inv .2, ← getD-take (l .count) (l .runs) (v .i) noRun (d .loop-test .taken))
+          (keys-next runKey (used l) ks (v .i) noRun (omega (arith, used-sized s)) (omega (arith, s .pre .1))),
     )
 
 same-length : tie.Need-same-length Inv-loop μ-loop
@@ -71,8 +72,8 @@ returns c =
     let e : c .before .loop .i ≡ l .count = omega arith in
     rw (e, take-all (l .count) (used l) (omega (arith, used-sized s))) at (c .before .loop .inv .2)
 
-pub label-keys-spec : {M : Type 1} → statement M
-label-keys-spec =
+pub write-keys-spec : {M : Type 1} → statement M
+write-keys-spec =
     tie.close
     (tie.spec
     Inv-loop

@@ -1,14 +1,14 @@
--- `renumber::to_label` meets its contract.
+-- `label::fill_label` meets its contract.
 use borrow.Author.Needs.{needs}
 use native.Mathlib.Omega.{arith}
 use Prim.Native.Nat.{_≤_, _-_}
 use mathlib.Core.Path.{_≡_, refl}
 use lib.ListN.{take}
 use Rattle.label.specs.Label.{labelOf}
-use Rattle.renumber.specs.Keys.{keyRuns}
-use Rattle.renumber.proofs.Turns.{label-next}
-use Rattle.renumber.proofs.to_label.Statement.{statement}
-use Rattle.renumber.proofs.to_label.Tie as tie
+use Rattle.label.specs.Keys.{keyRuns}
+use Rattle.label.proofs.Keys.{label-next}
+use Rattle.label.proofs.fill_label.Statement.{statement}
+use Rattle.label.proofs.fill_label.Tie as tie
 
 abbrev Inv-loop : tie.InvT-loop
 Inv-loop s n domain level out₀ i₀ out i = (i ≤ n) × (out ≡ labelOf domain level (keyRuns (take i s)))
@@ -54,8 +54,8 @@ loop-again c = (
 returns : tie.Need-returns Inv-loop μ-loop
 returns c = let e : c .before .loop .i ≡ c .before .before .args .n = omega arith in rw e at (c .before .loop .inv .1)
 
-pub to-label-spec : {M : Type 1} → statement M
-to-label-spec =
+pub fill-label-spec : {M : Type 1} → statement M
+fill-label-spec =
     tie.close
     (tie.spec
     Inv-loop
