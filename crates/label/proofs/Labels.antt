@@ -151,7 +151,7 @@ leq-says a b e =
       level = leb-true _ _ (and-left (leb (a .level) (b .level)) _ e3);
       categories = λ c m.
           member-is b wb c
-          ∙ subset-sub 0 (used a) (used b) (formed a wa .runs) (and-right (leb (a .level) (b .level)) _ e3) c (sym (member-is a wa c) ∙ m);
+          ∙ subset-sub (used a) (used b) (and-right (leb (a .level) (b .level)) _ e3) c (sym (member-is a wa c) ∙ m);
     }
 
 pub leq-said : (a b : Label) → AtMost a b → leq a b ≡ true

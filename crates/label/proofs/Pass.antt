@@ -90,7 +90,7 @@ pub passes-subset : (xs ys : List Run) → spaced 0 xs ≡ true → spaced 0 ys 
 passes-subset xs ys d e =
     same-yes _ _
     (λ h. sub-subset xs ys (passes-sub xs ys h))
-    (λ h. sub-passes 0 0 xs ys d e (subset-sub 0 xs ys d h))
+    (λ h. sub-passes 0 0 xs ys d e (subset-sub xs ys h))
 
 -- A pass takes at most as many turns as the lists have runs together.
 module _ (x y : Run) (xs ys : List Run) where

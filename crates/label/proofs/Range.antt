@@ -55,7 +55,7 @@ pub under-one : (f : ℕ) (r : Run) (rs : List Run) (o : Run) → spaced f (r �
 under-one f r rs o e =
     same-yes _ _
     (λ h.
-    let s = subset-sub f (r ∷ rs) (o ∷ []) e h in
+    let s = subset-sub (r ∷ rs) (o ∷ []) h in
     simp (
       le-leb (o .low) (r .low) (covered (r .low) (s (r .low) (covers-in r rs (r .low) (le-refl (r .low)) (first f r rs e .ordered))) .0),
       le-leb (topOf (r ∷ rs)) (o .high + 1) (top-le (covered (topOf (r ∷ rs) - 1) (s (topOf (r ∷ rs) - 1) (top-covered f r rs (spaced-canon f (r ∷ rs) e))) .1)),

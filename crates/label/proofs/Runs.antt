@@ -1,15 +1,15 @@
 -- Laws of lists of runs: what a spaced list covers, one form for one set, and when one list lies in another.
-use mathlib.Core.Path.{_≡_, refl, sym, _∙_}
-use mathlib.Core.Bool.{Bool, true, false, not, _||_, and-false, or-assoc}
+use mathlib.Core.Path.{_≡_, refl, sym, _∙_, ap}
+use mathlib.Core.Bool.{Bool, true, false, _&&_, _||_, and-false, or-assoc}
 use mathlib.Core.List.{List, [], _∷_, _++_}
 use mathlib.Core.Logic.{_⊎_, inl, inr, ⊎-elim}
-use Prim.Native.Nat.{ℕ, _+_, _≤_, _<_}
+use Prim.Native.Nat.{ℕ, zero, suc, _+_, _-_, _≤_, _<_}
 use native.Mathlib.Omega.{arith}
 use lib.Dec.{leb}
 use borrow.Author.Tests.{leb-true, le-leb, lt-leb}
 use Rattle.label.specs.declared.Run.{Run}
-use Rattle.label.specs.Runs.{inRun, covers, spaced, subset}
-use Rattle.label.proofs.Bools.{never, and-left, and-right, or-true-right, less-or, all-below, below-all, implies-yes, yes-implies}
+use Rattle.label.specs.Runs.{inRun, covers, spaced, allBelow, subset}
+use Rattle.label.proofs.Bools.{never, and-left, and-right, and-both, not-yes, or-cases, or-true-right, less-or, all-below, below-all}
 
 -- What a spaced list says of its first run.
 pub record First (f : ℕ) (r : Run) (rs : List Run) : Type 0 where
@@ -144,14 +144,28 @@ one-form f g (r ∷ xs) (s ∷ ys) d e h k =
         (λ w. sym (covers-over s ys c (omega arith)) ∙ fewer r xs (s ∷ ys) k c m)
         (less-or c (r .high + 2))
 
-pub subset-sub : (f : ℕ) (xs ys : List Run) → spaced f xs ≡ true → subset xs ys ≡ true → Sub xs ys
+pub subset-sub : (xs ys : List Run) → subset xs ys ≡ true → Sub xs ys
 unfolding subset
-subset-sub f xs ys d e c h =
-    implies-yes (covers xs c) (covers ys c) (all-below 65535 (λ k. not (covers xs k) || covers ys k) e c (omega (arith, covers-top f xs c d h))) h
+subset-sub [] ys e c h = absurd (never (sym h))
+subset-sub (r ∷ rs) ys e c h =
+    ⊎-elim at (subset-sub rs ys (and-right (allBelow (r .high + 1 - r .low) (λ k. covers ys (r .low + k))) _ e) c) (or-cases (inRun r c) (covers rs c) h)
+  where
+    at : inRun r c ≡ true → covers ys c ≡ true
+    at w =
+        let a : r .low ≤ c = leb-true _ _ (and-left (leb (r .low) c) _ w) in
+        let b : c ≤ r .high = leb-true _ _ (and-right (leb (r .low) c) _ w) in
+        let m : r .low + (c - r .low) ≡ c = omega arith in
+        ap (covers ys) (sym m)
+        ∙ all-below (r .high + 1 - r .low) (λ k. covers ys (r .low + k)) (and-left (allBelow (r .high + 1 - r .low) (λ k. covers ys (r .low + k))) _ e) (c - r .low) (omega arith)
 
 pub sub-subset : (xs ys : List Run) → Sub xs ys → subset xs ys ≡ true
 unfolding subset
-sub-subset xs ys h = below-all 65535 (λ k. not (covers xs k) || covers ys k) (λ c l. yes-implies (covers xs c) (covers ys c) (h c))
+sub-subset [] ys h = refl
+sub-subset (r ∷ rs) ys h =
+    and-both
+    (below-all (r .high + 1 - r .low) (λ k. covers ys (r .low + k))
+    (λ k l. h (r .low + k) (rw (le-leb (r .low) (r .low + k) (omega arith), le-leb (r .low + k) (r .high) (omega arith)))))
+    (sub-subset rs ys (λ c e. h c (or-true-right (inRun r c) e)))
 
 -- One list after another.
 
