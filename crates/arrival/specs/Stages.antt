@@ -5,8 +5,7 @@ use mathlib.Core.Option.{Option}
 use mathlib.Core.Path.{_≡_}
 use Prim.Native.Nat.{ℕ, _≤_}
 use lib.ListN.{length}
-use Rattle.label.specs.declared.Label.{Label}
-use Rattle.label.specs.Label.{wellFormed, inRange}
+use Rattle.label.specs.Label.{inRange}
 use Rattle.area.specs.declared.Place.{Place}
 use Rattle.port.specs.declared.Port.{Port}
 use Rattle.port.specs.declared.Host.{Host}
@@ -26,10 +25,6 @@ refusal n k c p = refused false (record { number = n; kind = k; code = c; pointe
 -- a refusal with the mark looked at
 abbrev pub reported : Bool → Decision → Decision
 reported icmp d = cond icmp (refusal (d .number) 0 0 0) d
-
--- whether a label lies in a range, all three known to be well formed; of others nothing is said
-pub record Between (l lowest highest : Label) (r : Bool) : Type 0 where
-  pub between : wellFormed l ≡ true → wellFormed lowest ≡ true → wellFormed highest ≡ true → r ≡ inRange lowest highest l
 
 -- checks 6 to 14, with the option 134 at its place
 abbrev pub placeChecks : Place → Port → List ℕ → ℕ → List (Option Refusal)

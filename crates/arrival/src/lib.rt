@@ -13,11 +13,12 @@ ghost use mathlib.Core.Bool.{true, false, _||_, not};
 ghost use Prim.Native.Nat.{_%_, _≤_};
 ghost use lib.ListN.{length};
 ghost use lib.Dec.{ltb, eqb};
+ghost use Rattle.label.specs.Range.{comparedBetween};
 ghost use Rattle.area.specs.Area.{placedIn, LabelAt};
 ghost use Rattle.port.specs.Port.{portSound};
 ghost use Rattle.arrival.specs.Checks.{firstOf, labelBy};
 ghost use Rattle.arrival.specs.Decision.{done, decided, deliverOf};
-ghost use Rattle.arrival.specs.Stages.{refusal, reported, placeChecks, deliveryOf, Between, Arrives};
+ghost use Rattle.arrival.specs.Stages.{refusal, reported, placeChecks, deliveryOf, Arrives};
 
 // What is decided: 0 and the label (and, of a forwarding, the count of the leaving area), or a refusal's number with its ICMP type (`kind`),
 // code and pointer.
@@ -105,9 +106,9 @@ pub fn bad_area(n: usize) -> bool
     n % 4 != 0
 }
 
-// Whether a label lies in a range, all three known to be well formed; of others nothing is said.
+// Whether a label lies in a range, without a look at the form of the three: for labels that are known to be well formed.
 pub fn between(label: Label, lowest: Label, highest: Label) -> bool
-    ensures { λ r. ⌜ Between label lowest highest r ⌝ }
+    ensures { λ r. ⌜ r ≡ comparedBetween lowest highest label ⌝ }
 {
     if !lowest.at_most(label) {
         return false;

@@ -17,12 +17,12 @@ use crate::record::take_port;
 use crate::record::take_table;
 use arrival::deliver;
 use gateway::forward;
+use lines::put_decimal;
+use lines::put_next;
+use lines::put_word;
 use reading::read_option;
 use renumber::renumber;
 use spelling::spell_label;
-use stream::put_decimal;
-use stream::put_next;
-use stream::put_word;
 
 // The line of one case.
 pub fn answer(case: &[u8], out: &mut [u8], n: usize) -> usize {

@@ -4,12 +4,11 @@ use crate::field::octets_of;
 use arrival::Decision;
 use label::Label;
 use label::Run;
-use stream::put_decimal;
-use stream::put_hex;
-use stream::put_next;
-use stream::put_octet;
-use stream::put_three;
-use stream::put_word;
+use lines::put_decimal;
+use lines::put_hex;
+use lines::put_next;
+use lines::put_octet;
+use lines::put_word;
 
 // YES or NO.
 pub fn put_answer(out: &mut [u8], n: usize, yes: bool) -> usize {
@@ -58,8 +57,10 @@ pub fn put_output(out: &mut [u8], n: usize, space: &[u8; LONGEST], room: usize) 
 // A decision: number, type, code, pointer, count and the label.
 pub fn put_decision(out: &mut [u8], n: usize, d: Decision) -> usize {
     let numbered = put_decimal(out, n, d.number as u64);
-    let reported = put_three(out, numbered, d.kind, d.code, d.pointer);
-    let counted = put_next(out, reported, d.count as u64);
+    let typed = put_next(out, numbered, d.kind as u64);
+    let coded = put_next(out, typed, d.code as u64);
+    let pointed = put_next(out, coded, d.pointer as u64);
+    let counted = put_next(out, pointed, d.count as u64);
     let label = d.label;
     put_label(out, counted, label)
 }

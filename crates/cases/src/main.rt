@@ -3,6 +3,7 @@
 // A case is led by its length in two octets, and its first octet names the entry; every number is big-endian. A case that does not parse is
 // answered by BROKEN, and one that is cut off too, after which the program ends.
 ghost use Prim.Native.Nat.{_≤_};
+ghost use lib.ListN.{length};
 
 mod entry;
 mod field;
@@ -11,42 +12,76 @@ mod record;
 
 use entry::answer;
 use entry::put_broken;
+use lines::put_octet;
 use stream::Place;
 use stream::begin;
+use stream::feed;
 use stream::flush;
 use stream::go_on;
-use stream::hold;
-use stream::put_octet;
+use stream::spare;
 use stream::stop;
 
 // Two octets of length and the longest case that they can lead, and as much again, so that what is moved to the front is less than what is read.
 const INPUT: usize = 131072;
 // How much of the output waits at a time.
 const OUTPUT: usize = 65536;
+// More octets than a line has: a decision with a label of 120 runs, and an output of 512 octets in hex, come to some 2,600.
+const LINE: usize = 4096;
 
-// One case: its line, or BROKEN where it is cut off; nothing where the input ends.
-fn turn(input: &mut [u8], out: &mut [u8], place: Place) -> Place {
-    let n = place.waiting;
-    let led = hold(input, place.window, 2);
-    let first = led.at;
-    if led.end <= first {
-        return stop(n);
+// The line of a case of `size` octets in the window, or BROKEN where it is cut off. What waits is written where a line might not fit.
+fn answer_case(input: &[u8], out: &mut [u8], place: Place, size: usize) -> Place
+    requires { ⌜ (place .window .at ≤ place .window .end) × (place .window .end ≤ length (now input)) × (2 ≤ size) ⌝ }
+{
+    let ready = spare(out, place, LINE);
+    if !ready.more {
+        return ready;
     }
-    let second = first + 1;
-    if led.end <= second {
-        return stop(put_cut(out, n));
-    }
-    let size = case_size(input[first], input[second]);
-    let whole = hold(input, led, size);
+    let n = ready.waiting;
+    let whole = place.window;
     let at = whole.at;
-    if whole.end - at < size {
+    let end = whole.end;
+    if end - at < size {
         return stop(put_cut(out, n));
     }
     let next = at + size;
     let from = at + 2;
     let answered = answer(&input[from..next], out, n);
     let waiting = put_octet(out, answered, b'\n');
-    go_on(next, whole.end, waiting)
+    go_on(next, end, waiting)
+}
+
+// One case; nothing where the input ends. What waits is written before the input is read, and a write that fails ends the program.
+fn turn(input: &mut [u8], out: &mut [u8], place: Place) -> Place {
+    let led = feed(input, out, place, 2);
+    if !led.more {
+        return led;
+    }
+    let size = size_at(input, led);
+    if size < 2 {
+        return stop(led.waiting);
+    }
+    let fed = feed(input, out, led, size);
+    if !fed.more {
+        return fed;
+    }
+    answer_case(input, out, fed, size)
+}
+
+// How many octets the case has that the window begins with: 0 where the input ends, 2 where it ends within the two that lead the case.
+fn size_at(input: &[u8], place: Place) -> usize
+    requires { ⌜ (place .window .at ≤ place .window .end) × (place .window .end ≤ length (now input)) ⌝ }
+{
+    let window = place.window;
+    let first = window.at;
+    let end = window.end;
+    if end <= first {
+        return 0;
+    }
+    let second = first + 1;
+    if end <= second {
+        return 2;
+    }
+    case_size(input[first], input[second])
 }
 
 // The line of a case that is cut off.
@@ -72,5 +107,5 @@ fn main() {
         place = turn(&mut input, &mut out, place);
         turns -= 1;
     }
-    flush(&mut out, place.waiting);
+    flush(&out, place);
 }

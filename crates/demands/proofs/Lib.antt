@@ -2,3 +2,12 @@ pub mod First
 pub mod Second
 pub mod Third
 pub mod Demands
+pub mod Worked
+pub mod Sample
+pub mod Again
+pub mod Pointers
+pub mod Unlabelled
+pub mod Order
+pub mod Guards
+pub mod Renumbering
+pub mod Alone

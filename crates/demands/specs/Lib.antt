@@ -1,1 +1,5 @@
 pub mod Demands
+pub mod Worked
+pub mod Sample
+pub mod Guards
+pub mod Alone

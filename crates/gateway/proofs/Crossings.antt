@@ -11,6 +11,7 @@ use borrow.Author.Tests.{eq-eqb, ne-eqb, eqb-true, eqb-false, leb-true, leb-fals
 use Rattle.label.specs.declared.Run.{Run}
 use Rattle.label.specs.declared.Label.{Label}
 use Rattle.label.specs.Label.{used, labelOf, wellFormed, inRange}
+use Rattle.label.specs.Range.{setInRange}
 use Rattle.label.proofs.Bools.{and-left, and-right}
 use Rattle.label.proofs.Labels.{formed, used-length, of-used}
 use Rattle.port.specs.declared.Port.{Port}
@@ -22,7 +23,7 @@ use Rattle.table.specs.declared.Partner.the-variants.{Level, Missing}
 use Rattle.table.specs.Table.{usedRows, tableSound}
 use Rattle.table.specs.Numbers.{partnerOf, numbered}
 use Rattle.renumber.specs.declared.Renumbered.{Renumbered}
-use Rattle.renumber.specs.Renumber.{refusal, done, imageRuns, fitted, whenNumbered, setInRange, carriedOf}
+use Rattle.renumber.specs.Renumber.{refusal, done, imageRuns, fitted, whenNumbered, carriedOf}
 use Rattle.renumber.specs.Theorems.{Carried}
 use Rattle.renumber.proofs.Theorems.{held-label, carrying}
 use Rattle.arrival.specs.Checks.{Refusal, barred, when, firstOf}

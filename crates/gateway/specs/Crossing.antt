@@ -8,6 +8,7 @@ use lib.ListN.{length, take}
 use Rattle.label.specs.declared.Run.{Run}
 use Rattle.label.specs.declared.Label.{Label}
 use Rattle.label.specs.Label.{used, labelOf}
+use Rattle.label.specs.Range.{setInRange}
 use Rattle.option.specs.Spelling.{spellingOf}
 use Rattle.spelling.specs.Spelling.{lacking, lengthOf}
 use Rattle.port.specs.declared.Port.{Port}
@@ -17,7 +18,7 @@ use Rattle.table.specs.declared.Partner.{Partner}
 use Rattle.table.specs.declared.Partner.the-variants.{Level, Missing}
 use Rattle.table.specs.Table.{usedRows, tableSound}
 use Rattle.table.specs.Numbers.{partnerOf, numbered}
-use Rattle.renumber.specs.Renumber.{imageRuns, setInRange}
+use Rattle.renumber.specs.Renumber.{imageRuns}
 use Rattle.arrival.specs.Checks.{Refusal, silent, barred, when, badArea, arrivingLabel}
 
 -- Forward: two ports, and a table that is read when their domains differ; `room` is the length of the output.

@@ -2,10 +2,10 @@
 use mathlib.Core.Path.{_≡_, refl, sym, _∙_, ap}
 use mathlib.Core.Bool.{Bool, true, false, not, _&&_, _||_}
 use mathlib.Core.Logic.{_⊎_, inl, inr, ⊎-elim}
-use Prim.Native.Nat.{ℕ, zero, suc, _+_, _≤_, _<_}
+use Prim.Native.Nat.{ℕ, zero, suc, _≤_, _<_}
 use native.Mathlib.Omega.{arith}
-use lib.Dec.{leb, eqb, eqb·suc-zero}
-use borrow.Author.Tests.{leb-true, leb-false, ne-eqb}
+use lib.Dec.{leb}
+use borrow.Author.Tests.{leb-true, leb-false}
 use Rattle.label.specs.Runs.{allBelow}
 
 pub never : true ≡ false → ⊥
@@ -67,16 +67,8 @@ yes-implies true b h = h refl
 yes-implies false b h = refl
 
 -- a conjunction told from the left
-pub and-chain : (g a b c d : Bool) → (g && (a && (b && (c && d)))) ≡ ((((g && a) && b) && c) && d)
-and-chain false a b c d = refl
-and-chain true false b c d = refl
-and-chain true true false c d = refl
-and-chain true true true false d = refl
-and-chain true true true true d = refl
-
--- three numbers are zero exactly when their sum is
-pub zero-sum : (s a b : ℕ) (u : Bool) → (eqb s 0 && (eqb a 0 && (eqb b 0 && u))) ≡ (eqb (s + a + b) 0 && u)
-zero-sum zero zero zero u = refl
-zero-sum zero zero (suc b) u = simp (eqb·suc-zero b, ne-eqb (zero + zero + suc b) 0 (omega arith))
-zero-sum zero (suc a) b u = simp (eqb·suc-zero a, ne-eqb (zero + suc a + b) 0 (omega arith))
-zero-sum (suc s) a b u = simp (eqb·suc-zero s, ne-eqb (suc s + a + b) 0 (omega arith))
+pub and-chain : (g a b c : Bool) → (g && (a && (b && c))) ≡ (((g && a) && b) && c)
+and-chain false a b c = refl
+and-chain true false b c = refl
+and-chain true true false c = refl
+and-chain true true true c = refl

@@ -1,20 +1,21 @@
 -- Laws of labels: the parts of well-formedness, a well-formed label is that of its runs, and what A ≤ B says over membership.
 use mathlib.Core.Path.{_≡_, refl, sym, _∙_, ap}
-use mathlib.Core.Bool.{Bool, true, false, not, _&&_, _||_, and-true}
+use mathlib.Core.Bool.{true, not, _&&_, and-true}
 use mathlib.Core.List.{List, [], _∷_, _++_, append-assoc}
 use Prim.Native.Nat.{ℕ, suc, _+_, _-_, _≤_, _<_}
 use native.Mathlib.Omega.{arith}
 use lib.Dec.{leb, eqb}
-use lib.ListN.{length, getD, take, drop, replicate, set, length-append, length-drop, length-replicate, take-append-drop}
+use lib.ListN.{length, drop, replicate, set, length-append, length-drop, length-replicate, take-append-drop}
 use lib.Seq.{set-append-seam, length-take-le, take-append-seam, drop-append-seam}
 use borrow.Author.Tests.{leb-true, eqb-false, eqb-true, not-true, le-leb, ne-eqb, eq-eqb}
 use Rattle.label.specs.declared.Run.{Run}
 use Rattle.label.specs.declared.Label.{Label}
-use Rattle.label.specs.Runs.{run, covers, spaced, unused, subset}
-use Rattle.label.specs.Label.{noRun, used, labelOf, typed, wellFormed, member, atMost, leq}
+use Rattle.label.specs.Runs.{covers, spaced, unused}
+use Rattle.label.specs.Label.{noRun, used, labelOf, typed, wellFormed, member, atMost, leq, compared}
 use Rattle.label.specs.Theorems.{AtMost}
-use Rattle.label.proofs.Bools.{never, and-left, and-right}
-use Rattle.label.proofs.Runs.{Sub, subset-sub, sub-subset, covers-top, one-form}
+use Rattle.label.proofs.Bools.{and-left, and-right}
+use Rattle.label.proofs.Runs.{Sub, subset-sub, sub-subset, one-form}
+use Rattle.label.proofs.Pass.{passes-subset}
 
 -- The parts of well-formedness.
 pub record Formed (l : Label) : Type 0 where
@@ -150,7 +151,7 @@ leq-says a b e =
       level = leb-true _ _ (and-left (leb (a .level) (b .level)) _ e3);
       categories = λ c m.
           member-is b wb c
-          ∙ subset-sub 0 (used a) (used b) (formed a wa .runs) (and-right (leb (a .level) (b .level)) _ e3) c (sym (member-is a wa c) ∙ m);
+          ∙ subset-sub (used a) (used b) (and-right (leb (a .level) (b .level)) _ e3) c (sym (member-is a wa c) ∙ m);
     }
 
 pub leq-said : (a b : Label) → AtMost a b → leq a b ≡ true
@@ -163,3 +164,11 @@ leq-said a b h =
 pub leq-at-most : (a b : Label) → wellFormed a ≡ true → wellFormed b ≡ true → leq a b ≡ atMost a b
 unfolding leq
 leq-at-most a b wa wb = rw (wa, wb)
+
+-- and one pass is the test
+pub compared-at-most : (a b : Label) → wellFormed a ≡ true → wellFormed b ≡ true → compared a b ≡ atMost a b
+unfolding compared atMost
+compared-at-most a b wa wb =
+    let f = formed a wa in
+    let g = formed b wb in
+    rw (le-leb _ _ (f .held), le-leb _ _ (g .held), passes-subset (used a) (used b) (f .runs) (g .runs))

@@ -2,8 +2,11 @@ pub mod Bools
 pub mod Steps
 pub mod Runs
 pub mod Places
+pub mod Pass
 pub mod Canon
 pub mod Push
 pub mod Count
 pub mod Labels
+pub mod Keys
+pub mod Range
 pub mod Theorems

@@ -1,15 +1,15 @@
--- Laws of lists of runs: what a spaced list covers, one form for one set, and a pass over two lists that tells whether one lies in the other.
+-- Laws of lists of runs: what a spaced list covers, one form for one set, and when one list lies in another.
 use mathlib.Core.Path.{_≡_, refl, sym, _∙_, ap}
-use mathlib.Core.Bool.{Bool, true, false, not, _&&_, _||_, and-false, or-assoc}
+use mathlib.Core.Bool.{Bool, true, false, _&&_, _||_, and-false, or-assoc}
 use mathlib.Core.List.{List, [], _∷_, _++_}
 use mathlib.Core.Logic.{_⊎_, inl, inr, ⊎-elim}
-use Prim.Native.Nat.{ℕ, zero, suc, _+_, _≤_, _<_}
+use Prim.Native.Nat.{ℕ, zero, suc, _+_, _-_, _≤_, _<_}
 use native.Mathlib.Omega.{arith}
-use lib.Dec.{leb, eqb}
+use lib.Dec.{leb}
 use borrow.Author.Tests.{leb-true, le-leb, lt-leb}
 use Rattle.label.specs.declared.Run.{Run}
-use Rattle.label.specs.Runs.{inRun, covers, spaced, subset}
-use Rattle.label.proofs.Bools.{never, and-left, and-right, not-yes, or-true-right, less-or, all-below, below-all, implies-yes, yes-implies}
+use Rattle.label.specs.Runs.{inRun, covers, spaced, allBelow, subset}
+use Rattle.label.proofs.Bools.{never, and-left, and-right, and-both, not-yes, or-cases, or-true-right, less-or, all-below, below-all}
 
 -- What a spaced list says of its first run.
 pub record First (f : ℕ) (r : Run) (rs : List Run) : Type 0 where
@@ -144,57 +144,28 @@ one-form f g (r ∷ xs) (s ∷ ys) d e h k =
         (λ w. sym (covers-over s ys c (omega arith)) ∙ fewer r xs (s ∷ ys) k c m)
         (less-or c (r .high + 2))
 
-pub subset-sub : (f : ℕ) (xs ys : List Run) → spaced f xs ≡ true → subset xs ys ≡ true → Sub xs ys
+pub subset-sub : (xs ys : List Run) → subset xs ys ≡ true → Sub xs ys
 unfolding subset
-subset-sub f xs ys d e c h =
-    implies-yes (covers xs c) (covers ys c) (all-below 65535 (λ k. not (covers xs k) || covers ys k) e c (omega (arith, covers-top f xs c d h))) h
+subset-sub [] ys e c h = absurd (never (sym h))
+subset-sub (r ∷ rs) ys e c h =
+    ⊎-elim at (subset-sub rs ys (and-right (allBelow (r .high + 1 - r .low) (λ k. covers ys (r .low + k))) _ e) c) (or-cases (inRun r c) (covers rs c) h)
+  where
+    at : inRun r c ≡ true → covers ys c ≡ true
+    at w =
+        let a : r .low ≤ c = leb-true _ _ (and-left (leb (r .low) c) _ w) in
+        let b : c ≤ r .high = leb-true _ _ (and-right (leb (r .low) c) _ w) in
+        let m : r .low + (c - r .low) ≡ c = omega arith in
+        ap (covers ys) (sym m)
+        ∙ all-below (r .high + 1 - r .low) (λ k. covers ys (r .low + k)) (and-left (allBelow (r .high + 1 - r .low) (λ k. covers ys (r .low + k))) _ e) (c - r .low) (omega arith)
 
 pub sub-subset : (xs ys : List Run) → Sub xs ys → subset xs ys ≡ true
 unfolding subset
-sub-subset xs ys h = below-all 65535 (λ k. not (covers xs k) || covers ys k) (λ c l. yes-implies (covers xs c) (covers ys c) (h c))
-
-pub not-subset : (f : ℕ) (xs ys : List Run) → spaced f xs ≡ true → (Sub xs ys → ⊥) → subset xs ys ≡ false
-not-subset f xs ys d h = not-yes (subset xs ys) (λ e. h (subset-sub f xs ys d e))
-
--- Where a pass over two lists stands: what is left of them decides whether the first lies in the second.
-pub record Left (xs ys as′ bs′ : List Run) : Type 0 where
-  pub first-spaced : spaced 0 as′ ≡ true
-  pub second-spaced : spaced 0 bs′ ≡ true
-  pub to : Sub xs ys → Sub as′ bs′
-  pub back : Sub as′ bs′ → Sub xs ys
-
-pub start : (xs ys : List Run) → spaced 0 xs ≡ true → spaced 0 ys ≡ true → Left xs ys xs ys
-start xs ys d e = record { first-spaced = d; second-spaced = e; to = λ h. h; back = λ h. h }
-
-pub stops-none : {xs ys : List Run} {r : Run} {as′ : List Run} → Left xs ys (r ∷ as′) [] → Sub xs ys → ⊥
-stops-none {xs} {ys} {r} {as′} l k = sub-none 0 r as′ (l .first-spaced) (l .to k)
-
-module _ {xs ys : List Run} {r : Run} {as′ : List Run} {s : Run} {bs′ : List Run} (l : Left xs ys (r ∷ as′) (s ∷ bs′)) where
-  pub pass-over : s .high < r .low → Left xs ys (r ∷ as′) bs′
-  pass-over h =
-      let q = first 0 s bs′ (l .second-spaced) in
-      record {
-        first-spaced = l .first-spaced;
-        second-spaced = lower (s .high + 2) 0 bs′ (omega arith) (q .rest);
-        to = λ k. skip 0 r as′ s bs′ (l .first-spaced) h (l .to k);
-        back = λ k. l .back (more s (r ∷ as′) bs′ k);
-      }
-
-  pub pass-in : s .low ≤ r .low → r .high ≤ s .high → Left xs ys as′ (s ∷ bs′)
-  pass-in h k =
-      let p = first 0 r as′ (l .first-spaced) in
-      record {
-        first-spaced = lower (r .high + 2) 0 as′ (omega arith) (p .rest);
-        second-spaced = l .second-spaced;
-        to = λ g. fewer r as′ (s ∷ bs′) (l .to g);
-        back = λ g. l .back (inside r as′ s bs′ h k g);
-      }
-
-  pub stops-before : r .low < s .low → Sub xs ys → ⊥
-  stops-before h k = sub-before 0 0 r as′ s bs′ (l .first-spaced) (l .second-spaced) h (l .to k)
-
-  pub stops-past : r .low ≤ s .high → s .high < r .high → Sub xs ys → ⊥
-  stops-past h k g = sub-past 0 0 r as′ s bs′ (l .first-spaced) (l .second-spaced) h k (l .to g)
+sub-subset [] ys h = refl
+sub-subset (r ∷ rs) ys h =
+    and-both
+    (below-all (r .high + 1 - r .low) (λ k. covers ys (r .low + k))
+    (λ k l. h (r .low + k) (rw (le-leb (r .low) (r .low + k) (omega arith), le-leb (r .low + k) (r .high) (omega arith)))))
+    (sub-subset rs ys (λ c e. h c (or-true-right (inRun r c) e)))
 
 -- One list after another.
 

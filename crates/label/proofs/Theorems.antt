@@ -1,15 +1,15 @@
 -- The theorems of `specs/Theorems.antt`.
-use mathlib.Core.Path.{_≡_, refl, sym, _∙_}
-use mathlib.Core.Bool.{Bool, true, false}
-use mathlib.Core.List.{List, [], _∷_}
-use Prim.Native.Nat.{ℕ, _≤_, _<_}
+use mathlib.Core.Path.{_≡_, refl, _∙_}
 use native.Mathlib.Omega.{arith}
 use native.Mathlib.Nat.{le-refl}
 use Rattle.label.specs.declared.Label.{Label}
-use Rattle.label.specs.Runs.{run, subset, allBelow}
-use Rattle.label.specs.Label.{labelOf, wellFormed, typed, atMost, leq}
-use Rattle.label.specs.Theorems.{OneForm, AtMost, Comparing, PartialOrder, Incomparable, examples, Holds}
-use Rattle.label.proofs.Labels.{formed, same-runs, same-label, leq-says, leq-said}
+use Rattle.label.specs.Runs.{subset, allBelow}
+use Rattle.label.specs.Label.{used, wellFormed, typed, atMost, leq}
+use Rattle.label.specs.Theorems.{OneForm, AtMost, Comparing, OnePass, AsKeys, PartialOrder, examples, Holds}
+use Rattle.label.proofs.Labels.{formed, same-runs, same-label, leq-says, leq-said, compared-at-most}
+use Rattle.label.proofs.Keys.{keys-runs}
+use Rattle.label.proofs.Range.{look-right}
+use Rattle.label.proofs.Pass.{passes-subset, rounds-most}
 use Rattle.label.proofs.Bools.{same-yes}
 
 pub one-form : OneForm
@@ -17,6 +17,16 @@ one-form a b wa wb d v m = same-label a b (formed a wa) (formed b wb) d v (same-
 
 pub comparing : Comparing
 comparing = record { says = leq-says; said = leq-said }
+
+pub one-pass : OnePass
+one-pass = record { categories = passes-subset; labels = compared-at-most; turns = rounds-most }
+
+pub as-keys : AsKeys
+as-keys =
+    record {
+      back = λ l w. keys-runs 0 (used l) (formed l w .runs);
+      held = λ lowest highest v rs wl wh s. look-right lowest highest v wl wh rs s;
+    }
 
 both-ways : (a b : Label) → AtMost a b → AtMost b a → a ≡ b
 both-ways a b h k =

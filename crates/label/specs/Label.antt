@@ -1,13 +1,12 @@
 -- Document 01, "Labels": what a label is, what it says of a category, and when one is at most another.
-use mathlib.Core.Bool.{Bool, true, false, cond, not, _&&_}
-use mathlib.Core.List.{List, [], _∷_, _++_}
-use mathlib.Core.Path.{_≡_}
+use mathlib.Core.Bool.{Bool, cond, not, _&&_}
+use mathlib.Core.List.{List, _++_}
 use Prim.Native.Nat.{ℕ, _+_, _-_}
 use lib.Dec.{leb, eqb}
 use lib.ListN.{length, take, drop, replicate}
 use Rattle.label.specs.declared.Run.{Run}
 use Rattle.label.specs.declared.Label.{Label}
-use Rattle.label.specs.Runs.{run, covers, spaced, unused, subset}
+use Rattle.label.specs.Runs.{run, covers, spaced, unused, subset, passes}
 
 abbrev pub noRun : Run
 noRun = run 0 0
@@ -57,6 +56,9 @@ inRange lowest highest l = leq lowest l && leq l highest
 unfoldable pub isZero : Label → Bool
 isZero l = eqb (l .domain) 0 && (eqb (l .level) 0 && (eqb (l .count) 0 && unused (l .runs)))
 
--- what comparing answers of two labels that are known to be well formed
-pub record Compares (a b : Label) (r : Bool) : Type 0 where
-  pub compares : wellFormed a ≡ true → wellFormed b ≡ true → r ≡ atMost a b
+-- what comparing answers of any two labels, without a look at their form: no over 120 runs, else one pass over the runs of both.
+-- Of well-formed labels it is A ≤ B (`specs/Theorems.antt`)
+unfoldable pub compared : Label → Label → Bool
+compared a b =
+    eqb (a .domain) (b .domain)
+    && (leb (a .level) (b .level) && (leb (a .count) 120 && (leb (b .count) 120 && passes (used a) (used b))))

@@ -1,3 +1,5 @@
 pub mod Runs
 pub mod Label
+pub mod Keys
+pub mod Range
 pub mod Theorems

@@ -1,5 +1,5 @@
 -- Document 01, "Labels": lists of runs, the categories that they cover, and the one form of a set.
-use mathlib.Core.Bool.{Bool, true, false, cond, not, _&&_, _||_}
+use mathlib.Core.Bool.{Bool, true, false, cond, _&&_, _||_}
 use mathlib.Core.List.{List, [], _∷_}
 use Prim.Native.Nat.{ℕ, zero, suc, _+_, _-_}
 use lib.Dec.{leb, eqb}
@@ -32,9 +32,27 @@ unfoldable pub allBelow : ℕ → (ℕ → Bool) → Bool
 allBelow zero p = true
 allBelow (suc n) p = p n && allBelow n p
 
--- every category of the first list is one of the second
+-- every category of the first list, run by run, is one of the second
 unfoldable pub subset : List Run → List Run → Bool
-subset xs ys = allBelow 65535 (λ c. not (covers xs c) || covers ys c)
+subset [] ys = true
+subset (r ∷ rs) ys = allBelow (r .high + 1 - r .low) (λ k. covers ys (r .low + k)) && subset rs ys
+
+-- one pass over two lists: a run of the second that ends before the run of the first begins is dropped; else the run must lie in it.
+-- It answers for any two lists; where both are spaced it is the subset test (`specs/Theorems.antt`)
+abbrev pub passes : List Run → List Run → Bool
+passes [] ys = true
+passes (x ∷ xs) [] = false
+passes (x ∷ xs) (y ∷ ys) =
+    cond (leb (x .low) (y .high))
+    (leb (y .low) (x .low) && (leb (x .high) (y .high) && passes xs (y ∷ ys)))
+    (passes (x ∷ xs) ys)
+
+-- how many turns the pass takes
+abbrev pub rounds : List Run → List Run → ℕ
+rounds [] ys = 0
+rounds (x ∷ xs) [] = 1
+rounds (x ∷ xs) (y ∷ ys) =
+    1 + cond (leb (x .low) (y .high)) (cond (leb (y .low) (x .low) && leb (x .high) (y .high)) (rounds xs (y ∷ ys)) 0) (rounds (x ∷ xs) ys)
 
 -- at how many numbers below n the test passes
 unfoldable pub countBelow : ℕ → (ℕ → Bool) → ℕ

@@ -86,7 +86,7 @@ kept-after t r Stop h = refl
 kept-after t r (Over zero m) h = let z = h zero m refl in absurd (omega arith)
 kept-after t r (Over (suc n) m) h = ap (λ (x : List ℕ). take m (t ∷ r) ++ x) (kept-skip r n)
 
-kept-turn : (l : List ℕ) → 0 < length l → keptFrom l 0 ≡ afterNext l (nextOf l)
+pub kept-turn : (l : List ℕ) → 0 < length l → keptFrom l 0 ≡ afterNext l (nextOf l)
 unfolding keptFrom
 kept-turn [] h = absurd (omega arith)
 kept-turn (t ∷ r) h = kept-after t r (nextOf (t ∷ r)) (λ n m e. next-on (t ∷ r) n m h e .0)

@@ -10,7 +10,9 @@ use borrow.Author.Tests.{le-leb, lt-leb, eq-eqb, ne-eqb}
 use Rattle.label.specs.declared.Run.{Run}
 use Rattle.label.specs.declared.Label.{Label}
 use Rattle.label.specs.Runs.{spaced}
-use Rattle.label.specs.Label.{used, wellFormed, labelOf}
+use Rattle.label.specs.Label.{used, wellFormed}
+use Rattle.label.specs.Range.{setInRange}
+use Rattle.label.specs.Keys.{keyRuns, labelFrom}
 use Rattle.table.specs.declared.Row.{Row}
 use Rattle.table.specs.declared.Table.{Table}
 use Rattle.table.specs.declared.Partner.the-variants.{Level, Missing}
@@ -20,8 +22,8 @@ use Rattle.order.specs.Order.{sortKeys}
 use Rattle.order.proofs.Laws.{sort-length}
 use Rattle.renumber.specs.declared.Renumbered.{Renumbered}
 use Rattle.renumber.specs.Sets.{runsOf}
-use Rattle.renumber.specs.Renumber.{refusal, fitted, imageRuns, renumberedOf, setInRange, carriedOf}
-use Rattle.renumber.specs.Keys.{keyRuns, joinAll, Pieces}
+use Rattle.renumber.specs.Renumber.{refusal, fitted, imageRuns, renumberedOf, carriedOf}
+use Rattle.renumber.specs.Keys.{joinAll, Pieces}
 use Rattle.renumber.proofs.Pass.{pieces-runs}
 
 -- Cut, put in order, joined.
@@ -39,7 +41,8 @@ module _ (d v n : ℕ) (ks : List ℕ) (h : n ≤ length ks) where
   pub fitted-many : 120 < n → refusal 18 ≡ fitted d v (keyRuns (take n ks))
   fitted-many m = let z = image-length n ks (keyRuns (take n ks)) refl h in simp (lt-leb (length (keyRuns (take n ks))) 120 (omega arith))
 
-  pub fitted-done : n ≤ 120 → _≡_ {A = Renumbered} (record { number = 0; label = labelOf d v (keyRuns (take n ks)) }) (fitted d v (keyRuns (take n ks)))
+  pub fitted-done : n ≤ 120 → _≡_ {A = Renumbered} (record { number = 0; label = labelFrom d v (keyRuns (take n ks)) }) (fitted d v (keyRuns (take n ks)))
+  unfolding labelFrom
   fitted-done m = let z = image-length n ks (keyRuns (take n ks)) refl h in simp (le-leb (length (keyRuns (take n ks))) 120 (omega arith))
 
 module _ (l : Label) (t : Table) (ls : List (List ℕ)) where

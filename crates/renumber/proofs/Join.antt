@@ -9,9 +9,10 @@ use native.Mathlib.Decide.{decLe}
 use lib.Dec.{leb, ltb}
 use borrow.Author.Tests.{le-leb, lt-leb, leb-true, leb-false, ltb-true, ltb-false}
 use Rattle.label.specs.Runs.{inRun, covers, spaced}
+use Rattle.label.specs.Keys.{keyRun, keyRuns}
 use Rattle.label.proofs.Bools.{and-left, and-right}
 use Rattle.order.specs.Order.{Sorted, all, insertKey, sortOnto}
-use Rattle.renumber.specs.Keys.{keyRun, keyRuns, stretched, joinFrom, joinAll, Key}
+use Rattle.renumber.specs.Keys.{stretched, joinFrom, joinAll, Key}
 
 or-swap : (a b c : Bool) → (a || (b || c)) ≡ (b || (a || c))
 or-swap true true c = refl

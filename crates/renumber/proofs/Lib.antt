@@ -3,6 +3,5 @@ pub mod Image
 pub mod Join
 pub mod Pass
 pub mod Turns
-pub mod Held
 pub mod Answers
 pub mod Theorems

@@ -9,6 +9,7 @@ use lib.Dec.{leb, eqb}
 use borrow.Author.Tests.{le-leb, leb-true, eqb-true, eq-eqb}
 use Rattle.label.specs.declared.Run.{Run}
 use Rattle.label.specs.Runs.{run, inRun, covers, spaced}
+use Rattle.label.specs.Keys.{keyRun, keyRuns}
 use Rattle.label.proofs.Bools.{never, and-left, and-right, not-yes, less-or, or-true-right, same-yes, all-below, below-all, implies-yes, yes-implies}
 use Rattle.label.proofs.Runs.{First, first, lower, covers-top, covers-append}
 use Rattle.table.specs.declared.Row.{Row}
@@ -18,7 +19,7 @@ use Rattle.table.proofs.Rows.{good, rise-lower}
 use Rattle.order.specs.Order.{Sorted, all, sortKeys}
 use Rattle.order.proofs.Laws.{sort-all, sort-sorted}
 use Rattle.renumber.specs.Sets.{runsOf}
-use Rattle.renumber.specs.Keys.{keyRun, keyRuns, joinAll, hit, hits, pieceKey, Key, Pieces}
+use Rattle.renumber.specs.Keys.{joinAll, hit, hits, pieceKey, Key, Pieces}
 use Rattle.renumber.proofs.Image.{Numbered, piece, pieceLow, pieceHigh, front, left, hits-none, skip-hits, skip-to, skip-back, stop-before, stop-none, whole-hits, whole-to, whole-back, cut-spaced, cut-hits, cut-to, cut-back}
 use Rattle.renumber.proofs.Join.{sort-covers, all-covers, all-spaced}
 use Rattle.renumber.proofs.Sets.{the-runs}

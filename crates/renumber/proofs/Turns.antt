@@ -1,18 +1,14 @@
 -- One turn of each loop that writes, over plain lists.
 use mathlib.Core.Path.{_≡_, refl, sym, _∙_, ap}
-use mathlib.Core.List.{List, [], _∷_, _++_, map-append, append-assoc}
+use mathlib.Core.List.{List, [], _∷_, _++_, append-assoc}
 use Prim.Native.Nat.{ℕ, _+_, _/_, _%_, _≤_, _<_}
 use native.Mathlib.Omega.{arith}
 use native.Mathlib.Numerals.{add-one}
-use lib.ListN.{length, take, drop, getD, set, length-set, length-map, length-append}
-use lib.Seq.{take-suc, take-suc-set, drop-set-lt, drop-drop, getD-drop, length-take-le}
+use lib.ListN.{length, take, drop, getD, set, length-set}
+use lib.Seq.{take-suc-set, drop-set-lt, drop-drop, getD-drop}
 use borrow.Author.Tests.{le-leb, lt-leb}
-use Rattle.label.specs.declared.Run.{Run}
-use Rattle.label.specs.declared.Label.{Label}
-use Rattle.label.specs.Label.{labelOf}
-use Rattle.label.proofs.Labels.{with-run-of}
 use Rattle.label.proofs.Steps.{next-used, used-up}
-use Rattle.renumber.specs.Keys.{keyRun, keyRuns, stretched, joinFrom, joinAll}
+use Rattle.renumber.specs.Keys.{stretched, joinFrom, joinAll}
 
 pub record Joining (was : List ℕ) (n : ℕ) (s : List ℕ) (cur w i : ℕ) : Type 0 where
   pub behind : w < i
@@ -71,17 +67,3 @@ module _ (was : List ℕ) (n : ℕ) (fits : n ≤ length was) where
 
     pub join-end : n ≤ i → take (w + 1) (set s w cur) ≡ joinAll (take n was)
     join-end h = stored s w cur (omega (arith, k .behind, k .inside, k .long)) ∙ sym (k .whole ∙ rw (used-up was n i h))
-
--- A label takes one run more.
-pub label-next : (d v : ℕ) (ks : List ℕ) (out : Label) (i : ℕ) → out ≡ labelOf d v (keyRuns (take i ks)) → i < length ks → i < 120
-    → _≡_ {A = Label} (record { domain = out .domain; level = out .level; count = i + 1; runs = set (out .runs) i (keyRun (getD ks i 0)) }) (labelOf d v (keyRuns (take (i + 1) ks)))
-label-next d v ks out i e h l =
-    let x : Run = keyRun (getD ks i 0) in
-    let rs : List Run = keyRuns (take i ks) in
-    let n : length rs ≡ i = rw length-map (length-take-le i ks (omega arith)) in
-    let grown : rs ++ (x ∷ []) ≡ keyRuns (take (i + 1) ks) =
-    rw (add-one i, take-suc ks i 0 h) (sym (map-append keyRun (take i ks) (getD ks i 0 ∷ []))) in
-    let m : i + 1 ≡ length (rs ++ (x ∷ [])) = omega (arith, n, length-append rs (x ∷ [])) in
-    let p : set (labelOf d v rs .runs) (length rs) x ≡ labelOf d v (rs ++ (x ∷ [])) .runs = with-run-of rs x (omega arith) in
-    let q : set (out .runs) i x ≡ labelOf d v (rs ++ (x ∷ [])) .runs = ap (λ (z : Label). set (z .runs) i x) e ∙ ap (λ (z : ℕ). set (labelOf d v rs .runs) z x) (sym n) ∙ p in
-    (λ j. record { domain = e j .domain; level = e j .level; count = m j; runs = q j }) ∙ ap (labelOf d v) grown

@@ -7,8 +7,8 @@ use lib.Dec.{leb, eqb}
 use lib.ListN.{length, take}
 use Rattle.label.specs.declared.Run.{Run}
 use Rattle.label.specs.declared.Label.{Label}
-use Rattle.label.specs.Runs.{subset}
 use Rattle.label.specs.Label.{used, labelOf, zeroLabel, wellFormed}
+use Rattle.label.specs.Range.{setInRange}
 use Rattle.table.specs.declared.Table.{Table}
 use Rattle.table.specs.declared.Partner.{Partner}
 use Rattle.table.specs.declared.Partner.the-variants.{Level, Missing}
@@ -45,11 +45,6 @@ renumberedOf l t ls =
     (whenNumbered (partnerOf (take (t .pairs) ls) (l .level)) (numbered (usedRows t) (used l)) (λ v. fitted (t .to) v (imageRuns l t)))
     (refusal 16))
     (refusal 2)
-
--- the far level and the whole set lie in the range: not below the lowest label and not above the highest
-unfoldable pub setInRange : Label → Label → ℕ → List Run → Bool
-setInRange lowest highest v rs =
-    leb (lowest .level) v && (leb v (highest .level) && (subset (used lowest) rs && subset rs (used highest)))
 
 -- forward's renumbering of a well-formed label by a sound table from its domain, toward a range of the far domain: 16, then 17, then 18.
 -- "An over-large renumbered set is 18 unless 17 applies": the whole set is held against the range

@@ -1,14 +1,16 @@
 // A label carried to the far domain: its level's partner, and the numbers that the rows of a table give to its categories.
 ghost use mathlib.Core.Path.{_≡_};
-ghost use mathlib.Core.Bool.{true};
-ghost use mathlib.Core.List.{map};
 ghost use Prim.Native.Nat.{_≤_, max};
 ghost use lib.ListN.{length, take};
-ghost use Rattle.label.specs.Label.{used, labelOf};
+ghost use Rattle.label.specs.Keys.{keyRuns};
+ghost use Rattle.label.specs.Range.{answered, lookOf, runsBetween};
 ghost use Rattle.renumber.specs.Renumber.{refusal, fitted, renumberedOf, Carries};
-ghost use Rattle.renumber.specs.Keys.{keyRuns, runKey, stretched, joinAll, PieceOf, CutOf, ImageOf, Within, Between};
+ghost use Rattle.renumber.specs.Keys.{stretched, joinAll, PieceOf, CutOf, ImageOf};
 use label::Label;
-use label::Run;
+use label::Look;
+use label::look_between;
+use label::runs_between;
+use label::to_label;
 use order::sort_keys;
 use table::Partner;
 use table::Row;
@@ -114,32 +116,6 @@ fn to_answer(keys: &[u32], n: usize, domain: u32, level: u8) -> Renumbered
         number: 0,
         label: label,
     }
-}
-
-// The label with these ranges for its runs.
-fn to_label(keys: &[u32], n: usize, domain: u32, level: u8) -> Label
-    requires { ⌜ (n ≤ 120) × (n ≤ length (now keys)) ⌝ }
-    ensures { λ r. ⌜ r ≡ labelOf domain level (keyRuns (take n (now (keys .entry)))) ⌝ }
-{
-    let mut out = Label {
-        domain: domain,
-        level: level,
-        count: 0,
-        runs: [Run { low: 0, high: 0 }; 120],
-    };
-    let mut i: usize = 0;
-    while i < n {
-        let k = keys[i];
-        let low = k / 65536;
-        let high = k % 65536;
-        out.runs[i] = Run {
-            low: low as u16,
-            high: high as u16,
-        };
-        i += 1;
-        out.count = i;
-    }
-    out
 }
 
 // The numbers of the label's categories, as ranges in order that do not touch: the pieces that the rows cut, sorted, joined.
@@ -272,79 +248,13 @@ fn join_keys(s: &mut [u32], n: usize) -> usize
     w + 1
 }
 
-// Whether the level and the categories of the ranges lie between those of the two labels.
+// Whether the level and the categories of the ranges lie between those of the two labels: a first look, and a pass where it leaves the answer open.
 fn keys_between(keys: &[u32], n: usize, level: u8, lowest: Label, highest: Label) -> bool
-    requires { ⌜ n ≤ length (now keys) ⌝ }
-    ensures { λ r. ⌜ Between lowest highest level (keyRuns (take n (now (keys .entry)))) r ⌝ }
+    ensures { λ r. ⌜ r ≡ answered (lookOf lowest highest level (keyRuns (take n (now (keys .entry))))) (runsBetween lowest highest (keyRuns (take n (now (keys .entry))))) ⌝ }
 {
-    if level < lowest.level {
-        return false;
+    match look_between(keys, n, level, lowest, highest) {
+        Look::Within => true,
+        Look::Outside => false,
+        Look::Open => runs_between(keys, n, lowest, highest),
     }
-    if highest.level < level {
-        return false;
-    }
-    let low = lowest.count;
-    if Label::MAX_RUNS < low {
-        return false;
-    }
-    let high = highest.count;
-    if Label::MAX_RUNS < high {
-        return false;
-    }
-    let mut other = [0u32; 120];
-    label_keys(lowest, &mut other);
-    if !keys_within(&other, low, keys, n) {
-        return false;
-    }
-    label_keys(highest, &mut other);
-    keys_within(keys, n, &other, high)
-}
-
-// The label's runs as keys.
-fn label_keys(label: Label, keys: &mut [u32])
-    requires { ⌜ (label .count ≤ 120) × (120 ≤ length (now keys)) ⌝ }
-    ensures { λ _. ⌜ take (label .count) (now (keys .exit)) ≡ map runKey (used label) ⌝ }
-{
-    let n = label.count;
-    let mut i: usize = 0;
-    while i < n {
-        let run = label.runs[i];
-        keys[i] = run_key(run);
-        i += 1;
-    }
-}
-
-// A run as one key.
-fn run_key(run: Run) -> u32
-    ensures { λ r. ⌜ r ≡ runKey run ⌝ }
-{
-    (run.low as u32) * 65536 + (run.high as u32)
-}
-
-// Whether every category of the first ranges is one of the second, where both are spaced: one pass over both.
-fn keys_within(a: &[u32], n: usize, b: &[u32], m: usize) -> bool
-    requires { ⌜ (n ≤ length (now a)) × (m ≤ length (now b)) ⌝ }
-    ensures { λ r. ⌜ Within (keyRuns (take n (now (a .entry)))) (keyRuns (take m (now (b .entry)))) r ⌝ }
-{
-    let mut i: usize = 0;
-    let mut j: usize = 0;
-    while i < n {
-        if m <= j {
-            return false;
-        }
-        let x = a[i];
-        let y = b[j];
-        if y % 65536 < x / 65536 {
-            j += 1;
-        } else {
-            if x / 65536 < y / 65536 {
-                return false;
-            }
-            if y % 65536 < x % 65536 {
-                return false;
-            }
-            i += 1;
-        }
-    }
-    true
 }

@@ -1,19 +1,21 @@
 // The sample program (document 01, "The sample program"): records of an options area from standard input, each forwarded or dropped in one line.
-ghost use Prim.Native.Nat.{_≤_};
+ghost use Prim.Native.Nat.{_+_, _≤_};
+ghost use lib.ListN.{length};
+ghost use Rattle.lines.specs.Theorems.{Whole};
+ghost use Rattle.sample.specs.Sample.{areaLine};
 use gateway::forward;
 use label::Label;
 use label::Run;
+use lines::put_broken;
+use lines::put_drop;
+use lines::put_forward;
 use port::Port;
 use stream::Place;
 use stream::begin;
+use stream::feed;
 use stream::flush;
 use stream::go_on;
-use stream::hold;
-use stream::put_hex;
-use stream::put_next;
-use stream::put_octet;
-use stream::put_three;
-use stream::put_word;
+use stream::spare;
 use stream::stop;
 use table::Row;
 use table::Table;
@@ -22,6 +24,8 @@ use table::Table;
 const INPUT: usize = 65536;
 // How much of the output waits at a time.
 const OUTPUT: usize = 65536;
+// The most octets of a line (crate `lines`, `Longest`): there is room for so many before one is put.
+const LINE: usize = 110;
 
 // The label with the categories from 0 to the highest.
 fn up_to(domain: u32, level: u8, highest: u16) -> Label {
@@ -88,38 +92,7 @@ fn levels() -> [[u8; 2]; 16] {
     levels
 }
 
-// A forwarding's line: the count, and that many octets of the leaving area.
-fn put_forward(out: &mut [u8], n: usize, count: usize, area: &[u8]) -> usize {
-    let named = put_word(out, n, b"FORWARD");
-    let counted = put_next(out, named, count as u64);
-    let shown = put_first(out, counted, count, area);
-    put_octet(out, shown, b'\n')
-}
-
-// A blank, and the first `count` octets in hex; there are never fewer.
-fn put_first(out: &mut [u8], n: usize, count: usize, area: &[u8]) -> usize {
-    if area.len() < count {
-        return n;
-    }
-    let k = put_octet(out, n, b' ');
-    put_hex(out, k, &area[..count])
-}
-
-// A refusal's line: number, type, code and pointer.
-fn put_drop(out: &mut [u8], n: usize, number: u8, kind: u8, code: u8, pointer: u8) -> usize {
-    let named = put_word(out, n, b"DROP");
-    let numbered = put_next(out, named, number as u64);
-    let reported = put_three(out, numbered, kind, code, pointer);
-    put_octet(out, reported, b'\n')
-}
-
-// The line of a record that is cut short.
-fn put_broken(out: &mut [u8], n: usize) -> usize {
-    let named = put_word(out, n, b"BROKEN");
-    put_octet(out, named, b'\n')
-}
-
-// The line of one area.
+// The line of one area, behind the octets that wait.
 fn answer(
     arriving: Port,
     leaving: Port,
@@ -128,7 +101,10 @@ fn answer(
     area: &[u8],
     out: &mut [u8],
     n: usize,
-) -> usize {
+) -> usize
+    requires { ⌜ n + 110 ≤ length (now out) ⌝ }
+    ensures { λ r. ⌜ Whole (now (out .entry)) n (areaLine arriving leaving table levels (now (area .entry))) (now (out .exit)) r ⌝ }
+{
     let mut space = [0u8; 40];
     let d = forward(arriving, leaving, table, levels, false, area, &mut space);
     if d.number != 0 {
@@ -137,7 +113,38 @@ fn answer(
     put_forward(out, n, d.count, &space)
 }
 
-// One record: its line, or BROKEN where it is cut short; nothing where the input ends.
+// The line of a record of `size` octets in the window, or BROKEN where it is cut short. What waits is written where a line might not fit.
+fn answer_record(
+    arriving: Port,
+    leaving: Port,
+    table: Table,
+    levels: [[u8; 2]; 16],
+    input: &[u8],
+    out: &mut [u8],
+    place: Place,
+    size: usize,
+) -> Place
+    requires { ⌜ 110 ≤ length (now out) ⌝ }
+    requires { ⌜ (place .window .at ≤ place .window .end) × (place .window .end ≤ length (now input)) × (1 ≤ size) ⌝ }
+{
+    let ready = spare(out, place, LINE);
+    if !ready.more {
+        return ready;
+    }
+    let n = ready.waiting;
+    let whole = place.window;
+    let at = whole.at;
+    let end = whole.end;
+    if end - at < size {
+        return stop(put_broken(out, n));
+    }
+    let next = at + size;
+    let from = at + 1;
+    let waiting = answer(arriving, leaving, table, levels, &input[from..next], out, n);
+    go_on(next, end, waiting)
+}
+
+// One record; nothing where the input ends. What waits is written before the input is read, and a write that fails ends the program.
 fn turn(
     arriving: Port,
     leaving: Port,
@@ -146,23 +153,24 @@ fn turn(
     input: &mut [u8],
     out: &mut [u8],
     place: Place,
-) -> Place {
-    let n = place.waiting;
-    let led = hold(input, place.window, 1);
-    let first = led.at;
-    if led.end <= first {
-        return stop(n);
+) -> Place
+    requires { ⌜ 110 ≤ length (now out) ⌝ }
+{
+    let led = feed(input, out, place, 1);
+    if !led.more {
+        return led;
+    }
+    let begun = led.window;
+    let first = begun.at;
+    if begun.end <= first {
+        return stop(led.waiting);
     }
     let size = record_size(input[first]);
-    let whole = hold(input, led, size);
-    let at = whole.at;
-    if whole.end - at < size {
-        return stop(put_broken(out, n));
+    let fed = feed(input, out, led, size);
+    if !fed.more {
+        return fed;
     }
-    let next = at + size;
-    let from = at + 1;
-    let waiting = answer(arriving, leaving, table, levels, &input[from..next], out, n);
-    go_on(next, whole.end, waiting)
+    answer_record(arriving, leaving, table, levels, input, out, fed, size)
 }
 
 // How many octets a record has, with the one that leads it.
@@ -194,5 +202,5 @@ fn main() {
         );
         turns -= 1;
     }
-    flush(&mut out, place.waiting);
+    flush(&out, place);
 }

@@ -1,7 +1,9 @@
 // Input: a buffer of which a window holds the octets that were read and are not yet used.
 ghost use mathlib.Core.Path.{_≡_};
+ghost use mathlib.Core.List.{_++_};
 ghost use Prim.Native.Nat.{_+_, _-_, _≤_};
-ghost use lib.ListN.{length};
+ghost use lib.ListN.{length, take, drop};
+ghost use Rattle.stream.specs.Input.{lying, Holds};
 use libc::STDIN_FILENO;
 
 // The unused octets of a buffer: from `at` up to `end`, where the next ones go.
@@ -13,28 +15,38 @@ pub struct Window {
 // The window once it holds n octets, or all that the input still has: what is held goes to the front, and the rest of the buffer is read into.
 // A window that does not lie in the buffer counts as empty.
 pub fn hold(input: &mut [u8], window: Window, n: usize) -> Window
-    ensures { λ r. ⌜ (r .at ≤ r .end) × (r .end ≤ length (now (input .exit))) ⌝ }
+    ensures { λ r. ⌜ Holds (now (input .entry)) window n (now (input .exit)) r ⌝ }
 {
-    let at = window.at;
-    let end = window.end;
-    if input.len() < end {
-        return Window { at: 0, end: 0 };
-    }
-    if end < at {
-        return Window { at: 0, end: 0 };
-    }
+    let w = lie(input.len(), window);
+    let at = w.at;
+    let end = w.end;
     if n <= end - at {
-        return Window { at: at, end: end };
+        return w;
     }
     move_down(input, at, end);
-    let held = read_until(input, end - at, n);
-    Window { at: 0, end: held }
+    let last = read_until(input, end - at, n);
+    Window { at: 0, end: last }
+}
+
+// The window; an empty one where it does not lie in a buffer of `room` octets.
+pub fn lie(room: usize, window: Window) -> Window
+    ensures { λ r. ⌜ r ≡ lying room window ⌝ }
+    ensures { λ r. ⌜ (r .at ≤ r .end) × (r .end ≤ room) ⌝ }
+{
+    if window.end < window.at {
+        return Window { at: 0, end: 0 };
+    }
+    if room < window.end {
+        return Window { at: 0, end: 0 };
+    }
+    window
 }
 
 // Moves the octets from `at` up to `end` to the front.
 fn move_down(input: &mut [u8], at: usize, end: usize)
     requires { ⌜ at ≤ end ⌝ }
     requires { ⌜ end ≤ length (now input) ⌝ }
+    ensures { λ _. ⌜ now (input .exit) ≡ take (end - at) (drop at (now (input .entry))) ++ drop (end - at) (now (input .entry)) ⌝ }
     ensures { λ _. ⌜ length (now (input .exit)) ≡ length (now (input .entry)) ⌝ }
 {
     let mut to: usize = 0;
@@ -49,7 +61,8 @@ fn move_down(input: &mut [u8], at: usize, end: usize)
 // Reads on from `held` until n octets are there, the input ends or the buffer is full, and answers how many are there.
 fn read_until(input: &mut [u8], held: usize, n: usize) -> usize
     requires { ⌜ held ≤ length (now input) ⌝ }
-    ensures { λ r. ⌜ r ≤ length (now (input .exit)) ⌝ }
+    ensures { λ r. ⌜ (held ≤ r) × (r ≤ length (now (input .exit))) ⌝ }
+    ensures { λ _. ⌜ (length (now (input .exit)) ≡ length (now (input .entry))) × (take held (now (input .exit)) ≡ take held (now (input .entry))) ⌝ }
 {
     let mut end = held;
     while end < n {
@@ -62,10 +75,11 @@ fn read_until(input: &mut [u8], held: usize, n: usize) -> usize
     end
 }
 
-// One read into the buffer from `end` on: how many octets came, 0 at the end of the input.
+// One read into the buffer from `end` on: how many octets came, 0 at the end of the input. The octets before `end` stay.
 fn read_once(input: &mut [u8], end: usize) -> usize
     requires { ⌜ end ≤ length (now input) ⌝ }
     ensures { λ r. ⌜ (end + r ≤ length (now (input .exit))) × (length (now (input .exit)) ≡ length (now (input .entry))) ⌝ }
+    ensures { λ _. ⌜ take end (now (input .exit)) ≡ take end (now (input .entry)) ⌝ }
 {
     let got = libc::read(STDIN_FILENO, &mut input[end..]);
     io::count(got, &input[end..])

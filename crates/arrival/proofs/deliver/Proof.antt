@@ -8,6 +8,7 @@ use mathlib.Core.Option.{Option, none, some}
 use Prim.Native.Nat.{ℕ, _≤_}
 use lib.ListN.{length}
 use Rattle.label.specs.Label.{inRange}
+use Rattle.label.proofs.Range.{compared-in-range}
 use Rattle.port.specs.Port.{portSound, hostSound}
 use Rattle.port.proofs.Laws.{host-range}
 use Rattle.arrival.specs.declared.Decision.{Decision}
@@ -143,7 +144,7 @@ tested c =
     let l : e4 .before .before .arrive .result .label ≡ arrivingLabel (s .args .port) (s .args .area .now) = ap (λ (d : Decision). d .label) (q .1) in
     let h = arrival-held (s .args .port) (s .args .area .now) 10 (ported e) (q .0) in
     let r = host-range (s .args .host) (s .args .port .domain) (hosted e3) in
-    c .between .ensures .between (rw l (h .formed)) (r .low-formed) (r .high-formed) ∙ rw l
+    c .between .ensures ∙ compared-in-range (s .args .host .lowest) (s .args .host .highest) _ (r .low-formed) (r .high-formed) (rw l (h .formed)) ∙ rw l
 
 refuse-requires-4 : tie.Need-refuse-requires-4
 refuse-requires-4 c κs = search needs

@@ -8,6 +8,7 @@ use mathlib.Core.Option.{Option}
 use Prim.Native.Nat.{ℕ, _+_, _-_, _≤_, _<_}
 use lib.ListN.{length, getD, take, drop}
 use Rattle.label.specs.Label.{wellFormed, inRange}
+use Rattle.label.proofs.Range.{compared-in-range}
 use Rattle.port.specs.Port.{portSound}
 use Rattle.port.proofs.Laws.{sound}
 use Rattle.area.specs.declared.Place.the-variants.{At}
@@ -86,9 +87,9 @@ tested c sp =
     let s = k .before .before in
     let p = sound (s .args .port) sp .range in
     let octet : (i : ℕ) → getD (s .args .area .now) i 0 < 256 = λ i. omega (arith, k .shared-slice-known2 .given i) in
-    c .between .ensures .between
+    c .between .ensures
+    ∙ compared-in-range (s .args .port .lowest) (s .args .port .highest) (r .read-option-of .result .label) (p .low-formed) (p .high-formed)
     (read-formed (s .args .port) (s .args .area .now) (s .args .at) (s .args .code) (r .read-option-of .result) (r .read-option-of .ensures) (s .pre .1) (octets-part (getD (s .args .area .now) (s .args .at + 1) 0) (s .args .at) (s .args .area .now) octet) sp (e .if1 .left))
-    (p .low-formed) (p .high-formed)
 
 refuse-requires-2 : tie.Need-refuse-requires-2
 refuse-requires-2 c κs = search needs

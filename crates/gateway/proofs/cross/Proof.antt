@@ -6,6 +6,7 @@ use mathlib.Core.Bool.{Bool, true, false, _||_, true≢false}
 use mathlib.Core.Option.{Option}
 use Rattle.label.specs.declared.Label.{Label}
 use Rattle.label.specs.Label.{inRange}
+use Rattle.label.proofs.Range.{compared-in-range}
 use Rattle.port.specs.Port.{portSound}
 use Rattle.port.proofs.Laws.{sound}
 use Rattle.table.specs.Table.{tableSound}
@@ -37,7 +38,8 @@ tested : (c : tie.After-between) →
 tested c =
     let s = c .before .before .before .before .before in
     let r = sound (s .args .leaving) (s .pre .1 .1 .0) .range in
-    c .between .ensures .between (s .pre .0) (r .low-formed) (r .high-formed)
+    c .between .ensures
+    ∙ compared-in-range (s .args .leaving .lowest) (s .args .leaving .highest) (s .args .label) (r .low-formed) (r .high-formed) (s .pre .0)
 
 returns : tie.Need-returns
 returns c =

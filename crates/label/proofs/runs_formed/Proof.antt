@@ -1,9 +1,10 @@
--- `label::runs_formed` meets its contract. The first loop's invariant: all places sum to the sum so far and what is left.
--- The second's: the same of its own sum, and the used runs are spaced exactly when all was good so far and what is left is spaced from the floor.
+-- `label::runs_formed` meets its contract. The first loop's invariant: the used runs are spaced exactly when all was good so far and what is left rises from the floor.
+-- The second's: this is settled, and all past the count is zero exactly when the OR so far is and what is left of the array is.
 -- Assumes nothing.
+use borrow.Author.Needs.{needs}
 use native.Mathlib.Omega.{arith}
-use Prim.Native.Nat.{_≤_, _-_, _+_, _*_, _<_}
-use mathlib.Core.Path.{_≡_, refl, sym, _∙_, ap}
+use Prim.Native.Nat.{_≤_, _-_, _+_}
+use mathlib.Core.Path.{_≡_, sym, _∙_, ap}
 use mathlib.Core.Bool.{_&&_, and-true}
 use mathlib.Core.List.{[], _∷_}
 use lib.Dec.{eqb, leb}
@@ -11,42 +12,49 @@ use lib.ListN.{drop, getD, length, length-map, drop-of-length-le}
 use Rattle.label.specs.Runs.{spaced, unused}
 use Rattle.label.specs.Label.{used, noRun}
 use Rattle.label.proofs.Bools.{and-chain}
-use Rattle.label.proofs.Steps.{next-used, used-up}
-use Rattle.label.proofs.Places.{placeSum, sum-step, rest-sum}
+use Rattle.label.proofs.Steps.{next, next-used, used-up}
+use Rattle.label.proofs.Places.{or-step, rises, rises-spaced}
 use Rattle.label.proofs.runs_formed.Statement.{statement}
 use Rattle.label.proofs.runs_formed.Tie as tie
 
 abbrev Inv-loop : tie.InvT-loop
-Inv-loop label n all₀ j₀ all j = (j ≤ 120) × (all ≤ 131070 * j) × (placeSum (label .runs) ≡ all + placeSum (drop j (label .runs)))
+Inv-loop label n good₀ floor₀ i₀ good floor i = (i ≤ n) × (spaced 0 (used label) ≡ (good && rises floor (drop i (used label))))
 
 abbrev μ-loop : tie.MeasureT-loop
-μ-loop label n all₀ j₀ all j = 120 - j
+μ-loop label n good₀ floor₀ i₀ good floor i = n - i
 
 abbrev Inv-loop2 : tie.InvT-loop2
-Inv-loop2 label n all j good₀ sum₀ floor₀ i₀ good sum floor i =
-    (i ≤ n)
-    × (sum ≤ 131070 * i)
-    × (placeSum (label .runs) ≡ all)
-    × (placeSum (label .runs) ≡ sum + placeSum (drop i (label .runs)))
-    × (spaced 0 (used label) ≡ (good && spaced floor (drop i (used label))))
+Inv-loop2 label n good floor i₀ rest₀ i rest =
+    (i ≤ 120)
+    × (spaced 0 (used label) ≡ (good && leb floor 65536))
+    × (unused (drop (label .count) (label .runs)) ≡ (eqb rest 0 && unused (drop i (label .runs))))
 
 abbrev μ-loop2 : tie.MeasureT-loop2
-μ-loop2 label n all j good₀ sum₀ floor₀ i₀ good sum floor i = n - i
+μ-loop2 label n good floor i₀ rest₀ i rest = 120 - i
 
 sized : (c : tie.Start Inv-loop μ-loop Inv-loop2 μ-loop2) → length (c .args .t1 .runs) ≡ 120
 sized c = simp length-map at (c .good .0 .1 .1 .1 .1 .1 .0 .1 .0 .1)
 
--- the used run that a turn of the second loop reads
-seen-used : (c : tie.In-loop2 Inv-loop μ-loop Inv-loop2 μ-loop2) →
-    let l = c .before .before .before .before .args .t1 in
-    let i = c .before .loop2 .i in
+-- the used run that a turn of the first loop reads
+seen-used : (c : tie.In-loop Inv-loop μ-loop Inv-loop2 μ-loop2) →
+    let l = c .before .before .args .t1 in
+    let i = c .before .loop .i in
     drop i (used l) ≡ getD (l .runs) i noRun ∷ drop (i + 1) (used l)
 seen-used c =
+    let s = c .before .before in
+    next-used noRun (s .args .t1 .runs) (s .args .t1 .count) (c .before .loop .i) (c .loop-test .taken) (omega (arith, sized s))
+
+-- the place that a turn of the second loop reads
+seen : (c : tie.In-loop2 Inv-loop μ-loop Inv-loop2 μ-loop2) →
+    let l = c .before .before .before .before .args .t1 in
+    let i = c .before .loop2 .i in
+    drop i (l .runs) ≡ getD (l .runs) i noRun ∷ drop (i + 1) (l .runs)
+seen c =
     let s = c .before .before .before .before in
-    next-used noRun (s .args .t1 .runs) (s .args .t1 .count) (c .before .loop2 .i) (c .loop2-test .taken) (omega (arith, sized s))
+    next noRun (s .args .t1 .runs) (c .before .loop2 .i) (omega (arith, sized s))
 
 loop-holds : tie.Need-loop-holds Inv-loop μ-loop Inv-loop2 μ-loop2
-loop-holds c = (omega arith, omega arith, omega arith)
+loop-holds c = (omega arith, rises-spaced 0 (used (c .args .t1)) (omega arith))
 
 mul-run : tie.Need-mul-run Inv-loop μ-loop Inv-loop2 μ-loop2
 mul-run c = omega arith
@@ -60,14 +68,11 @@ cast-low c = omega arith
 cast-high : tie.Need-cast-high Inv-loop μ-loop Inv-loop2 μ-loop2
 cast-high c = omega arith
 
-add-all : tie.Need-add-all Inv-loop μ-loop Inv-loop2 μ-loop2
-add-all c = omega arith
+add-floor : tie.Need-add-floor Inv-loop μ-loop Inv-loop2 μ-loop2
+add-floor c = omega arith
 
-add-all-2 : tie.Need-add-all-2 Inv-loop μ-loop Inv-loop2 μ-loop2
-add-all-2 c = omega arith
-
-add-j : tie.Need-add-j Inv-loop μ-loop Inv-loop2 μ-loop2
-add-j c = omega arith
+add-i : tie.Need-add-i Inv-loop μ-loop Inv-loop2 μ-loop2
+add-i c = omega arith
 
 loop-less : tie.Need-loop-less Inv-loop μ-loop Inv-loop2 μ-loop2
 loop-less c = omega arith
@@ -75,19 +80,25 @@ loop-less c = omega arith
 loop-again : tie.Need-loop-again Inv-loop μ-loop Inv-loop2 μ-loop2
 loop-again c =
     let d = c .before .before .before in
-    let s = d .before .before in (
+    let l = d .before .before .args .t1 in
+    let i = d .before .loop .i in
+    let floor = d .before .loop .floor in
+    let r = getD (l .runs) i noRun in (
       omega arith,
-      omega arith,
-      sum-step (s .args .t1 .runs) (d .before .loop .all) (d .before .loop .j) (omega (arith, sized s)) (d .before .loop .inv .2),
+      d .before .loop .inv .1
+          ∙ rw (seen-used d)
+          (and-chain (d .before .loop .good) (leb floor (r .low)) (leb (r .low) (r .high)) (rises (r .high + 2) (drop (i + 1) (used l)))),
     )
 
 loop2-holds : tie.Need-loop2-holds Inv-loop μ-loop Inv-loop2 μ-loop2
 loop2-holds c =
-    let rs = c .before .before .args .t1 .runs in
-    let j = c .before .loop .j in
-    let e : drop j rs ≡ [] = drop-of-length-le rs {i = j} (omega (arith, sized (c .before .before))) in
-    let z : placeSum (drop j rs) ≡ 0 = rw e refl in
-    (omega arith, omega arith, omega arith, omega arith, refl)
+    let l = c .before .before .args .t1 in
+    let i = c .before .loop .i in
+    let n : i ≡ l .count = omega arith in (
+      omega arith,
+      c .before .loop .inv .1 ∙ rw (used-up (l .runs) (l .count) i (c .loop-test .left)),
+      ap (λ x. unused (drop x (l .runs))) (sym n),
+    )
 
 mul-run-2 : tie.Need-mul-run-2 Inv-loop μ-loop Inv-loop2 μ-loop2
 mul-run-2 c = omega arith
@@ -95,58 +106,33 @@ mul-run-2 c = omega arith
 element-copy-out-run-2 : tie.Need-element-copy-out-run-2 Inv-loop μ-loop Inv-loop2 μ-loop2
 element-copy-out-run-2 c = omega arith
 
-cast-low-2 : tie.Need-cast-low-2 Inv-loop μ-loop Inv-loop2 μ-loop2
-cast-low-2 c = omega arith
+word-requires : tie.Need-word-requires Inv-loop μ-loop Inv-loop2 μ-loop2
+word-requires c κs = search needs
 
-cast-high-2 : tie.Need-cast-high-2 Inv-loop μ-loop Inv-loop2 μ-loop2
-cast-high-2 c = omega arith
-
-add-floor : tie.Need-add-floor Inv-loop μ-loop Inv-loop2 μ-loop2
-add-floor c = omega arith
-
-add-sum : tie.Need-add-sum Inv-loop μ-loop Inv-loop2 μ-loop2
-add-sum c = omega arith
-
-add-sum-2 : tie.Need-add-sum-2 Inv-loop μ-loop Inv-loop2 μ-loop2
-add-sum-2 c = omega arith
-
-add-i : tie.Need-add-i Inv-loop μ-loop Inv-loop2 μ-loop2
-add-i c = omega arith
+add-i-2 : tie.Need-add-i-2 Inv-loop μ-loop Inv-loop2 μ-loop2
+add-i-2 c = omega arith
 
 loop2-less : tie.Need-loop2-less Inv-loop μ-loop Inv-loop2 μ-loop2
 loop2-less c = omega arith
 
 loop2-again : tie.Need-loop2-again Inv-loop μ-loop Inv-loop2 μ-loop2
 loop2-again c =
-    let d = c .before .before .before in
-    let s = d .before .before .before .before in
-    let l = s .args .t1 in
+    let d = c .before .before in
+    let l = d .before .before .before .before .args .t1 in
     let i = d .before .loop2 .i in
-    let floor = d .before .loop2 .floor in
     let r = getD (l .runs) i noRun in (
       omega arith,
-      omega arith,
-      d .before .loop2 .inv .2,
-      sum-step (l .runs) (d .before .loop2 .sum) i (omega (arith, sized s)) (d .before .loop2 .inv .3),
-      d .before .loop2 .inv .4
-          ∙ rw (seen-used d)
-          (and-chain (d .before .loop2 .good) (leb floor (r .low)) (leb (r .low) (r .high)) (leb (r .high) 65534) (spaced (r .high + 2) (drop (i + 1) (used l)))),
+      d .before .loop2 .inv .1,
+      d .before .loop2 .inv .2
+          ∙ rw (seen d, c .word .ensures) (or-step (d .before .loop2 .rest) (r .low) (r .high) (unused (drop (i + 1) (l .runs)))),
     )
 
 returns : tie.Need-returns Inv-loop μ-loop Inv-loop2 μ-loop2
 returns c =
     let l = c .before .before .before .before .args .t1 in
-    let all = c .before .before .before .loop .all in
-    let good = c .before .loop2 .good in
-    let sum = c .before .loop2 .sum in
     let i = c .before .loop2 .i in
-    let n : i ≡ l .count = omega arith in
-    let s : spaced 0 (used l) ≡ good = c .before .loop2 .inv .4 ∙ rw (used-up (l .runs) (l .count) i (c .loop2-test .left)) (and-true good) in
-    let u : eqb all sum ≡ unused (drop (l .count) (l .runs)) =
-    ap (λ x. eqb x sum) (sym (c .before .loop2 .inv .2) ∙ c .before .loop2 .inv .3)
-    ∙ rest-sum sum (drop i (l .runs))
-    ∙ ap (λ x. unused (drop x (l .runs))) n in
-    rw (s, u)
+    let none : drop i (l .runs) ≡ [] = drop-of-length-le (l .runs) {i = i} (omega (arith, sized (c .before .before .before .before))) in
+    sym (rw (c .before .loop2 .inv .1, c .before .loop2 .inv .2, none, and-true (eqb (c .before .loop2 .rest) 0)))
 
 pub runs-formed-spec : {M : Type 1} → statement M
 runs-formed-spec =
@@ -161,20 +147,15 @@ runs-formed-spec =
     element-copy-out-run
     cast-low
     cast-high
-    add-all
-    add-all-2
-    add-j
+    add-floor
+    add-i
     loop-less
     loop-again
     loop2-holds
     mul-run-2
     element-copy-out-run-2
-    cast-low-2
-    cast-high-2
-    add-floor
-    add-sum
-    add-sum-2
-    add-i
+    word-requires
+    add-i-2
     loop2-less
     loop2-again
     returns)

@@ -1,30 +1,22 @@
--- `label::runs_within` meets its contract. The loop's invariant: what is left of the two lists decides whether the first lies in the second.
--- The measure is what is left of both. Assumes nothing.
-use borrow.Author.Needs.{needs}
+-- `label::runs_within` meets its contract. The loop's invariant: what is left of the two lists passes exactly when the whole lists do.
+-- The measure is the turns that are left, at most as many as both lists have runs. Assumes nothing.
 use native.Mathlib.Omega.{arith}
-use Prim.Native.Nat.{_≤_, _-_, _+_, _<_}
-use mathlib.Core.Path.{_≡_, refl, sym, _∙_}
-use mathlib.Core.Bool.{true, false}
-use mathlib.Core.List.{List, _∷_}
+use Prim.Native.Nat.{_≤_, _+_}
+use mathlib.Core.Path.{_≡_, refl, sym}
+use mathlib.Core.List.{_∷_}
+use Rattle.label.specs.Runs.{rounds}
 use lib.ListN.{drop, getD, length, length-map}
-use Rattle.label.specs.declared.Run.{Run}
-use Rattle.label.specs.Runs.{spaced, subset}
-use Rattle.label.proofs.Runs.{Sub, Left, start, pass-over, pass-in, stops-before, stops-past, stops-none, sub-nil, sub-subset, not-subset}
 use Rattle.label.specs.Label.{used, noRun}
 use Rattle.label.proofs.Steps.{next-used, used-up}
+use Rattle.label.proofs.Pass.{Stands, stands-none, stands-done, stands-over, stands-in, stands-before, stands-past, fewer-over, fewer-in}
 use Rattle.label.proofs.runs_within.Statement.{statement}
 use Rattle.label.proofs.runs_within.Tie as tie
 
--- both lists are spaced
-abbrev Spaced : List Run → List Run → Type 0
-Spaced xs ys = (spaced 0 xs ≡ true) × (spaced 0 ys ≡ true)
-
 abbrev Inv-loop : tie.InvT-loop
-Inv-loop a b n m i₀ j₀ i j =
-    (i ≤ n) × (j ≤ m) × (Spaced (used a) (used b) → Left (used a) (used b) (drop i (used a)) (drop j (used b)))
+Inv-loop a b n m i₀ j₀ i j = (i ≤ n) × (j ≤ m) × Stands (used a) (used b) (drop i (used a)) (drop j (used b))
 
 abbrev μ-loop : tie.MeasureT-loop
-μ-loop a b n m i₀ j₀ i j = (n - i) + (m - j)
+μ-loop a b n m i₀ j₀ i j = rounds (drop i (used a)) (drop j (used b))
 
 sized-a : (c : tie.Start Inv-loop μ-loop) → c .args .t1 .count ≤ length (c .args .t1 .runs)
 sized-a c =
@@ -58,21 +50,16 @@ standing : (c : tie.Else1 Inv-loop μ-loop) →
     let b = c .before .before .before .args .t2 in
     let i = c .before .before .loop .i in
     let j = c .before .before .loop .j in
-    Spaced (used a) (used b)
-    → Left (used a) (used b) (getD (a .runs) i noRun ∷ drop (i + 1) (used a)) (getD (b .runs) j noRun ∷ drop (j + 1) (used b))
-standing c s = rw (run-a (c .before), run-b c) at (c .before .before .loop .inv .2 s)
-
-refuses : (xs ys : List Run) → Spaced xs ys → (Sub xs ys → ⊥) → false ≡ subset xs ys
-refuses xs ys s h = sym (not-subset 0 xs ys (s .0) h)
+    Stands (used a) (used b) (getD (a .runs) i noRun ∷ drop (i + 1) (used a)) (getD (b .runs) j noRun ∷ drop (j + 1) (used b))
+standing c = rw (run-a (c .before), run-b c) at (c .before .before .loop .inv .2)
 
 loop-holds : tie.Need-loop-holds Inv-loop μ-loop
-loop-holds c = (omega arith, omega arith, λ s. start (used (c .args .t1)) (used (c .args .t2)) (s .0) (s .1))
+loop-holds c = (omega arith, omega arith, record { same = refl })
 
 returns : tie.Need-returns Inv-loop μ-loop
-returns c d e =
+returns c =
     let b = c .before .before .before .args .t2 in
-    let h = rw (run-a (c .before), used-up (b .runs) (b .count) (c .before .before .loop .j) (c .if1 .taken)) at (c .before .before .loop .inv .2 (d, e)) in
-    refuses _ _ (d, e) (stops-none h)
+    sym (stands-none (rw (run-a (c .before), used-up (b .runs) (b .count) (c .before .before .loop .j) (c .if1 .taken)) at (c .before .before .loop .inv .2)))
 
 mul-run : tie.Need-mul-run Inv-loop μ-loop
 mul-run c = omega arith
@@ -90,42 +77,49 @@ add-j : tie.Need-add-j Inv-loop μ-loop
 add-j c = omega arith
 
 loop-less : tie.Need-loop-less Inv-loop μ-loop
-loop-less c = omega arith
+loop-less c =
+    let e = c .before .before .before .before .before in
+    fewer-over (run-a (e .before)) (run-b e) (c .if2 .taken)
 
 loop-again : tie.Need-loop-again Inv-loop μ-loop
 loop-again c =
     let e = c .before .before .before .before .before in
-    (omega arith, omega arith, λ s. rw (run-a (e .before)) (pass-over (standing e s) (c .if2 .taken)))
+    (omega arith, omega arith, rw (run-a (e .before)) (stands-over (standing e) (c .if2 .taken)))
 
 returns-2 : tie.Need-returns-2 Inv-loop μ-loop
-returns-2 c d f =
-    let e = c .before .before .before .before .before .before .before .before in
-    refuses _ _ (d, f) (stops-before (standing e (d, f)) (c .if3 .taken))
+returns-2 c =
+    let e2 = c .before .before .before in
+    let e = e2 .before .before .before .before .before in
+    sym (stands-before (standing e) (e2 .if2 .left) (c .if3 .taken))
 
 returns-3 : tie.Need-returns-3 Inv-loop μ-loop
-returns-3 c d f =
-    let e2 = c .before .before .before .before .before .before in
+returns-3 c =
+    let e3 = c .before .before .before in
+    let e2 = e3 .before .before .before in
     let e = e2 .before .before .before .before .before in
-    refuses _ _ (d, f) (stops-past (standing e (d, f)) (e2 .if2 .left) (c .if4 .taken))
+    sym (stands-past (standing e) (e2 .if2 .left) (e3 .if3 .left) (c .if4 .taken))
 
 add-i : tie.Need-add-i Inv-loop μ-loop
 add-i c = omega arith
 
 loop-less-2 : tie.Need-loop-less-2 Inv-loop μ-loop
-loop-less-2 c = omega arith
+loop-less-2 c =
+    let e3 = c .before .before .before in
+    let e2 = e3 .before .before .before in
+    let e = e2 .before .before .before .before .before in
+    fewer-in (run-a (e .before)) (run-b e) (e2 .if2 .left) (e3 .if3 .left) (c .if4 .left)
 
 loop-again-2 : tie.Need-loop-again-2 Inv-loop μ-loop
 loop-again-2 c =
     let e3 = c .before .before .before in
-    let e = e3 .before .before .before .before .before .before .before .before in
-    (omega arith, omega arith, λ s. rw (run-b e) (pass-in (standing e s) (e3 .if3 .left) (c .if4 .left)))
+    let e2 = e3 .before .before .before in
+    let e = e2 .before .before .before .before .before in
+    (omega arith, omega arith, rw (run-b e) (stands-in (standing e) (e2 .if2 .left) (e3 .if3 .left) (c .if4 .left)))
 
 returns-4 : tie.Need-returns-4 Inv-loop μ-loop
-returns-4 c d f =
+returns-4 c =
     let a = c .before .before .args .t1 in
-    let b = c .before .before .args .t2 in
-    let h = rw (used-up (a .runs) (a .count) (c .before .loop .i) (c .loop-test .left)) at (c .before .loop .inv .2 (d, f)) in
-    sym (sub-subset (used a) (used b) (h .back (sub-nil (drop (c .before .loop .j) (used b)))))
+    sym (stands-done (rw (used-up (a .runs) (a .count) (c .before .loop .i) (c .loop-test .left)) at (c .before .loop .inv .2)))
 
 pub runs-within-spec : {M : Type 1} → statement M
 runs-within-spec =

@@ -4,6 +4,7 @@ use borrow.Author.Tests.{not-true, not-false}
 use mathlib.Core.Path.{_≡_, sym, _∙_}
 use mathlib.Core.Bool.{true, false}
 use Rattle.label.specs.Label.{wellFormed, atMost}
+use Rattle.label.proofs.Labels.{compared-at-most}
 use Rattle.port.proofs.Laws.{assigned-ill, assigned-is}
 use Rattle.port.proofs.assigned_within.Statement.{statement}
 use Rattle.port.proofs.assigned_within.Tie as tie
@@ -27,7 +28,7 @@ returns-2 c =
     let e = c .before .before in
     let s = e .before .before in
     let a = s .args in
-    let out : atMost (a .lowest) (a .assigned) ≡ false = sym (c .before .at-most .ensures .compares (s .pre .0) (formed e)) ∙ not-true _ (c .if2 .taken) in
+    let out : atMost (a .lowest) (a .assigned) ≡ false = sym (c .before .at-most .ensures ∙ compared-at-most (a .lowest) (a .assigned) (s .pre .0) (formed e)) ∙ not-true _ (c .if2 .taken) in
     simp out at (assigned-is (a .lowest) (a .highest) (a .assigned) (s .pre .0) (s .pre .1) (formed e))
 
 at-most-requires-2 : tie.Need-at-most-requires-2
@@ -39,8 +40,9 @@ returns-3 c =
     let e = e2 .before .before in
     let s = e .before .before in
     let a = s .args in
-    let low : atMost (a .lowest) (a .assigned) ≡ true = sym (e2 .before .at-most .ensures .compares (s .pre .0) (formed e)) ∙ not-false _ (e2 .if2 .left) in
-    c .at-most2 .ensures .compares (formed e) (s .pre .1)
+    let low : atMost (a .lowest) (a .assigned) ≡ true = sym (e2 .before .at-most .ensures ∙ compared-at-most (a .lowest) (a .assigned) (s .pre .0) (formed e)) ∙ not-false _ (e2 .if2 .left) in
+    c .at-most2 .ensures
+    ∙ compared-at-most (a .assigned) (a .highest) (formed e) (s .pre .1)
     ∙ simp low at (assigned-is (a .lowest) (a .highest) (a .assigned) (s .pre .0) (s .pre .1) (formed e))
 
 pub assigned-within-spec : {M : Type 1} → statement M

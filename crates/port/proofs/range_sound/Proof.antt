@@ -3,6 +3,7 @@ use borrow.Author.Needs.{needs}
 use borrow.Author.Tests.{not-true, not-false, ne-eqb}
 use mathlib.Core.Path.{sym, _∙_}
 use mathlib.Core.Bool.{and-false}
+use Rattle.label.proofs.Labels.{compared-at-most}
 use Rattle.port.specs.Port.{rangeSound}
 use Rattle.port.proofs.Laws.{range-at-most, range-ill-low, range-ill-high}
 use Rattle.port.proofs.range_sound.Statement.{statement}
@@ -44,7 +45,8 @@ returns-5 c =
     let a = e1 .before .before .args in
     let low = sym (e3 .before .well-formed .ensures) ∙ not-false _ (e3 .if3 .left) in
     let high = sym (e4 .before .well-formed2 .ensures) ∙ not-false _ (e4 .if4 .left) in
-    c .at-most .ensures .compares low high
+    c .at-most .ensures
+    ∙ compared-at-most (a .lowest) (a .highest) low high
     ∙ range-at-most (a .lowest) (a .highest) (a .domain) (e1 .if1 .left) (e2 .if2 .left) low high
 
 pub range-sound-spec : {M : Type 1} → statement M

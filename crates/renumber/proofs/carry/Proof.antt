@@ -9,12 +9,14 @@ use mathlib.Core.List.{List}
 use Rattle.label.specs.declared.Label.{Label}
 use Rattle.label.specs.Label.{used, wellFormed}
 use Rattle.label.specs.Runs.{spaced}
+use Rattle.label.specs.Range.{setInRange}
 use Rattle.label.proofs.Labels.{formed}
+use Rattle.label.proofs.Range.{look-right}
 use Rattle.table.specs.declared.Table.{Table}
 use Rattle.table.specs.Table.{usedRows, tableSound}
 use Rattle.table.specs.Numbers.{inImage}
 use Rattle.table.proofs.Sound.{sound}
-use Rattle.renumber.specs.Renumber.{imageRuns, fitted, setInRange}
+use Rattle.renumber.specs.Renumber.{imageRuns, fitted}
 use Rattle.renumber.specs.Keys.{Ready}
 use Rattle.renumber.proofs.Sets.{set-spaced}
 use Rattle.renumber.proofs.Answers.{carried-missing, carried-none, carried-outside, carried-fitted}
@@ -107,7 +109,7 @@ held c w s v u =
     let a = k .before .before .before .before .before .before .before .before .args in
     let i = q .image-keys .ensures .image (ready (a .label) (a .table) (a .levels) w s) (not-false _ (e3 .if3 .left)) in
     let g = ap (spaced 0) i ∙ set-spaced (inImage (usedRows (a .table)) (used (a .label))) in
-    c .keys-between .ensures .between v u g ∙ ap (setInRange (a .lowest) (a .highest) (k .before .partner .given .0 .0)) i
+    c .keys-between .ensures ∙ look-right (a .lowest) (a .highest) (k .before .partner .given .0 .0) v u _ g ∙ ap (setInRange (a .lowest) (a .highest) (k .before .partner .given .0 .0)) i
 
 refused-requires-5 : tie.Need-refused-requires-5
 refused-requires-5 c κs = search needs

@@ -4,7 +4,7 @@ use borrow.Author.Tests.{not-true, not-false}
 use mathlib.Core.Path.{_≡_, sym, _∙_}
 use mathlib.Core.Bool.{true}
 use Rattle.label.specs.Label.{wellFormed, leq}
-use Rattle.label.proofs.Labels.{leq-at-most}
+use Rattle.label.proofs.Labels.{leq-at-most, compared-at-most}
 use Rattle.label.proofs.Label.within.Statement.{statement}
 use Rattle.label.proofs.Label.within.Tie as tie
 
@@ -39,7 +39,7 @@ returns-3 : tie.Need-returns-3
 returns-3 c =
     let a = lower (c .before) in
     let b = upper (c .before) in
-    c .at-most .ensures .compares a b ∙ sym (leq-at-most _ _ a b)
+    c .at-most .ensures ∙ compared-at-most _ _ a b ∙ sym (leq-at-most _ _ a b)
 
 pub within-spec : {M : Type 1} → statement M
 within-spec =

@@ -1,0 +1,181 @@
+-- Every 12/0 report points into the area.
+use mathlib.Core.Path.{_≡_, refl, _∙_}
+use mathlib.Core.Bool.{Bool, true, false, cond, not, _&&_, _||_}
+use mathlib.Core.List.{List, [], _∷_}
+use mathlib.Core.Logic.{⊎-elim}
+use mathlib.Core.Option.{Option, none, some}
+use Prim.Native.Nat.{ℕ, _+_, _-_, _≤_, _<_}
+use native.Mathlib.Omega.{arith}
+use lib.Dec.{ltb, eqb}
+use lib.ListN.{length, length-take, length-drop}
+use borrow.Author.Tests.{ltb-true}
+use Rattle.label.specs.declared.Label.{Label}
+use Rattle.label.specs.Label.{inRange}
+use Rattle.label.proofs.Bools.{less-or}
+use Rattle.option.specs.Option.{domainOf, tagOf}
+use Rattle.reading.specs.Reading.{Check, check, refusal, categoriesIn, badPlace, tagChecks, labelIn, readingBy, readingFor}
+use Rattle.reading.specs.Reading as reading
+use Rattle.reading.proofs.Checks.{for-port, stops7}
+use Rattle.area.specs.declared.Place.{Place}
+use Rattle.area.specs.declared.Place.the-variants.{Nowhere, At}
+use Rattle.area.specs.declared.Walk.{Walk}
+use Rattle.area.specs.declared.Walk.the-variants.{Sound, Refused}
+use Rattle.area.specs.Area.{walkOf}
+use Rattle.area.proofs.Laws.{area-refused, area-placed}
+use Rattle.leaving.specs.Kept.{keptOf}
+use Rattle.port.specs.declared.Port.{Port}
+use Rattle.port.specs.Port.{portSound, hostSound}
+use Rattle.label.specs.Range.{setInRange}
+use Rattle.arrival.specs.Checks.{Refusal, silent, faulty, barred, when, firstOf, badArea, walkRefusal, walkCheck, placeIn, optionAt, requiredBy, requiredCheck, optionBy, optionCheck, arrivingLabel, rangeCheck, Delivery, deliverySizes, deliveryRecords, hostCheck}
+use Rattle.arrival.specs.Decision.{decided, deliverChecks, deliverOf}
+use Rattle.arrival.proofs.Arrival.{placed-framed}
+use Rattle.gateway.specs.Crossing.{Forwarding, sizes, records, crossing, stays, hasNumbers, numberCheck, leavingLevel, leavingRuns, leavingCheck, leavingOption, noRoom, spellingCheck}
+use Rattle.gateway.specs.Forward.{forwardChecks, forwardOf}
+use Rattle.gateway.proofs.Forwards.{recordsTest}
+use Rattle.demands.specs.Guards.{PointsInto}
+
+-- Reading points into its option.
+abbrev Under : ℕ → List Check → Type 0
+Under b [] = Unit {0}
+Under b (c ∷ cs) = (c .applies ≡ true → c .pointer < b) × Under b cs
+
+first-under : (b : ℕ) (cs : List Check) (l : Label) → 0 < b → Under b cs → reading.firstOf cs l .pointer < b
+first-under b [] l h u = h
+first-under b (c ∷ cs) l h u = go (c .applies) refl (first-under b cs l h (u .1))
+  where
+    go : (t : Bool) → c .applies ≡ t → reading.firstOf cs l .pointer < b → (cond t (refusal (c .number) (c .pointer)) (reading.firstOf cs l)) .pointer < b
+    go true e r = u .0 e
+    go false e r = r
+
+reading-inside : (d : ℕ) (o : List ℕ) → 2 ≤ length o → readingFor d o .pointer < length o
+unfolding readingFor readingBy tagChecks
+reading-inside d o h = ⊎-elim short long (less-or (length o) 10)
+  where
+    short : length o < 10 → readingFor d o .pointer < length o
+    short k = rw (for-port d o ∙ stops7 o (not (eqb (domainOf o) d)) k) h
+
+    long : 10 ≤ length o → readingFor d o .pointer < length o
+    long k =
+        let few : length (categoriesIn o) ≤ length o - 10 = simp (length-take, length-drop) (omega arith) in
+        first-under (length o) (check (ltb (length o) 10) 7 1 ∷ check (not (eqb (domainOf o) d)) 8 2 ∷ tagChecks o) (labelIn o) (omega arith) (
+          λ e. omega arith,
+          (
+            λ e. omega arith,
+            (
+              λ e. omega arith,
+              (
+                λ e. omega arith,
+                (
+                  λ e. omega arith,
+                  (
+                    λ e. (let b : badPlace (tagOf o) (categoriesIn o) < length (categoriesIn o) = ltb-true _ _ e in omega arith),
+                    (λ e. ltb-true _ _ e, tt),
+                  ),
+                ),
+              ),
+            ),
+          ),
+        )
+
+-- A refusal that points, points into the area.
+abbrev Points : List ℕ → Option Refusal → Type 0
+Points area none = Unit {0}
+Points area (some r) = r .kind ≡ 12 → r .code ≡ 0 → (20 ≤ r .pointer) × (r .pointer < 20 + length area)
+
+abbrev AllPoint : List ℕ → List (Option Refusal) → Type 0
+AllPoint area [] = Unit {0}
+AllPoint area (c ∷ cs) = Points area c × AllPoint area cs
+
+points-first : (area : List ℕ) (cs : List (Option Refusal)) → AllPoint area cs → Points area (firstOf cs)
+points-first area [] a = tt
+points-first area (some r ∷ cs) a = a .0
+points-first area (none ∷ cs) a = points-first area cs (a .1)
+
+points-when : (area : List ℕ) (b : Bool) (r : Refusal) → Points area (some r) → Points area (when b r)
+points-when area true r h = h
+points-when area false r h = tt
+
+silent-points : (area : List ℕ) (b : Bool) (n : ℕ) → Points area (when b (silent n))
+silent-points area b n = points-when area b (silent n) (λ k c. absurd (omega arith))
+
+barred-points : (area : List ℕ) (b : Bool) (n code : ℕ) → Points area (when b (barred n code))
+barred-points area b n code = points-when area b (barred n code) (λ k c. absurd (omega arith))
+
+walk-points : (area : List ℕ) (w : Walk) → walkOf area ≡ w → Points area (walkRefusal w)
+walk-points area (Sound q) e = tt
+walk-points area (Refused n at) e = λ k c. (let q = area-refused area n at e in omega arith)
+
+required-points : (area : List ℕ) (q : Place) (p : Port) → Points area (requiredBy q p)
+required-points area Nowhere p = points-when area (p .required) _ (λ k c. absurd (omega arith))
+required-points area (At i) p = tt
+
+option-points : (p : Port) (area : List ℕ) (w : Walk) → walkOf area ≡ w → Points area (optionBy (placeIn w) p area)
+option-points p area (Refused n at) e = tt
+option-points p area (Sound Nowhere) e = tt
+option-points p area (Sound (At i)) e =
+    let f = placed-framed area i (area-placed area i e) in
+    let h : readingFor (p .domain) (optionAt i area) .pointer < length (optionAt i area) = reading-inside (p .domain) (optionAt i area) (omega (arith, f .size, f .least)) in
+    points-when area (not (eqb (readingFor (p .domain) (optionAt i area) .number) 0))
+    (faulty (readingFor (p .domain) (optionAt i area) .number) (i + readingFor (p .domain) (optionAt i area) .pointer))
+    (λ k c. omega (arith, f .size, f .inside))
+
+range-points : (p : Port) (area : List ℕ) (code : ℕ) → Points area (rangeCheck p area code)
+unfolding rangeCheck
+range-points p area code = barred-points area (not (inRange (p .lowest) (p .highest) (arrivingLabel p area))) 14 code
+
+forward-points : (f : Forwarding) → Points (f .area) (firstOf (forwardChecks f))
+unfolding sizes records walkCheck requiredCheck optionCheck numberCheck leavingCheck spellingCheck
+forward-points f =
+    points-first (f .area) (forwardChecks f) (
+      silent-points (f .area) (badArea (f .area) || ltb (f .room) 40) 1,
+      (
+        silent-points (f .area) (not (recordsTest f)) 2,
+        (
+          walk-points (f .area) (walkOf (f .area)) refl,
+          (
+            required-points (f .area) (placeIn (walkOf (f .area))) (f .arriving),
+            (
+              option-points (f .arriving) (f .area) (walkOf (f .area)) refl,
+              (
+                range-points (f .arriving) (f .area) 9,
+                (barred-points (f .area) (not (stays (crossing f) || hasNumbers (crossing f))) 16 9, (barred-points (f .area) (not (setInRange (f .leaving .lowest) (f .leaving .highest) (leavingLevel (crossing f)) (leavingRuns (crossing f)))) 17 9, (barred-points (f .area) (ltb 120 (length (leavingRuns (crossing f))) || noRoom (leavingOption (crossing f)) (keptOf (f .area))) 18 9, tt))),
+              ),
+            ),
+          ),
+        ),
+      ),
+    )
+
+deliver-points : (d : Delivery) → Points (d .area) (firstOf (deliverChecks d))
+unfolding deliverySizes deliveryRecords walkCheck requiredCheck optionCheck hostCheck
+deliver-points d =
+    points-first (d .area) (deliverChecks d) (
+      silent-points (d .area) (badArea (d .area)) 1,
+      (
+        silent-points (d .area) (not (portSound (d .port) && hostSound (d .host) (d .port .domain))) 2,
+        (
+          walk-points (d .area) (walkOf (d .area)) refl,
+          (
+            required-points (d .area) (placeIn (walkOf (d .area))) (d .port),
+            (
+              option-points (d .port) (d .area) (walkOf (d .area)) refl,
+              (range-points (d .port) (d .area) 10, (barred-points (d .area) (not (inRange (d .host .lowest) (d .host .highest) (arrivingLabel (d .port) (d .area)))) 15 10, tt)),
+            ),
+          ),
+        ),
+      ),
+    )
+
+decided-points : (area : List ℕ) (icmp : Bool) (o : Option Refusal) (l : Label) (n : ℕ) → Points area o
+    → decided icmp o l n .kind ≡ 12 → decided icmp o l n .code ≡ 0 → PointsInto area (decided icmp o l n)
+decided-points area icmp none l n h k c = absurd (omega arith)
+decided-points area true (some r) l n h k c = absurd (omega arith)
+decided-points area false (some r) l n h k c = let q = h k c in record { least = q .0; inside = q .1 }
+
+pub forward-inside : (f : Forwarding) → forwardOf f .kind ≡ 12 → forwardOf f .code ≡ 0 → PointsInto (f .area) (forwardOf f)
+unfolding forwardOf
+forward-inside f k c = decided-points (f .area) (f .icmp) (firstOf (forwardChecks f)) _ _ (forward-points f) k c
+
+pub deliver-inside : (d : Delivery) → deliverOf d .kind ≡ 12 → deliverOf d .code ≡ 0 → PointsInto (d .area) (deliverOf d)
+unfolding deliverOf
+deliver-inside d k c = decided-points (d .area) (d .icmp) (firstOf (deliverChecks d)) _ _ (deliver-points d) k c

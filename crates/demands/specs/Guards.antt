@@ -1,0 +1,103 @@
+-- What document 01 says of every decision beyond the three demands: the count, the leaving area read again, pointers, datagrams without a label, and
+-- the functions asked alone.
+use mathlib.Core.Path.{_≡_}
+use mathlib.Core.List.{List}
+use mathlib.Core.Option.{none}
+use Prim.Native.Nat.{ℕ, _+_, _%_, _≤_, _<_}
+use lib.ListN.{length, take}
+use Rattle.label.specs.declared.Label.{Label}
+use Rattle.label.specs.Label.{leq}
+use Rattle.option.specs.Option.{Octets}
+use Rattle.option.specs.Theorems.{Spells}
+use Rattle.area.specs.declared.Place.the-variants.{Nowhere, At}
+use Rattle.area.specs.declared.Walk.the-variants.{Sound}
+use Rattle.area.specs.Area.{walkOf}
+use Rattle.leaving.specs.Kept.{keptOf}
+use Rattle.port.specs.declared.Port.{Port}
+use Rattle.arrival.specs.declared.Decision.{Decision}
+use Rattle.arrival.specs.Checks.{optionAt, requiredCheck, optionCheck, arrivingLabel, Delivery, deliverySizes}
+use Rattle.arrival.specs.Decision.{deliverOf}
+use Rattle.gateway.specs.Crossing.{Forwarding, sizes}
+use Rattle.gateway.specs.Forward.{forwardOf, outputOf}
+use Rattle.demands.specs.Demands.{AreaSound}
+
+-- "Zeros pad to a multiple of 4; the count is returned": of an option of s octets and k octets of kept options
+pub record Counts (n s k : ℕ) : Type 0 where
+  pub fourfold : n % 4 ≡ 0
+  pub least : s + k ≤ n
+  pub most : n < s + k + 4
+  pub fits : n ≤ 40
+
+-- an area that a datagram with this label and these kept options may leave with, in a domain: it passes checks 1, 3 to 5 and, at any port of the
+-- domain, 6 to 13; its option 134 is the spelling of the label; its label and kept options are these
+pub record Reads (a : List ℕ) (domain : ℕ) (l : Label) (ks : List ℕ) : Type 0 where
+  pub area : AreaSound a
+  pub walk : walkOf a ≡ Sound (At 0)
+  pub spelled : Spells (optionAt 0 a) l
+  pub required : (p : Port) → p .domain ≡ domain → requiredCheck p a ≡ none
+  pub option : (p : Port) → p .domain ≡ domain → optionCheck p a ≡ none
+  pub label : (p : Port) → p .domain ≡ domain → arrivingLabel p a ≡ l
+  pub kept : keptOf a ≡ ks
+  pub counted : Counts (length a) (length (optionAt 0 a)) (length ks)
+
+-- the leaving area: as many octets of the output as the count says
+abbrev pub leavingArea : Forwarding → List ℕ → List ℕ
+leavingArea f out = take (forwardOf f .count) (outputOf f out)
+
+-- two datagrams without an option 134, with kept options in order, records and mark alike
+pub record Unlabelled (f g : Forwarding) : Type 0 where
+  pub arriving : f .arriving ≡ g .arriving
+  pub leaving : f .leaving ≡ g .leaving
+  pub table : f .table ≡ g .table
+  pub levels : f .levels ≡ g .levels
+  pub icmp : f .icmp ≡ g .icmp
+  pub kept : keptOf (f .area) ≡ keptOf (g .area)
+  pub sized : (sizes f ≡ none) × (sizes g ≡ none)
+  pub first : walkOf (f .area) ≡ Sound Nowhere
+  pub second : walkOf (g .area) ≡ Sound Nowhere
+
+pub record UnlabelledDelivered (d e : Delivery) : Type 0 where
+  pub port : d .port ≡ e .port
+  pub host : d .host ≡ e .host
+  pub icmp : d .icmp ≡ e .icmp
+  pub sized : (deliverySizes d ≡ none) × (deliverySizes e ≡ none)
+  pub first : walkOf (d .area) ≡ Sound Nowhere
+  pub second : walkOf (e .area) ≡ Sound Nowhere
+
+-- a 12/0 report points into the area; pointers count from the header's start
+pub record PointsInto (area : List ℕ) (d : Decision) : Type 0 where
+  pub least : 20 ≤ d .pointer
+  pub inside : d .pointer < 20 + length area
+
+pub record Guards : Type 0 where
+  pub count : (f : Forwarding) → forwardOf f .number ≡ 0
+      → (s : List ℕ) × Spells s (forwardOf f .label) × Counts (forwardOf f .count) (length s) (length (keptOf (f .area)))
+  -- the leaving area, read again at a port of the leaving domain
+  pub again : (f : Forwarding) (out : List ℕ) → forwardOf f .number ≡ 0
+      → Reads (leavingArea f out) (f .leaving .domain) (forwardOf f .label) (keptOf (f .area))
+  -- forwarded again through equal domains, nothing changes
+  pub same : (f g : Forwarding) (out out′ : List ℕ)
+      → forwardOf f .number ≡ 0
+      → forwardOf g .number ≡ 0
+      → g .area ≡ leavingArea f out
+      → g .arriving .domain ≡ f .leaving .domain
+      → g .leaving .domain ≡ f .leaving .domain
+      → (forwardOf g ≡ forwardOf f) × (leavingArea g out′ ≡ leavingArea f out)
+  -- pointers
+  pub forward : (f : Forwarding) → forwardOf f .kind ≡ 12 → forwardOf f .code ≡ 0 → PointsInto (f .area) (forwardOf f)
+  pub deliver : (d : Delivery) → deliverOf d .kind ≡ 12 → deliverOf d .code ≡ 0 → PointsInto (d .area) (deliverOf d)
+  -- equal decisions without a label
+  pub decided : (f g : Forwarding) → Unlabelled f g → forwardOf f ≡ forwardOf g
+  pub written : (f g : Forwarding) (out out′ : List ℕ) → Unlabelled f g → forwardOf f .number ≡ 0 → leavingArea f out ≡ leavingArea g out′
+  pub delivered : (d e : Delivery) → UnlabelledDelivered d e → deliverOf d ≡ deliverOf e
+  -- labels compare before as they do after: two datagrams forwarded by the same records
+  pub order : (f g : Forwarding)
+      → Octets (f .area)
+      → Octets (g .area)
+      → f .arriving ≡ g .arriving
+      → f .leaving ≡ g .leaving
+      → f .table ≡ g .table
+      → f .levels ≡ g .levels
+      → forwardOf f .number ≡ 0
+      → forwardOf g .number ≡ 0
+      → leq (arrivingLabel (f .arriving) (f .area)) (arrivingLabel (g .arriving) (g .area)) ≡ leq (forwardOf f .label) (forwardOf g .label)

@@ -1,0 +1,242 @@
+-- Document 01, "The order of checks, and each number", "The leaving area" and "Numbers to try": worked decisions, in one table. Both ports are of
+-- domain 5, so the renumbering table is not read. Every case is asked twice, unmarked and marked as ICMP.
+use mathlib.Core.Path.{_≡_}
+use mathlib.Core.Bool.{Bool, true, false}
+use mathlib.Core.List.{List, [], _∷_, _++_, map}
+use Prim.Native.Nat.{ℕ}
+use lib.ListN.{replicate}
+use Rattle.label.specs.declared.Label.{Label}
+use Rattle.label.specs.Runs.{run}
+use Rattle.option.specs.Table.{everyOther}
+use Rattle.port.specs.declared.Port.{Port}
+use Rattle.port.specs.declared.Host.{Host}
+use Rattle.table.specs.declared.Table.{Table}
+use Rattle.arrival.specs.declared.Decision.{Decision}
+use Rattle.arrival.specs.Checks.{Delivery}
+use Rattle.arrival.specs.Decision.{deliverOf}
+use Rattle.gateway.specs.Crossing.{Forwarding}
+use Rattle.gateway.specs.Forward.{forwardOf, outputOf}
+
+-- A label of domain 5 with at most one run; the all-zero label.
+abbrev pub bare : ℕ → Label
+bare v = record { domain = 5; level = v; count = 0; runs = replicate 120 (run 0 0) }
+
+abbrev pub one : ℕ → ℕ → ℕ → Label
+one v l h = record { domain = 5; level = v; count = 1; runs = run l h ∷ replicate 119 (run 0 0) }
+
+abbrev pub nothing : Label
+nothing = record { domain = 0; level = 0; count = 0; runs = replicate 120 (run 0 0) }
+
+-- Ports: one that requires a label; one that gives it; one that gives a label with no spelling, 240, 242, .. 270.
+abbrev pub requires : Port
+requires = record { domain = 5; lowest = bare 1; highest = one 5 0 300; required = true; assigned = nothing }
+
+abbrev pub assigns : Port
+assigns = record { domain = 5; lowest = bare 1; highest = one 5 0 300; required = false; assigned = bare 3 }
+
+abbrev pub unspelled : Port
+unspelled =
+    record {
+      domain = 5;
+      lowest = bare 1;
+      highest = one 5 0 300;
+      required = false;
+      assigned = record { domain = 5; level = 3; count = 16; runs = everyOther 240 16 ++ replicate 104 (run 0 0) };
+    }
+
+-- unsound: of domain 0; lowest above highest; an assigned label beside a required one, or out of range
+abbrev pub ownerless : Port
+ownerless = record { domain = 0; lowest = bare 1; highest = bare 5; required = true; assigned = nothing }
+
+abbrev pub upside : Port
+upside = record { domain = 5; lowest = bare 5; highest = bare 1; required = true; assigned = nothing }
+
+abbrev pub needless : Port
+needless = record { domain = 5; lowest = bare 1; highest = bare 5; required = true; assigned = bare 3 }
+
+abbrev pub misgiving : Port
+misgiving = record { domain = 5; lowest = bare 1; highest = bare 5; required = false; assigned = bare 6 }
+
+-- the port it leaves by, and the host
+abbrev pub beyond : Port
+beyond = record { domain = 5; lowest = bare 2; highest = one 255 0 65534; required = true; assigned = nothing }
+
+abbrev pub behind : Host
+behind = record { lowest = bare 2; highest = one 255 0 65534 }
+
+-- A case: the port it arrives at, the area, and the job: forward by a port into an output of so many octets, each 9 before; or deliver to a host.
+pub data Job : Type 0 where
+  leave : Port → ℕ → Job
+  stay : Host → Job
+
+pub record Case : Type 0 where
+  pub job : Job
+  pub port : Port
+  pub area : List ℕ
+  pub answer : Decision
+  pub output : List ℕ
+
+-- what is decided, and what the output then holds
+pub record Answer : Type 0 where
+  pub plain : Decision
+  pub marked : Decision
+  pub output : List ℕ
+  pub markedOutput : List ℕ
+
+abbrev pub noTable : Table
+noTable = record { from = 0; to = 0; pairs = 0; count = 0; rows = [] }
+
+abbrev pub forwarding : Port → Port → ℕ → Bool → List ℕ → Forwarding
+forwarding p q n icmp area = record { arriving = p; leaving = q; table = noTable; levels = []; icmp = icmp; area = area; room = n }
+
+abbrev pub delivery : Port → Host → Bool → List ℕ → Delivery
+delivery p h icmp area = record { port = p; host = h; icmp = icmp; area = area }
+
+abbrev pub answerTo : Job → Port → List ℕ → Answer
+answerTo (leave q n) p area =
+    record {
+      plain = forwardOf (forwarding p q n false area);
+      marked = forwardOf (forwarding p q n true area);
+      output = outputOf (forwarding p q n false area) (replicate n 9);
+      markedOutput = outputOf (forwarding p q n true area) (replicate n 9);
+    }
+answerTo (stay h) p area =
+    record { plain = deliverOf (delivery p h false area); marked = deliverOf (delivery p h true area); output = []; markedOutput = [] }
+
+-- marked as ICMP, the number stays and the report is silent
+abbrev pub hushed : Decision → Decision
+hushed d = record { number = d .number; kind = 0; code = 0; pointer = 0; count = d .count; label = d .label }
+
+abbrev pub awaited : Case → Answer
+awaited c = record { plain = c .answer; marked = hushed (c .answer); output = c .output; markedOutput = c .output }
+
+-- a refusal: number, type, code, pointer
+abbrev pub drop : ℕ → ℕ → ℕ → ℕ → Decision
+drop n k c p = record { number = n; kind = k; code = c; pointer = p; count = 0; label = nothing }
+
+-- forwarded with so many octets, or delivered with 0
+abbrev pub pass : ℕ → Label → Decision
+pass n l = record { number = 0; kind = 0; code = 0; pointer = 0; count = n; label = l }
+
+-- a forwarding into 41 octets: refused, or what the first 40 hold
+abbrev pub stopped : Port → Port → List ℕ → Decision → Case
+stopped p q area d = record { job = leave q 41; port = p; area = area; answer = d; output = replicate 41 9 }
+
+abbrev pub sent : Port → List ℕ → ℕ → Label → List ℕ → Case
+sent p area n l o = record { job = leave beyond 41; port = p; area = area; answer = pass n l; output = o ++ (9 ∷ []) }
+
+abbrev pub handed : Port → Host → List ℕ → Decision → Case
+handed p h area d = record { job = stay h; port = p; area = area; answer = d; output = [] }
+
+-- refused alike by both jobs
+pub record Bad : Type 0 where
+  pub port : Port
+  pub area : List ℕ
+  pub answer : Decision
+
+abbrev pub bad : Port → List ℕ → Decision → Bad
+bad p area d = record { port = p; area = area; answer = d }
+
+-- an option: its length, its domain's last octet, its tag's type and length, alignment, level and categories
+abbrev pub option : ℕ → ℕ → ℕ → ℕ → ℕ → ℕ → List ℕ → List ℕ
+option n d t m a v b = 134 ∷ n ∷ 0 ∷ 0 ∷ 0 ∷ d ∷ t ∷ m ∷ a ∷ v ∷ b
+
+-- level v, no categories; zeros up to 40
+abbrev pub empty : ℕ → List ℕ → List ℕ
+empty v rest = option 10 5 1 4 0 v rest
+
+abbrev pub refusals : List Bad
+refusals =
+    -- 1: not a multiple of 4; over 40
+    bad requires (0 ∷ 0 ∷ 0 ∷ []) (drop 1 0 0 0)
+    ∷ bad requires (replicate 44 0) (drop 1 0 0 0)
+    -- 2: the port
+    ∷ bad ownerless (130 ∷ 4 ∷ 0 ∷ 0 ∷ []) (drop 2 0 0 0)
+    ∷ bad upside [] (drop 2 0 0 0)
+    ∷ bad needless [] (drop 2 0 0 0)
+    ∷ bad misgiving [] (drop 2 0 0 0)
+    -- 3: a length octet that is missing, under 2, past the area; before 4 and 5 in one option
+    ∷ bad assigns (1 ∷ 1 ∷ 1 ∷ 7 ∷ []) (drop 3 12 0 23)
+    ∷ bad assigns (1 ∷ 7 ∷ 1 ∷ 0 ∷ []) (drop 3 12 0 21)
+    ∷ bad assigns (7 ∷ 5 ∷ 0 ∷ 0 ∷ []) (drop 3 12 0 20)
+    ∷ bad assigns (1 ∷ 133 ∷ 4 ∷ 0 ∷ []) (drop 3 12 0 21)
+    ∷ bad requires (empty 3 (134 ∷ 3 ∷ [])) (drop 3 12 0 30)
+    -- 4: 130 and 133, met before a second 134; 5
+    ∷ bad assigns (130 ∷ 4 ∷ 0 ∷ 0 ∷ []) (drop 4 12 0 20)
+    ∷ bad assigns (1 ∷ 133 ∷ 3 ∷ 0 ∷ []) (drop 4 12 0 21)
+    ∷ bad requires (empty 3 (133 ∷ 2 ∷ 134 ∷ 2 ∷ 0 ∷ 0 ∷ [])) (drop 4 12 0 30)
+    ∷ bad requires (empty 3 (134 ∷ 2 ∷ [])) (drop 5 12 0 30)
+    -- 6: nothing; type 1 only; a 134 behind type 0
+    ∷ bad requires [] (drop 6 12 1 134)
+    ∷ bad requires (1 ∷ 1 ∷ 1 ∷ 1 ∷ []) (drop 6 12 1 134)
+    ∷ bad requires (0 ∷ 134 ∷ 2 ∷ 0 ∷ []) (drop 6 12 1 134)
+    -- 7; 8: domain 0 in a first option, and after one type 1 octet; not the port's
+    ∷ bad requires (134 ∷ 8 ∷ 0 ∷ 0 ∷ 0 ∷ 0 ∷ 3 ∷ 0 ∷ []) (drop 7 12 0 21)
+    ∷ bad requires (option 10 0 3 5 1 3 (0 ∷ 0 ∷ [])) (drop 8 12 0 22)
+    ∷ bad requires (1 ∷ option 10 0 1 4 0 3 (0 ∷ [])) (drop 8 12 0 23)
+    ∷ bad requires (option 10 6 1 4 0 3 (0 ∷ 0 ∷ [])) (drop 8 12 0 22)
+    -- 9; 10: too short, past the option, odd; 11
+    ∷ bad requires (option 10 5 3 5 1 3 (0 ∷ 0 ∷ [])) (drop 9 12 0 26)
+    ∷ bad requires (option 10 5 1 3 1 3 (0 ∷ 0 ∷ [])) (drop 10 12 0 27)
+    ∷ bad requires (1 ∷ option 10 5 1 5 1 3 (0 ∷ [])) (drop 10 12 0 28)
+    ∷ bad requires (option 11 5 2 5 1 3 (0 ∷ 0 ∷ [])) (drop 10 12 0 27)
+    ∷ bad requires (option 12 5 2 6 1 3 (255 ∷ 255 ∷ [])) (drop 11 12 0 28)
+    -- 12: a first and a second bad number; a second bad pair; 13
+    ∷ bad requires (option 12 5 2 6 0 3 (255 ∷ 255 ∷ [])) (drop 12 12 0 30)
+    ∷ bad requires (1 ∷ option 15 5 2 8 0 3 (0 ∷ 7 ∷ 0 ∷ 7 ∷ 0 ∷ [])) (drop 12 12 0 33)
+    ∷ bad requires (option 18 5 5 12 0 3 (0 ∷ 9 ∷ 0 ∷ 8 ∷ 0 ∷ 8 ∷ 0 ∷ 1 ∷ 0 ∷ 0 ∷ [])) (drop 12 12 0 34)
+    ∷ bad requires (option 11 5 1 4 0 9 (0 ∷ 0 ∷ [])) (drop 13 12 0 30)
+    ∷ []
+
+abbrev pub others : List Case
+others =
+    -- 1: an output under 40 octets, before 2
+    record { job = leave beyond 39; port = ownerless; area = []; answer = drop 1 0 0 0; output = replicate 39 9 }
+    -- 2: the leaving port; the host
+    ∷ stopped requires upside [] (drop 2 0 0 0)
+    ∷ handed requires (record { lowest = bare 5; highest = bare 1 }) [] (drop 2 0 0 0)
+    -- 14: below the lowest; above the highest; a category that the highest lacks. The gateway's code is 9, the host's 10
+    ∷ stopped requires beyond (empty 0 (0 ∷ 0 ∷ [])) (drop 14 3 9 0)
+    ∷ handed requires behind (empty 0 (0 ∷ 0 ∷ [])) (drop 14 3 10 0)
+    ∷ stopped requires beyond (empty 6 (0 ∷ 0 ∷ [])) (drop 14 3 9 0)
+    ∷ handed requires behind (empty 6 (0 ∷ 0 ∷ [])) (drop 14 3 10 0)
+    ∷ stopped requires beyond (option 12 5 2 6 0 3 (1 ∷ 45 ∷ [])) (drop 14 3 9 0)
+    ∷ handed requires behind (option 12 5 2 6 0 3 (1 ∷ 45 ∷ [])) (drop 14 3 10 0)
+    -- 15, of a delivery; 17, of a forwarding: below the range that comes next
+    ∷ handed requires behind (empty 1 (0 ∷ 0 ∷ [])) (drop 15 3 10 0)
+    ∷ stopped requires beyond (empty 1 (0 ∷ 0 ∷ [])) (drop 17 3 9 0)
+    -- 18: a kept option of 31 octets beside an empty label; no spelling
+    ∷ stopped assigns beyond (148 ∷ 31 ∷ replicate 30 0) (drop 18 3 9 0)
+    ∷ stopped unspelled beyond [] (drop 18 3 9 0)
+    -- delivered: the own label, the assigned one, with no spelling too
+    ∷ handed requires behind (empty 3 (0 ∷ 0 ∷ [])) (pass 0 (bare 3))
+    ∷ handed assigns behind [] (pass 0 (bare 3))
+    ∷ handed assigns behind (148 ∷ 31 ∷ replicate 30 0) (pass 0 (bare 3))
+    ∷ handed unspelled behind [] (pass 0 (unspelled .assigned))
+    -- forwarded: the own label, 12 octets; the assigned one beside nothing and beside a kept option of 30 octets, 40
+    ∷ sent requires (empty 3 (0 ∷ 0 ∷ [])) 12 (bare 3) (empty 3 (replicate 30 0))
+    ∷ sent assigns [] 12 (bare 3) (empty 3 (replicate 30 0))
+    ∷ sent assigns (148 ∷ 30 ∷ (replicate 28 7 ++ (0 ∷ 0 ∷ []))) 40 (bare 3) (empty 3 (148 ∷ 30 ∷ replicate 28 7))
+    -- kept options in order, without types 0 and 1 and what follows type 0: 13 octets are padded to 16, 17 to 20
+    ∷ sent requires (1 ∷ empty 3 (7 ∷ 3 ∷ 4 ∷ 0 ∷ 134 ∷ [])) 16 (bare 3) (empty 3 (7 ∷ 3 ∷ 4 ∷ replicate 27 0))
+    ∷ sent requires (7 ∷ 3 ∷ 4 ∷ 1 ∷ empty 3 (148 ∷ 4 ∷ 0 ∷ 0 ∷ 1 ∷ 0 ∷ [])) 20 (bare 3) (empty 3 (7 ∷ 3 ∷ 4 ∷ 148 ∷ 4 ∷ replicate 25 0))
+    -- in its one spelling: {16} from a bitmap, {297..300} from touching pairs, none from tag 5
+    ∷ sent requires (option 13 5 1 7 0 3 (0 ∷ 0 ∷ 128 ∷ 0 ∷ 0 ∷ 0 ∷ [])) 12 (one 3 16 16) (option 12 5 2 6 0 3 (0 ∷ 16 ∷ replicate 28 0))
+    ∷ sent requires (option 18 5 5 12 0 3 (1 ∷ 44 ∷ 1 ∷ 43 ∷ 1 ∷ 42 ∷ 1 ∷ 41 ∷ 1 ∷ 1 ∷ [])) 16 (one 3 297 300) (option 14 5 5 8 0 3 (1 ∷ 44 ∷ 1 ∷ 41 ∷ replicate 26 0))
+    ∷ sent requires (option 10 5 5 4 0 5 (0 ∷ 0 ∷ [])) 12 (bare 5) (empty 5 (replicate 30 0))
+    ∷ []
+
+abbrev pub inGateway : Bad → Case
+inGateway b = stopped (b .port) beyond (b .area) (b .answer)
+
+abbrev pub toHost : Bad → Case
+toHost b = handed (b .port) behind (b .area) (b .answer)
+
+abbrev pub cases : List Case
+cases = map inGateway refusals ++ (map toHost refusals ++ others)
+
+abbrev pub answered : Case → Answer
+answered c = answerTo (c .job) (c .port) (c .area)
+
+abbrev pub WorkedDecisions : Type 0
+WorkedDecisions = map answered cases ≡ map awaited cases

@@ -1,0 +1,106 @@
+// Each function puts octets into a buffer from place n on and answers the place behind them. An octet that finds no room is left out.
+ghost use mathlib.Core.Path.{_≡_};
+ghost use mathlib.Core.List.{[], _∷_};
+ghost use Prim.Native.Nat.{_+_, _%_, _≤_, _<_};
+ghost use lib.ListN.{length, drop};
+ghost use Rattle.lines.specs.Put.{Puts};
+ghost use Rattle.lines.specs.Text.{decimal, hexDigit, hexOf};
+
+// The most digits of a number in decimal.
+const DIGITS: usize = 20;
+
+// One octet.
+pub fn put_octet(out: &mut [u8], n: usize, x: u8) -> usize
+    ensures { λ r. ⌜ Puts (now (out .entry)) n (x ∷ []) (now (out .exit)) r ⌝ }
+{
+    if n < out.len() {
+        out[n] = x;
+        return n + 1;
+    }
+    n
+}
+
+// The octets of a word.
+pub fn put_word(out: &mut [u8], n: usize, word: &[u8]) -> usize
+    ensures { λ r. ⌜ Puts (now (out .entry)) n (now (word .entry)) (now (out .exit)) r ⌝ }
+{
+    let mut k = n;
+    let mut i: usize = 0;
+    while i < word.len() {
+        k = put_octet(out, k, word[i]);
+        i += 1;
+    }
+    k
+}
+
+// A number in decimal.
+pub fn put_decimal(out: &mut [u8], n: usize, x: u64) -> usize
+    ensures { λ r. ⌜ Puts (now (out .entry)) n (decimal x) (now (out .exit)) r ⌝ }
+{
+    let mut digits = [0u8; DIGITS];
+    let from = spell(x, &mut digits);
+    put_word(out, n, &digits[from..])
+}
+
+// A blank, and a number in decimal.
+pub fn put_next(out: &mut [u8], n: usize, x: u64) -> usize
+    ensures { λ r. ⌜ Puts (now (out .entry)) n (32 ∷ decimal x) (now (out .exit)) r ⌝ }
+{
+    let k = put_octet(out, n, b' ');
+    put_decimal(out, k, x)
+}
+
+// The octets in lower-case hex, two digits each.
+pub fn put_hex(out: &mut [u8], n: usize, octets: &[u8]) -> usize
+    ensures { λ r. ⌜ Puts (now (out .entry)) n (hexOf (now (octets .entry))) (now (out .exit)) r ⌝ }
+{
+    let mut k = n;
+    let mut i: usize = 0;
+    while i < octets.len() {
+        k = put_pair(out, k, octets[i]);
+        i += 1;
+    }
+    k
+}
+
+// An octet as two hex digits.
+fn put_pair(out: &mut [u8], n: usize, x: u8) -> usize
+    ensures { λ r. ⌜ Puts (now (out .entry)) n (hexOf (x ∷ [])) (now (out .exit)) r ⌝ }
+{
+    let k = put_octet(out, n, hex_digit(x / 16));
+    put_octet(out, k, hex_digit(x % 16))
+}
+
+// The digit of a number below 16.
+fn hex_digit(x: u8) -> u8
+    requires { ⌜ x ≤ 15 ⌝ }
+    ensures { λ r. ⌜ r ≡ hexDigit x ⌝ }
+{
+    if x < 10 {
+        return x + b'0';
+    }
+    x - 10 + b'a'
+}
+
+// Puts a number's digits at the end of 20 octets, and answers where they begin.
+fn spell(x: u64, digits: &mut [u8]) -> usize
+    requires { ⌜ length (now digits) ≡ 20 ⌝ }
+    ensures { λ r. ⌜ (r < 20) × (drop r (now (digits .exit)) ≡ decimal x) ⌝ }
+{
+    let mut i = DIGITS - 1;
+    digits[i] = digit(x);
+    let mut rest = x / 10;
+    while rest > 0 {
+        i -= 1;
+        digits[i] = digit(rest);
+        rest /= 10;
+    }
+    i
+}
+
+// A number's last digit.
+fn digit(x: u64) -> u8
+    ensures { λ r. ⌜ r ≡ 48 + x % 10 ⌝ }
+{
+    (x % 10) as u8 + b'0'
+}

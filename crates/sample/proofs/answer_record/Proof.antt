@@ -1,0 +1,80 @@
+-- `sample::answer_record` meets its contract.
+use borrow.Author.Needs.{needs}
+use native.Mathlib.Omega.{arith}
+use Rattle.sample.proofs.answer_record.Statement.{statement}
+use Rattle.sample.proofs.answer_record.Tie as tie
+
+spare-requires : tie.Need-spare-requires
+spare-requires c κs = search needs
+
+same-length : tie.Need-same-length
+same-length c = search needs
+
+returns : tie.Need-returns
+returns c = search needs
+
+sub-if2 : tie.Need-sub-if2
+sub-if2 c = search needs
+
+put-broken-requires : tie.Need-put-broken-requires
+put-broken-requires c κs = search needs
+
+stop-requires : tie.Need-stop-requires
+stop-requires c κs = search needs
+
+same-length-2 : tie.Need-same-length-2
+same-length-2 c = search needs
+
+returns-2 : tie.Need-returns-2
+returns-2 c = search needs
+
+add-next : tie.Need-add-next
+add-next c = search needs
+
+add-from : tie.Need-add-from
+add-from c = search needs
+
+sub-answer : tie.Need-sub-answer
+sub-answer c = search needs
+
+part-answer-start : tie.Need-part-answer-start
+part-answer-start c = search needs
+
+part-answer-end : tie.Need-part-answer-end
+part-answer-end c = search needs
+
+answer-requires : tie.Need-answer-requires
+answer-requires c κs =
+    let spared = c .before .before .before .before .before .before in
+    omega (arith, spared .spare .ensures .spare (omega arith))
+
+go-on-requires : tie.Need-go-on-requires
+go-on-requires c κs = search needs
+
+same-length-3 : tie.Need-same-length-3
+same-length-3 c = search needs
+
+returns-3 : tie.Need-returns-3
+returns-3 c = search needs
+
+pub answer-record-spec : {M : Type 1} → statement M
+answer-record-spec =
+    tie.close
+    (tie.spec
+    spare-requires
+    same-length
+    returns
+    sub-if2
+    put-broken-requires
+    stop-requires
+    same-length-2
+    returns-2
+    add-next
+    add-from
+    sub-answer
+    part-answer-start
+    part-answer-end
+    answer-requires
+    go-on-requires
+    same-length-3
+    returns-3)
