@@ -10,19 +10,24 @@
 //   5 read       n (1), n octets                                            number, pointer, label
 //   6 forward    port, port, table, mark (1), n (1), n octets, output       number, type, code, pointer, count, label, output
 //   7 deliver    port, host, mark (1), n (1), n octets                      number, type, code, pointer, count, label
+//   8 forward    as 6 with facts for the mark                               as 6
+//   9 deliver    as 7 with facts for the mark                               as 7
 //
 //   label    domain (4), level (1), count (1), stored (1, at most 120), that many runs of low (2) and high (2)
 //   port     domain (4), lowest label, highest label, required (1), assigned label
 //   host     lowest label, highest label
 //   table    from (4), to (4), level pair count (1), stored (1, at most 16), that many pairs (1 + 1),
 //            row count (2), stored (1, at most 64), that many rows of low (2), high (2), target low (2)
+//   mark     0 or 1, the first of the facts; the others are 0
+//   facts    five octets, each 0 or 1, in document 02's order
 //   output   length (2, at most 512), the octet that fills it (1)
 //
 // Places that are not stored are 0. Counts are free: a count over its limit is what the entries must refuse.
 
 use std::io::{self, Read, Write};
 
-use crate::decision::{deliver, forward, Decision};
+use crate::decision::{deliver, forward, Decision, Facts};
+use crate::entries::Entries;
 use crate::label::{HeldLabel, Run, MAX_RUNS};
 use crate::option::{read_alone, spell_alone};
 use crate::records::{renumber_alone, HostRecord, PortRecord, Row, TableRecord, MAX_LEVEL_PAIRS, MAX_ROWS};
@@ -34,6 +39,8 @@ pub const SPELL: u8 = 4;
 pub const READ: u8 = 5;
 pub const FORWARD: u8 = 6;
 pub const DELIVER: u8 = 7;
+pub const FORWARD_FACTS: u8 = 8;
+pub const DELIVER_FACTS: u8 = 9;
 
 pub const MAX_OUTPUT: usize = 512;
 pub const BROKEN: &str = "BROKEN";
@@ -49,7 +56,7 @@ pub struct ForwardCase {
     pub arriving: PortRecord,
     pub leaving: PortRecord,
     pub table: TableRecord,
-    pub icmp_mark: bool,
+    pub facts: Facts,
     pub area: Vec<u8>,
     pub output: Output,
 }
@@ -58,7 +65,7 @@ pub struct ForwardCase {
 pub struct DeliverCase {
     pub port: PortRecord,
     pub host: HostRecord,
-    pub icmp_mark: bool,
+    pub facts: Facts,
     pub area: Vec<u8>,
 }
 
@@ -71,6 +78,8 @@ pub enum Case {
     Read(Vec<u8>),
     Forward(Box<ForwardCase>),
     Deliver(Box<DeliverCase>),
+    ForwardFacts(Box<ForwardCase>),
+    DeliverFacts(Box<DeliverCase>),
 }
 
 /// Takes fields from the front of a case. None where a field is cut off or a number is over its limit.
@@ -110,6 +119,14 @@ impl<'a> Fields<'a> {
             1 => Some(true),
             _ => None,
         }
+    }
+
+    fn mark(&mut self) -> Option<Facts> {
+        self.flag().map(Facts::marked)
+    }
+
+    fn facts(&mut self) -> Option<Facts> {
+        Some(Facts::in_order([self.flag()?, self.flag()?, self.flag()?, self.flag()?, self.flag()?]))
     }
 
     fn counted_octets(&mut self) -> Option<Vec<u8>> {
@@ -160,31 +177,40 @@ impl<'a> Fields<'a> {
         }
         Some(Output { length, fill: self.one()? })
     }
+
+    fn forward(&mut self, facts: impl Fn(&mut Self) -> Option<Facts>) -> Option<ForwardCase> {
+        Some(ForwardCase {
+            arriving: self.port()?,
+            leaving: self.port()?,
+            table: self.table()?,
+            facts: facts(self)?,
+            area: self.counted_octets()?,
+            output: self.output()?,
+        })
+    }
+
+    fn deliver(&mut self, facts: impl Fn(&mut Self) -> Option<Facts>) -> Option<DeliverCase> {
+        Some(DeliverCase { port: self.port()?, host: self.host()?, facts: facts(self)?, area: self.counted_octets()? })
+    }
 }
 
-/// The case that the octets after a length mean, or none where they don't parse.
-pub fn parse(octets: &[u8]) -> Option<Case> {
+/// The case that the octets after a length mean, or none where they don't parse or their entry is not among the given ones.
+pub fn parse(octets: &[u8], entries: &Entries) -> Option<Case> {
     let mut fields = Fields { rest: octets };
-    let case = match fields.one()? {
+    let entry = fields.one()?;
+    if !entries.has(entry) {
+        return None;
+    }
+    let case = match entry {
         CONTAINS => Case::Contains(fields.label()?, fields.two()?),
         WITHIN => Case::Within(fields.label()?, fields.label()?),
         RENUMBER => Case::Renumber(fields.label()?, fields.table()?),
         SPELL => Case::Spell(fields.label()?, fields.output()?),
         READ => Case::Read(fields.counted_octets()?),
-        FORWARD => Case::Forward(Box::new(ForwardCase {
-            arriving: fields.port()?,
-            leaving: fields.port()?,
-            table: fields.table()?,
-            icmp_mark: fields.flag()?,
-            area: fields.counted_octets()?,
-            output: fields.output()?,
-        })),
-        DELIVER => Case::Deliver(Box::new(DeliverCase {
-            port: fields.port()?,
-            host: fields.host()?,
-            icmp_mark: fields.flag()?,
-            area: fields.counted_octets()?,
-        })),
+        FORWARD => Case::Forward(Box::new(fields.forward(Fields::mark)?)),
+        DELIVER => Case::Deliver(Box::new(fields.deliver(Fields::mark)?)),
+        FORWARD_FACTS => Case::ForwardFacts(Box::new(fields.forward(Fields::facts)?)),
+        DELIVER_FACTS => Case::DeliverFacts(Box::new(fields.deliver(Fields::facts)?)),
         _ => return None,
     };
     if fields.rest.is_empty() {
@@ -266,6 +292,26 @@ impl Encoder {
         self.two(output.length as u16);
         self.octets.push(output.fill);
     }
+
+    fn flags(&mut self, flags: &[bool]) {
+        self.octets.extend(flags.iter().map(|flag| *flag as u8));
+    }
+
+    fn forward(&mut self, case: &ForwardCase, facts: &[bool]) {
+        self.port(&case.arriving);
+        self.port(&case.leaving);
+        self.table(&case.table);
+        self.flags(facts);
+        self.counted_octets(&case.area);
+        self.output(case.output);
+    }
+
+    fn deliver(&mut self, case: &DeliverCase, facts: &[bool]) {
+        self.port(&case.port);
+        self.host(&case.host);
+        self.flags(facts);
+        self.counted_octets(&case.area);
+    }
 }
 
 /// The octets of a case after its length: `parse` gives the case back.
@@ -298,19 +344,19 @@ pub fn encode(case: &Case, spare: usize) -> Vec<u8> {
         }
         Case::Forward(case) => {
             encoder.octets.push(FORWARD);
-            encoder.port(&case.arriving);
-            encoder.port(&case.leaving);
-            encoder.table(&case.table);
-            encoder.octets.push(case.icmp_mark as u8);
-            encoder.counted_octets(&case.area);
-            encoder.output(case.output);
+            encoder.forward(case, &case.facts.listed()[..1]);
         }
         Case::Deliver(case) => {
             encoder.octets.push(DELIVER);
-            encoder.port(&case.port);
-            encoder.host(&case.host);
-            encoder.octets.push(case.icmp_mark as u8);
-            encoder.counted_octets(&case.area);
+            encoder.deliver(case, &case.facts.listed()[..1]);
+        }
+        Case::ForwardFacts(case) => {
+            encoder.octets.push(FORWARD_FACTS);
+            encoder.forward(case, &case.facts.listed());
+        }
+        Case::DeliverFacts(case) => {
+            encoder.octets.push(DELIVER_FACTS);
+            encoder.deliver(case, &case.facts.listed());
         }
     }
     encoder.octets
@@ -412,14 +458,14 @@ pub fn answer(case: &Case) -> String {
             line.number(pointer);
             line.label(&held);
         }
-        Case::Forward(case) => {
+        Case::Forward(case) | Case::ForwardFacts(case) => {
             let mut octets = vec![case.output.fill; case.output.length];
-            let decision = forward(&case.arriving, &case.leaving, &case.table, case.icmp_mark, &case.area, &mut octets);
+            let decision = forward(&case.arriving, &case.leaving, &case.table, &case.facts, &case.area, &mut octets);
             line.decision(&decision);
             line.output(&octets);
         }
-        Case::Deliver(case) => {
-            let decision = deliver(&case.port, &case.host, case.icmp_mark, &case.area);
+        Case::Deliver(case) | Case::DeliverFacts(case) => {
+            let decision = deliver(&case.port, &case.host, &case.facts, &case.area);
             line.decision(&decision);
         }
     }
@@ -427,8 +473,8 @@ pub fn answer(case: &Case) -> String {
 }
 
 /// The line for the octets after a length.
-pub fn line_of(octets: &[u8]) -> String {
-    match parse(octets) {
+pub fn line_of(octets: &[u8], entries: &Entries) -> String {
+    match parse(octets, entries) {
         Some(case) => answer(&case),
         None => BROKEN.to_string(),
     }
@@ -469,10 +515,10 @@ pub fn next_case(input: &mut impl Read) -> io::Result<Next> {
 }
 
 /// Answers every case of the input with one line.
-pub fn run(input: &mut impl Read, output: &mut impl Write) -> io::Result<()> {
+pub fn run(input: &mut impl Read, output: &mut impl Write, entries: &Entries) -> io::Result<()> {
     loop {
         match next_case(input)? {
-            Next::Whole(octets) => writeln!(output, "{}", line_of(&octets))?,
+            Next::Whole(octets) => writeln!(output, "{}", line_of(&octets, entries))?,
             Next::CutOff(_) => return writeln!(output, "{}", BROKEN),
             Next::End => return Ok(()),
         }

@@ -5,7 +5,7 @@
 use std::io::{self, Read, Write};
 
 use crate::cases::{hex, read_up_to, BROKEN};
-use crate::decision::forward;
+use crate::decision::{forward, Facts};
 use crate::label::{HeldLabel, Run, HIGHEST_CATEGORY};
 use crate::option::MAX_OCTETS;
 use crate::records::{PortRecord, Row, TableRecord};
@@ -55,7 +55,7 @@ impl Sample {
     /// "The job is forward, no datagram is marked as ICMP". "Each record gives one line, each word a fixed string."
     pub fn line_of(&self, area: &[u8]) -> String {
         let mut output = [0; MAX_OCTETS];
-        let decision = forward(&self.arriving, &self.leaving, &self.table, false, area, &mut output);
+        let decision = forward(&self.arriving, &self.leaving, &self.table, &Facts::NONE, area, &mut output);
         if decision.number == 0 {
             format!("FORWARD {} {}", decision.count, hex(&output[..decision.count]))
         } else {
