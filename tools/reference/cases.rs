@@ -12,6 +12,7 @@
 //   7 deliver    port, host, mark (1), n (1), n octets                      number, type, code, pointer, count, label
 //   8 forward    as 6 with facts for the mark                               as 6
 //   9 deliver    as 7 with facts for the mark                               as 7
+//   24 bitmap    n (1), n octets                                            number, count, low and high of each run
 //
 //   label    domain (4), level (1), count (1), stored (1, at most 120), that many runs of low (2) and high (2)
 //   port     domain (4), lowest label, highest label, required (1), assigned label
@@ -29,7 +30,7 @@ use std::io::{self, Read, Write};
 use crate::decision::{deliver, forward, Decision, Facts};
 use crate::entries::Entries;
 use crate::label::{HeldLabel, Run, MAX_RUNS};
-use crate::option::{read_alone, spell_alone};
+use crate::option::{read_alone, read_bitmap_alone, spell_alone};
 use crate::records::{renumber_alone, HostRecord, PortRecord, Row, TableRecord, MAX_LEVEL_PAIRS, MAX_ROWS};
 
 pub const CONTAINS: u8 = 1;
@@ -41,6 +42,7 @@ pub const FORWARD: u8 = 6;
 pub const DELIVER: u8 = 7;
 pub const FORWARD_FACTS: u8 = 8;
 pub const DELIVER_FACTS: u8 = 9;
+pub const BITMAP: u8 = 24;
 
 pub const MAX_OUTPUT: usize = 512;
 pub const BROKEN: &str = "BROKEN";
@@ -80,6 +82,7 @@ pub enum Case {
     Deliver(Box<DeliverCase>),
     ForwardFacts(Box<ForwardCase>),
     DeliverFacts(Box<DeliverCase>),
+    Bitmap(Vec<u8>),
 }
 
 /// Takes fields from the front of a case. None where a field is cut off or a number is over its limit.
@@ -211,6 +214,7 @@ pub fn parse(octets: &[u8], entries: &Entries) -> Option<Case> {
         DELIVER => Case::Deliver(Box::new(fields.deliver(Fields::mark)?)),
         FORWARD_FACTS => Case::ForwardFacts(Box::new(fields.forward(Fields::facts)?)),
         DELIVER_FACTS => Case::DeliverFacts(Box::new(fields.deliver(Fields::facts)?)),
+        BITMAP => Case::Bitmap(fields.counted_octets()?),
         _ => return None,
     };
     if fields.rest.is_empty() {
@@ -358,6 +362,10 @@ pub fn encode(case: &Case, spare: usize) -> Vec<u8> {
             encoder.octets.push(DELIVER_FACTS);
             encoder.deliver(case, &case.facts.listed());
         }
+        Case::Bitmap(octets) => {
+            encoder.octets.push(BITMAP);
+            encoder.counted_octets(octets);
+        }
     }
     encoder.octets
 }
@@ -388,7 +396,11 @@ impl Line {
         self.number(label.domain as usize);
         self.number(label.level as usize);
         self.number(label.count as usize);
-        for run in label.places.iter().take(label.count as usize) {
+        self.runs(&label.places[..MAX_RUNS.min(label.count as usize)]);
+    }
+
+    fn runs(&mut self, runs: &[Run]) {
+        for run in runs {
             self.number(run.low as usize);
             self.number(run.high as usize);
         }
@@ -467,6 +479,12 @@ pub fn answer(case: &Case) -> String {
         Case::Deliver(case) | Case::DeliverFacts(case) => {
             let decision = deliver(&case.port, &case.host, &case.facts, &case.area);
             line.decision(&decision);
+        }
+        Case::Bitmap(octets) => {
+            let (number, runs) = read_bitmap_alone(octets);
+            line.number(number as usize);
+            line.number(runs.len());
+            line.runs(&runs);
         }
     }
     line.text

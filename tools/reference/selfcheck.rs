@@ -5,7 +5,7 @@ use crate::decision::{deliver, forward, Decision, Facts};
 use crate::entries::Entries;
 use crate::generator::{random_option, Random};
 use crate::label::{HeldLabel, Label, Run, HIGHEST_CATEGORY};
-use crate::option::{read_alone, spell, spell_alone, CIPSO};
+use crate::option::{read_alone, read_bitmap_alone, spell, spell_alone, CIPSO};
 use crate::records::{renumber_alone, HostRecord, PortRecord, Row, TableRecord};
 use crate::sample;
 
@@ -272,6 +272,35 @@ fn silences(tally: &mut Tally) {
     tally.equal("entry 8, the first fact", line, format!("4 0 0 0 0 0 0 0 {}", "ee".repeat(40)));
 }
 
+/// Wish 12: the runs of bitmaps, against a bit-by-bit reading of single categories.
+fn bitmaps(tally: &mut Tally) {
+    let line = |octets: &str| cases::line_of(&octets_of(octets), &Entries::known());
+    tally.equal("no octets", line("18 00"), "0 0".to_string());
+    tally.equal("category 0 is the top bit", line("18 01 80"), "0 1 0 0".to_string());
+    tally.equal("category 15 is the bottom bit of the second", line("18 02 0001"), "0 1 15 15".to_string());
+    tally.equal("a run across octets", line("18 03 01ff80"), "0 1 7 16".to_string());
+    tally.equal("runs that end at a border", line("18 02 ff7f"), "0 2 0 7 9 15".to_string());
+    tally.equal("trailing zero octets", line("18 03 a00000"), "0 2 0 0 2 2".to_string());
+    tally.equal("30 full octets", line(&format!("18 1e {}", "ff".repeat(30))), "0 1 0 239".to_string());
+    tally.equal("31 octets", line(&format!("18 1f {}", "00".repeat(31))), "10 0".to_string());
+    tally.equal("255 octets", line(&format!("18 ff {}", "01".repeat(255))), "10 0".to_string());
+    tally.equal("octets left over", line("18 01 8000"), "BROKEN".to_string());
+    let mut random = Random::new(12);
+    for turn in 0..256 * 30 {
+        let length = random.between(0, 30);
+        let mut octets = random.octets(length);
+        if turn / 256 < length {
+            octets[turn / 256] = (turn % 256) as u8;
+        }
+        let (number, runs) = read_bitmap_alone(&octets);
+        let covered = |category: usize| runs.iter().any(|run| run.low as usize <= category && category <= run.high as usize);
+        let same =
+            (0..240).all(|category| covered(category) == octets.get(category / 8).map_or(false, |octet| octet << category % 8 & 0x80 != 0));
+        let parted = runs.windows(2).all(|two| two[0].high + 2 <= two[1].low);
+        tally.equal(&hex(&octets), (number, same, parted), (0, true, true));
+    }
+}
+
 fn walks(tally: &mut Tally) {
     let line = |area: &str| sample_line(area);
     tally.equal("a short first 134 and a second", line("8602 8602"), "DROP 5 12 0 22".to_string());
@@ -327,6 +356,7 @@ pub fn run() -> bool {
     labels(&mut tally);
     deliveries(&mut tally);
     silences(&mut tally);
+    bitmaps(&mut tally);
     walks(&mut tally);
     parsing(&mut tally);
     spellings(&mut tally);

@@ -1,11 +1,13 @@
 // Cases that don't parse.
 
 use crate::cases::{
-    encode, Case, Encoder, Output, CONTAINS, DELIVER, DELIVER_FACTS, FORWARD, FORWARD_FACTS, MAX_OUTPUT, READ, RENUMBER, SPELL, WITHIN,
+    encode, Case, Encoder, Output, BITMAP, CONTAINS, DELIVER, DELIVER_FACTS, FORWARD, FORWARD_FACTS, MAX_OUTPUT, READ, RENUMBER, SPELL,
+    WITHIN,
 };
 use crate::entries::Entries;
 use crate::label::HeldLabel;
 
+use super::bitmaps::bitmap_read;
 use super::deliver::delivered;
 use super::drafts::*;
 use super::forward::forwarded;
@@ -25,6 +27,7 @@ const GOOD: &[(u8, Maker)] = &[
     (DELIVER, delivered),
     (FORWARD_FACTS, forwarded),
     (DELIVER_FACTS, delivered),
+    (BITMAP, bitmap_read),
 ];
 
 /// The octets of a good case of any entry.

@@ -4,11 +4,12 @@
 // the reference gives that answer. So every number of every entry is hit often, whatever the seed. Slots for unsound records and
 // ill-formed labels take the clauses in turn.
 //
-//   labels, reading, forward, deliver, broken     cases of one kind each
-//   sets, spellings, ranges, tables, drafts       good parts of cases
-//   unsound, faults                               ways to spoil them
-//   sample_records                                records for the sample program
+//   labels, reading, bitmaps, forward, deliver, broken     cases of one kind each
+//   sets, spellings, ranges, tables, drafts                good parts of cases
+//   unsound, faults                                        ways to spoil them
+//   sample_records                                         records for the sample program
 
+mod bitmaps;
 mod broken;
 mod deliver;
 mod drafts;
@@ -28,11 +29,12 @@ use std::collections::BTreeMap;
 use std::io::{self, Write};
 
 use crate::cases::{
-    encode, line_of, Case, BROKEN, CONTAINS, DELIVER, DELIVER_FACTS, FORWARD, FORWARD_FACTS, READ, RENUMBER, SPELL, WITHIN,
+    encode, line_of, Case, BITMAP, BROKEN, CONTAINS, DELIVER, DELIVER_FACTS, FORWARD, FORWARD_FACTS, READ, RENUMBER, SPELL, WITHIN,
 };
 use crate::decision::Facts;
 use crate::entries::Entries;
 
+use bitmaps::*;
 use broken::*;
 use deliver::*;
 use forward::*;
@@ -61,6 +63,7 @@ const ANSWERS: &[(u8, &str, &[&str])] = &[
     (DELIVER, "deliver", DELIVER_ANSWERS),
     (FORWARD_FACTS, "forward", FORWARD_ANSWERS),
     (DELIVER_FACTS, "deliver", DELIVER_ANSWERS),
+    (BITMAP, "bitmap", &["0", "10"]),
 ];
 
 enum Made {
@@ -209,6 +212,8 @@ fn all_slots() -> Vec<Slot> {
         slot(DELIVER_FACTS, 1, "13", deliver_broken),
         slot(DELIVER_FACTS, 1, "14", deliver_broken),
         slot(DELIVER_FACTS, 1, "15", deliver_broken),
+        slot(BITMAP, 3, "0", bitmap_read),
+        slot(BITMAP, 1, "10", bitmap_long),
     ]
 }
 
