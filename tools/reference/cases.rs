@@ -12,6 +12,11 @@
 //   7 deliver    port, host, mark (1), n (1), n octets                      number, type, code, pointer, count, label
 //   8 forward    as 6 with facts for the mark                               as 6
 //   9 deliver    as 7 with facts for the mark                               as 7
+//   10 read a file      n (2), n octets                                     ACCEPTED and the numbers of ports and tables, REFUSED and the
+//                                                                           place, or VERSION and the version octet
+//   11 read and write   n (2), n octets, output                             as 10 where it is not accepted; else number, count, output
+//   12 write a file     port count (1), stored (1, at most 16), that many wide ports, table count (1), stored (1, at most 8),
+//                       that many wide tables, output                       number, count, output
 //   24 bitmap    n (1), n octets                                            number, count, low and high of each run
 //
 //   label    domain (4), level (1), count (1), stored (1, at most 120), that many runs of low (2) and high (2)
@@ -21,7 +26,10 @@
 //            row count (2), stored (1, at most 64), that many rows of low (2), high (2), target low (2)
 //   mark     0 or 1, the first of the facts; the others are 0
 //   facts    five octets, each 0 or 1, in document 02's order
-//   output   length (2, at most 512), the octet that fills it (1)
+//   wide port     a port, then one octet of groups: 0 until later wishes add some
+//   wide table    from (4), to (4), level pair count (2), stored (2, at most 16), that many pairs (1 + 1),
+//                 row count (2), lent (2, at most 64), that many rows of low (2), high (2), target low (2)
+//   output   length (2, at most 512, in entries 11 and 12 at most 65535), the octet that fills it (1)
 //
 // Places that are not stored are 0. Counts are free: a count over its limit is what the entries must refuse.
 
@@ -29,6 +37,7 @@ use std::io::{self, Read, Write};
 
 use crate::decision::{deliver, forward, Decision, Facts};
 use crate::entries::Entries;
+use crate::file::{self, Refusal, SetRecord, MAX_PORTS, MAX_TABLES};
 use crate::label::{HeldLabel, Run, MAX_RUNS};
 use crate::option::{read_alone, read_bitmap_alone, spell_alone};
 use crate::records::{renumber_alone, HostRecord, PortRecord, Row, TableRecord, MAX_LEVEL_PAIRS, MAX_ROWS};
@@ -42,9 +51,13 @@ pub const FORWARD: u8 = 6;
 pub const DELIVER: u8 = 7;
 pub const FORWARD_FACTS: u8 = 8;
 pub const DELIVER_FACTS: u8 = 9;
+pub const READ_FILE: u8 = 10;
+pub const READ_AND_WRITE: u8 = 11;
+pub const WRITE_FILE: u8 = 12;
 pub const BITMAP: u8 = 24;
 
 pub const MAX_OUTPUT: usize = 512;
+pub const MAX_FILE_OUTPUT: usize = 65_535;
 pub const BROKEN: &str = "BROKEN";
 
 #[derive(Clone, Copy)]
@@ -82,6 +95,9 @@ pub enum Case {
     Deliver(Box<DeliverCase>),
     ForwardFacts(Box<ForwardCase>),
     DeliverFacts(Box<DeliverCase>),
+    ReadFile(Vec<u8>),
+    ReadAndWrite(Vec<u8>, Output),
+    WriteFile(Box<SetRecord>, Output),
     Bitmap(Vec<u8>),
 }
 
@@ -162,7 +178,7 @@ impl<'a> Fields<'a> {
 
     fn table(&mut self) -> Option<TableRecord> {
         let mut table = TableRecord { from: self.four()?, to: self.four()?, ..TableRecord::ALL_ZERO };
-        table.level_count = self.one()?;
+        table.level_count = self.one()? as u16;
         for place in 0..self.stored(MAX_LEVEL_PAIRS)? {
             table.levels[place] = [self.one()?, self.one()?];
         }
@@ -174,11 +190,58 @@ impl<'a> Fields<'a> {
     }
 
     fn output(&mut self) -> Option<Output> {
+        self.output_up_to(MAX_OUTPUT)
+    }
+
+    fn output_up_to(&mut self, limit: usize) -> Option<Output> {
         let length = self.two()? as usize;
-        if length > MAX_OUTPUT {
+        if length > limit {
             return None;
         }
         Some(Output { length, fill: self.one()? })
+    }
+
+    fn long_octets(&mut self) -> Option<Vec<u8>> {
+        let count = self.two()? as usize;
+        self.octets(count).map(|octets| octets.to_vec())
+    }
+
+    /// "A group that is not built yet doesn't parse", and none is.
+    fn wide_port(&mut self) -> Option<PortRecord> {
+        let port = self.port()?;
+        if self.one()? != 0 {
+            return None;
+        }
+        Some(port)
+    }
+
+    fn long_stored(&mut self, limit: usize) -> Option<usize> {
+        self.two().map(|stored| stored as usize).filter(|stored| *stored <= limit)
+    }
+
+    fn wide_table(&mut self) -> Option<TableRecord> {
+        let mut table = TableRecord { from: self.four()?, to: self.four()?, ..TableRecord::ALL_ZERO };
+        table.level_count = self.two()?;
+        for place in 0..self.long_stored(MAX_LEVEL_PAIRS)? {
+            table.levels[place] = [self.one()?, self.one()?];
+        }
+        table.row_count = self.two()?;
+        for place in 0..self.long_stored(MAX_ROWS)? {
+            table.rows[place] = Row { low: self.two()?, high: self.two()?, target_low: self.two()? };
+        }
+        Some(table)
+    }
+
+    fn set(&mut self) -> Option<SetRecord> {
+        let mut set = SetRecord { port_count: self.one()?, ..SetRecord::empty() };
+        for place in 0..self.stored(MAX_PORTS)? {
+            set.ports[place] = self.wide_port()?;
+        }
+        set.table_count = self.one()?;
+        for place in 0..self.stored(MAX_TABLES)? {
+            set.tables[place] = self.wide_table()?;
+        }
+        Some(set)
     }
 
     fn forward(&mut self, facts: impl Fn(&mut Self) -> Option<Facts>) -> Option<ForwardCase> {
@@ -214,6 +277,9 @@ pub fn parse(octets: &[u8], entries: &Entries) -> Option<Case> {
         DELIVER => Case::Deliver(Box::new(fields.deliver(Fields::mark)?)),
         FORWARD_FACTS => Case::ForwardFacts(Box::new(fields.forward(Fields::facts)?)),
         DELIVER_FACTS => Case::DeliverFacts(Box::new(fields.deliver(Fields::facts)?)),
+        READ_FILE => Case::ReadFile(fields.long_octets()?),
+        READ_AND_WRITE => Case::ReadAndWrite(fields.long_octets()?, fields.output_up_to(MAX_FILE_OUTPUT)?),
+        WRITE_FILE => Case::WriteFile(Box::new(fields.set()?), fields.output_up_to(MAX_FILE_OUTPUT)?),
         BITMAP => Case::Bitmap(fields.counted_octets()?),
         _ => return None,
     };
@@ -270,21 +336,15 @@ impl Encoder {
     fn table(&mut self, table: &TableRecord) {
         self.four(table.from);
         self.four(table.to);
-        let needed = table.levels.iter().rposition(|pair| *pair != [0, 0]).map_or(0, |last| last + 1);
-        let stored = self.stored(needed, MAX_LEVEL_PAIRS);
-        self.octets.extend([table.level_count, stored as u8]);
+        let stored = self.stored(table.pairs_needed(), MAX_LEVEL_PAIRS);
+        self.octets.extend([table.level_count as u8, stored as u8]);
         for pair in &table.levels[..stored] {
             self.octets.extend(pair);
         }
-        let needed = table.rows.iter().rposition(|row| *row != Row::ZERO).map_or(0, |last| last + 1);
-        let stored = self.stored(needed, MAX_ROWS);
+        let stored = self.stored(table.rows_needed(), MAX_ROWS);
         self.two(table.row_count);
         self.octets.push(stored as u8);
-        for row in &table.rows[..stored] {
-            self.two(row.low);
-            self.two(row.high);
-            self.two(row.target_low);
-        }
+        self.rows(&table.rows[..stored]);
     }
 
     fn counted_octets(&mut self, octets: &[u8]) {
@@ -295,6 +355,51 @@ impl Encoder {
     fn output(&mut self, output: Output) {
         self.two(output.length as u16);
         self.octets.push(output.fill);
+    }
+
+    fn long_octets(&mut self, octets: &[u8]) {
+        self.two(octets.len() as u16);
+        self.octets.extend(octets);
+    }
+
+    fn wide_port(&mut self, port: &PortRecord) {
+        self.port(port);
+        self.octets.push(0);
+    }
+
+    fn wide_table(&mut self, table: &TableRecord) {
+        self.four(table.from);
+        self.four(table.to);
+        let (pairs, rows) = (self.stored(table.pairs_needed(), MAX_LEVEL_PAIRS), self.stored(table.rows_needed(), MAX_ROWS));
+        self.two(table.level_count);
+        self.two(pairs as u16);
+        self.octets.extend(table.levels[..pairs].concat());
+        self.two(table.row_count);
+        self.two(rows as u16);
+        self.rows(&table.rows[..rows]);
+    }
+
+    fn rows(&mut self, rows: &[Row]) {
+        for row in rows {
+            self.two(row.low);
+            self.two(row.high);
+            self.two(row.target_low);
+        }
+    }
+
+    fn set(&mut self, set: &SetRecord) {
+        let needed = set.ports.iter().rposition(|port| *port != PortRecord::ALL_ZERO).map_or(0, |last| last + 1);
+        let stored = self.stored(needed, MAX_PORTS);
+        self.octets.extend([set.port_count, stored as u8]);
+        for port in &set.ports[..stored] {
+            self.wide_port(port);
+        }
+        let needed = set.tables.iter().rposition(|table| *table != TableRecord::ALL_ZERO).map_or(0, |last| last + 1);
+        let stored = self.stored(needed, MAX_TABLES);
+        self.octets.extend([set.table_count, stored as u8]);
+        for table in &set.tables[..stored] {
+            self.wide_table(table);
+        }
     }
 
     fn flags(&mut self, flags: &[bool]) {
@@ -362,6 +467,20 @@ pub fn encode(case: &Case, spare: usize) -> Vec<u8> {
             encoder.octets.push(DELIVER_FACTS);
             encoder.deliver(case, &case.facts.listed());
         }
+        Case::ReadFile(octets) => {
+            encoder.octets.push(READ_FILE);
+            encoder.long_octets(octets);
+        }
+        Case::ReadAndWrite(octets, output) => {
+            encoder.octets.push(READ_AND_WRITE);
+            encoder.long_octets(octets);
+            encoder.output(*output);
+        }
+        Case::WriteFile(set, output) => {
+            encoder.octets.push(WRITE_FILE);
+            encoder.set(set);
+            encoder.output(*output);
+        }
         Case::Bitmap(octets) => {
             encoder.octets.push(BITMAP);
             encoder.counted_octets(octets);
@@ -413,6 +532,28 @@ impl Line {
         } else {
             self.word(&hex(output));
         }
+    }
+
+    fn refusal(&mut self, refusal: Refusal) {
+        match refusal {
+            Refusal::Place(place) => {
+                self.word("REFUSED");
+                self.number(place);
+            }
+            Refusal::Version(version) => {
+                self.word("VERSION");
+                self.number(version as usize);
+            }
+        }
+    }
+
+    /// What the writer of files answers, and the output that it leaves.
+    fn written(&mut self, set: &SetRecord, output: Output) {
+        let mut octets = vec![output.fill; output.length];
+        let (number, count) = file::write(set, &mut octets);
+        self.number(number as usize);
+        self.number(count);
+        self.output(&octets);
     }
 
     fn decision(&mut self, decision: &Decision) {
@@ -480,6 +621,19 @@ pub fn answer(case: &Case) -> String {
             let decision = deliver(&case.port, &case.host, &case.facts, &case.area);
             line.decision(&decision);
         }
+        Case::ReadFile(octets) => match file::read(octets) {
+            Ok(set) => {
+                line.word("ACCEPTED");
+                line.number(set.port_count as usize);
+                line.number(set.table_count as usize);
+            }
+            Err(refusal) => line.refusal(refusal),
+        },
+        Case::ReadAndWrite(octets, output) => match file::read(octets) {
+            Ok(set) => line.written(&set, *output),
+            Err(refusal) => line.refusal(refusal),
+        },
+        Case::WriteFile(set, output) => line.written(set, *output),
         Case::Bitmap(octets) => {
             let (number, runs) = read_bitmap_alone(octets);
             line.number(number as usize);

@@ -4,7 +4,7 @@
 //   records               port, host, table          area       the options area
 //   decision              forward and deliver        cases      calls read from octets, answered in lines
 //   sample                the sample program's job   fast       the same answers, written for speed
-//   entries               which calls are built
+//   file                  the house file            entries    which calls are built
 //
 // The other files generate cases and compare answers.
 
@@ -16,6 +16,7 @@ mod differ;
 mod entries;
 mod fast;
 mod fastcheck;
+mod file;
 mod generator;
 mod label;
 mod option;

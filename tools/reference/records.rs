@@ -29,6 +29,9 @@ pub struct Port {
 }
 
 impl PortRecord {
+    pub const ALL_ZERO: PortRecord =
+        PortRecord { domain: 0, lowest: HeldLabel::ALL_ZERO, highest: HeldLabel::ALL_ZERO, required: false, assigned: HeldLabel::ALL_ZERO };
+
     /// "Sound: nonzero domain, all labels used are well formed and of that domain, lowest ≤ highest. If a label isn't required, the
     /// assigned label is in range; if it is required, the assigned label is all zero."
     pub fn sound(&self) -> Option<Port> {
@@ -119,7 +122,7 @@ impl Row {
 pub struct TableRecord {
     pub from: u32,
     pub to: u32,
-    pub level_count: u8,
+    pub level_count: u16,
     pub levels: [[u8; 2]; MAX_LEVEL_PAIRS],
     pub row_count: u16,
     pub rows: [Row; MAX_ROWS],
@@ -136,6 +139,15 @@ pub struct Table {
 impl TableRecord {
     pub const ALL_ZERO: TableRecord =
         TableRecord { from: 0, to: 0, level_count: 0, levels: [[0, 0]; MAX_LEVEL_PAIRS], row_count: 0, rows: [Row::ZERO; MAX_ROWS] };
+
+    /// The places up to the last one that is not zero.
+    pub fn pairs_needed(&self) -> usize {
+        self.levels.iter().rposition(|pair| *pair != [0, 0]).map_or(0, |last| last + 1)
+    }
+
+    pub fn rows_needed(&self) -> usize {
+        self.rows.iter().rposition(|row| *row != Row::ZERO).map_or(0, |last| last + 1)
+    }
 
     /// "from and to domain, neither 0; [...] Counts keep to their limits, unused places are 0".
     pub fn sound(&self) -> Option<Table> {

@@ -1,15 +1,17 @@
 // Cases that don't parse.
 
 use crate::cases::{
-    encode, Case, Encoder, Output, BITMAP, CONTAINS, DELIVER, DELIVER_FACTS, FORWARD, FORWARD_FACTS, MAX_OUTPUT, READ, RENUMBER, SPELL,
-    WITHIN,
+    encode, Case, Encoder, Output, BITMAP, CONTAINS, DELIVER, DELIVER_FACTS, FORWARD, FORWARD_FACTS, MAX_OUTPUT, READ, READ_AND_WRITE,
+    READ_FILE, RENUMBER, SPELL, WITHIN, WRITE_FILE,
 };
 use crate::entries::Entries;
+use crate::file::SetRecord;
 use crate::label::HeldLabel;
 
 use super::bitmaps::bitmap_read;
 use super::deliver::delivered;
 use super::drafts::*;
+use super::files::{file_rule_broken, file_written, rich_set, set_written};
 use super::forward::forwarded;
 use super::labels::{contains_yes, renumbered, spelled, within_yes};
 use super::random::Random;
@@ -27,6 +29,9 @@ const GOOD: &[(u8, Maker)] = &[
     (DELIVER, delivered),
     (FORWARD_FACTS, forwarded),
     (DELIVER_FACTS, delivered),
+    (READ_FILE, file_rule_broken),
+    (READ_AND_WRITE, file_written),
+    (WRITE_FILE, set_written),
     (BITMAP, bitmap_read),
 ];
 
@@ -39,7 +44,8 @@ pub fn any_case(random: &mut Random, entries: &Entries) -> Vec<u8> {
 
 /// Ways in which cases of the later entries are broken.
 type Way = fn(&mut Random, usize) -> Vec<u8>;
-const LATER_WAYS: &[(u8, Way)] = &[(FORWARD_FACTS, bad_fact_forward), (DELIVER_FACTS, bad_fact_deliver)];
+const LATER_WAYS: &[(u8, Way)] =
+    &[(FORWARD_FACTS, bad_fact_forward), (DELIVER_FACTS, bad_fact_deliver), (WRITE_FILE, bad_group), (WRITE_FILE, stored_set)];
 
 /// One of the five facts is neither 0 nor 1.
 fn bad_fact_forward(random: &mut Random, round: usize) -> Vec<u8> {
@@ -57,6 +63,41 @@ fn bad_fact_deliver(random: &mut Random, round: usize) -> Vec<u8> {
     let mut octets = encode(&Case::DeliverFacts(Box::new(case)), 0);
     let fact = octets.len() - after - 1 - round % 5;
     octets[fact] = [2, 255, 3, 128][round % 4];
+    octets
+}
+
+/// Groups of port fields that are not there yet, in the first or the last port.
+fn bad_group(random: &mut Random, round: usize) -> Vec<u8> {
+    let mut set = rich_set(random);
+    (set.table_count, set.tables) = (0, SetRecord::empty().tables);
+    let port = set.ports[0].clone();
+    let mut octets = encode(&Case::WriteFile(Box::new(set), Output { length: 40, fill: 0 }), 0);
+    let group = if round % 2 == 0 {
+        let mut first = Encoder { octets: Vec::new(), spare: 0 };
+        first.port(&port);
+        3 + first.octets.len()
+    } else {
+        octets.len() - 6
+    };
+    octets[group] = [1, 2, 4, 8, 15, 16, 255][round % 7];
+    octets
+}
+
+/// A set with that many stored ports, tables, level pairs and rows, each over its limit in turn, though all octets are there.
+fn stored_set(_random: &mut Random, round: usize) -> Vec<u8> {
+    let over = |way: usize, limit: usize| if round % 4 == way { limit + 1 + round / 4 % 2 } else { 1 };
+    let (ports, tables, pairs, rows) = (over(0, 16), over(1, 8), over(2, 16), over(3, 64));
+    let mut octets = vec![WRITE_FILE, 0, ports as u8];
+    octets.extend(vec![0; ports * (4 + 3 * 7 + 1 + 1)]);
+    octets.extend([0, tables as u8]);
+    for _ in 0..tables {
+        octets.extend(vec![0; 10]);
+        octets.extend((pairs as u16).to_be_bytes());
+        octets.extend(vec![0; 2 * pairs + 2]);
+        octets.extend((rows as u16).to_be_bytes());
+        octets.extend(vec![0; 6 * rows]);
+    }
+    octets.extend([0, 40, 0]);
     octets
 }
 

@@ -166,7 +166,7 @@ pub fn forward_draft(random: &mut Random, wish: &Wish) -> ForwardDraft {
             // It isn't read, and may be anything.
             TableRecord {
                 from: random.next() as u32,
-                level_count: random.octet(),
+                level_count: random.octet() as u16,
                 row_count: random.next() as u16,
                 ..TableRecord::ALL_ZERO
             }

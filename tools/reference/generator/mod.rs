@@ -4,16 +4,17 @@
 // the reference gives that answer. So every number of every entry is hit often, whatever the seed. Slots for unsound records and
 // ill-formed labels take the clauses in turn.
 //
-//   labels, reading, bitmaps, forward, deliver, broken     cases of one kind each
-//   sets, spellings, ranges, tables, drafts                good parts of cases
-//   unsound, faults                                        ways to spoil them
-//   sample_records                                         records for the sample program
+//   labels, reading, bitmaps, files, forward, deliver, broken     cases of one kind each
+//   sets, spellings, ranges, tables, drafts                       good parts of cases
+//   unsound, faults                                               ways to spoil them
+//   sample_records                                                records for the sample program
 
 mod bitmaps;
 mod broken;
 mod deliver;
 mod drafts;
 mod faults;
+mod files;
 mod forward;
 mod labels;
 mod random;
@@ -29,7 +30,8 @@ use std::collections::BTreeMap;
 use std::io::{self, Write};
 
 use crate::cases::{
-    encode, line_of, Case, BITMAP, BROKEN, CONTAINS, DELIVER, DELIVER_FACTS, FORWARD, FORWARD_FACTS, READ, RENUMBER, SPELL, WITHIN,
+    encode, line_of, Case, BITMAP, BROKEN, CONTAINS, DELIVER, DELIVER_FACTS, FORWARD, FORWARD_FACTS, READ, READ_AND_WRITE, READ_FILE,
+    RENUMBER, SPELL, WITHIN, WRITE_FILE,
 };
 use crate::decision::Facts;
 use crate::entries::Entries;
@@ -37,10 +39,12 @@ use crate::entries::Entries;
 use bitmaps::*;
 use broken::*;
 use deliver::*;
+use files::*;
 use forward::*;
 use labels::*;
 use reading::*;
 
+pub use files::{agree, break_range, largest_set, rich_set, sound_set, Layout, RULED};
 pub use random::Random;
 pub use spellings::random_option;
 
@@ -63,6 +67,9 @@ const ANSWERS: &[(u8, &str, &[&str])] = &[
     (DELIVER, "deliver", DELIVER_ANSWERS),
     (FORWARD_FACTS, "forward", FORWARD_ANSWERS),
     (DELIVER_FACTS, "deliver", DELIVER_ANSWERS),
+    (READ_FILE, "read a file", &["ACCEPTED", "REFUSED", "VERSION"]),
+    (READ_AND_WRITE, "read and write", &["0", "1", "REFUSED", "VERSION"]),
+    (WRITE_FILE, "write a file", &["0", "1", "2"]),
     (BITMAP, "bitmap", &["0", "10"]),
 ];
 
@@ -212,6 +219,20 @@ fn all_slots() -> Vec<Slot> {
         slot(DELIVER_FACTS, 1, "13", deliver_broken),
         slot(DELIVER_FACTS, 1, "14", deliver_broken),
         slot(DELIVER_FACTS, 1, "15", deliver_broken),
+        slot(READ_FILE, 2, "ACCEPTED", file_accepted),
+        slot(READ_FILE, 3, "REFUSED", file_rule_broken),
+        slot(READ_FILE, 2, "REFUSED", file_rules_broken),
+        slot(READ_FILE, 3, "REFUSED", file_cut),
+        slot(READ_FILE, 1, "REFUSED", file_length_wrong),
+        slot(READ_FILE, 1, "VERSION", file_version),
+        free_slot(READ_FILE, 2, file_changed),
+        slot(READ_AND_WRITE, 1, "0", file_written),
+        slot(READ_AND_WRITE, 1, "1", file_written_short),
+        slot(READ_AND_WRITE, 1, "REFUSED", file_not_written),
+        slot(READ_AND_WRITE, 1, "VERSION", file_not_written_version),
+        slot(WRITE_FILE, 1, "0", set_written),
+        slot(WRITE_FILE, 1, "1", set_written_short),
+        slot(WRITE_FILE, 3, "2", set_unsound),
         slot(BITMAP, 3, "0", bitmap_read),
         slot(BITMAP, 1, "10", bitmap_long),
     ]

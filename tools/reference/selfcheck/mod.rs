@@ -1,5 +1,7 @@
 // Checks of the reference itself: document 01's "Numbers to try", its sample lines, and the points that are easy to misread.
 
+mod files;
+
 use crate::cases::{self, hex};
 use crate::decision::{deliver, forward, Decision, Facts};
 use crate::entries::Entries;
@@ -357,6 +359,7 @@ pub fn run() -> bool {
     deliveries(&mut tally);
     silences(&mut tally);
     bitmaps(&mut tally);
+    files::files(&mut tally);
     walks(&mut tally);
     parsing(&mut tally);
     spellings(&mut tally);
