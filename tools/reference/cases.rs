@@ -17,6 +17,7 @@
 //   11 read and write   n (2), n octets, output                             as 10 where it is not accepted; else number, count, output
 //   12 write a file     port count (1), stored (1, at most 16), that many wide ports, table count (1), stored (1, at most 8),
 //                       that many wide tables, output                       number, count, output
+//   22 reverse          wide table, room (2, at most 1024 rows)             number, from, to, pair count, each pair, row count, each row
 //   24 bitmap    n (1), n octets                                            number, count, low and high of each run
 //
 //   label    domain (4), level (1), count (1), stored (1, at most 120), that many runs of low (2) and high (2)
@@ -40,7 +41,7 @@ use crate::entries::Entries;
 use crate::file::{self, Refusal, SetRecord, MAX_PORTS, MAX_TABLES};
 use crate::label::{HeldLabel, Run, MAX_RUNS};
 use crate::option::{read_alone, read_bitmap_alone, spell_alone};
-use crate::records::{renumber_alone, HostRecord, PortRecord, Row, TableRecord, MAX_LEVEL_PAIRS, MAX_ROWS};
+use crate::records::{renumber_alone, reverse, HostRecord, PortRecord, Row, TableRecord, MAX_LEVEL_PAIRS, MAX_ROWS};
 
 pub const CONTAINS: u8 = 1;
 pub const WITHIN: u8 = 2;
@@ -54,10 +55,13 @@ pub const DELIVER_FACTS: u8 = 9;
 pub const READ_FILE: u8 = 10;
 pub const READ_AND_WRITE: u8 = 11;
 pub const WRITE_FILE: u8 = 12;
+pub const REVERSE: u8 = 22;
 pub const BITMAP: u8 = 24;
 
 pub const MAX_OUTPUT: usize = 512;
 pub const MAX_FILE_OUTPUT: usize = 65_535;
+/// Rows that are lent for a reverse table.
+pub const MAX_ROOM: usize = 1024;
 pub const BROKEN: &str = "BROKEN";
 
 #[derive(Clone, Copy)]
@@ -98,6 +102,7 @@ pub enum Case {
     ReadFile(Vec<u8>),
     ReadAndWrite(Vec<u8>, Output),
     WriteFile(Box<SetRecord>, Output),
+    Reverse(TableRecord, usize),
     Bitmap(Vec<u8>),
 }
 
@@ -280,6 +285,7 @@ pub fn parse(octets: &[u8], entries: &Entries) -> Option<Case> {
         READ_FILE => Case::ReadFile(fields.long_octets()?),
         READ_AND_WRITE => Case::ReadAndWrite(fields.long_octets()?, fields.output_up_to(MAX_FILE_OUTPUT)?),
         WRITE_FILE => Case::WriteFile(Box::new(fields.set()?), fields.output_up_to(MAX_FILE_OUTPUT)?),
+        REVERSE => Case::Reverse(fields.wide_table()?, fields.long_stored(MAX_ROOM)?),
         BITMAP => Case::Bitmap(fields.counted_octets()?),
         _ => return None,
     };
@@ -481,6 +487,11 @@ pub fn encode(case: &Case, spare: usize) -> Vec<u8> {
             encoder.set(set);
             encoder.output(*output);
         }
+        Case::Reverse(table, room) => {
+            encoder.octets.push(REVERSE);
+            encoder.wide_table(table);
+            encoder.two(*room as u16);
+        }
         Case::Bitmap(octets) => {
             encoder.octets.push(BITMAP);
             encoder.counted_octets(octets);
@@ -531,6 +542,21 @@ impl Line {
             self.word("-");
         } else {
             self.word(&hex(output));
+        }
+    }
+
+    fn table(&mut self, table: &TableRecord) {
+        self.number(table.from as usize);
+        self.number(table.to as usize);
+        self.number(table.level_count as usize);
+        for level in table.levels[..table.level_count as usize].iter().flatten() {
+            self.number(*level as usize);
+        }
+        self.number(table.row_count as usize);
+        for row in &table.rows[..table.row_count as usize] {
+            self.number(row.low as usize);
+            self.number(row.high as usize);
+            self.number(row.target_low as usize);
         }
     }
 
@@ -634,6 +660,14 @@ pub fn answer(case: &Case) -> String {
             Err(refusal) => line.refusal(refusal),
         },
         Case::WriteFile(set, output) => line.written(set, *output),
+        Case::Reverse(table, room) => {
+            let (number, reversed) = match reverse(table, *room) {
+                Ok(reversed) => (0, reversed),
+                Err(number) => (number, TableRecord::ALL_ZERO),
+            };
+            line.number(number as usize);
+            line.table(&reversed);
+        }
         Case::Bitmap(octets) => {
             let (number, runs) = read_bitmap_alone(octets);
             line.number(number as usize);

@@ -6,7 +6,7 @@
 pub const BUILT: &[u8] = &[1, 2, 3, 4, 5, 6, 7];
 
 /// The entries that this program knows.
-pub const KNOWN: &[u8] = &[1, 2, 3, 4, 5, 6, 7, 8, 9, 10, 11, 12, 24];
+pub const KNOWN: &[u8] = &[1, 2, 3, 4, 5, 6, 7, 8, 9, 10, 11, 12, 22, 24];
 
 #[derive(Clone)]
 pub struct Entries {

@@ -207,6 +207,25 @@ impl Table {
     }
 }
 
+/// Document 02, wish 11: "the reverse table, each row turned round: [...] an unsound table is 2, then short lent room 24". The rows are in
+/// the order of their new sources. The error is the number.
+pub fn reverse(record: &TableRecord, room: usize) -> Result<TableRecord, u8> {
+    let table = record.sound().ok_or(2)?;
+    if room < table.rows.len() {
+        return Err(24);
+    }
+    let turned = |row: &Row| Row { low: row.target_low, high: row.target_high() as u16, target_low: row.low };
+    let mut rows: Vec<Row> = table.rows.iter().map(turned).collect();
+    rows.sort_by_key(|row| row.low);
+    let mut reversed = TableRecord { from: table.to, to: table.from, ..TableRecord::ALL_ZERO };
+    (reversed.level_count, reversed.row_count) = (record.level_count, record.row_count);
+    for (place, [source, target]) in table.levels.iter().enumerate() {
+        reversed.levels[place] = [*target, *source];
+    }
+    reversed.rows[..rows.len()].copy_from_slice(&rows);
+    Ok(reversed)
+}
+
 /// "Renumbering gives 2 (for an unsound table too), then 16 (also for a foreign domain), then 18 over 120 runs. [...] These refusals
 /// come with an all-zero label".
 pub fn renumber_alone(held: &HeldLabel, table: &TableRecord) -> (u8, HeldLabel) {

@@ -1,8 +1,8 @@
 // Cases that don't parse.
 
 use crate::cases::{
-    encode, Case, Encoder, Output, BITMAP, CONTAINS, DELIVER, DELIVER_FACTS, FORWARD, FORWARD_FACTS, MAX_OUTPUT, READ, READ_AND_WRITE,
-    READ_FILE, RENUMBER, SPELL, WITHIN, WRITE_FILE,
+    encode, Case, Encoder, Output, BITMAP, CONTAINS, DELIVER, DELIVER_FACTS, FORWARD, FORWARD_FACTS, MAX_OUTPUT, MAX_ROOM, READ,
+    READ_AND_WRITE, READ_FILE, RENUMBER, REVERSE, SPELL, WITHIN, WRITE_FILE,
 };
 use crate::entries::Entries;
 use crate::file::SetRecord;
@@ -16,6 +16,7 @@ use super::forward::forwarded;
 use super::labels::{contains_yes, renumbered, spelled, within_yes};
 use super::random::Random;
 use super::reading::read_valid;
+use super::reverse::reversed;
 use super::{octets_of, with_facts, Made, Maker};
 
 /// A maker of good cases for each entry.
@@ -32,6 +33,7 @@ const GOOD: &[(u8, Maker)] = &[
     (READ_FILE, file_rule_broken),
     (READ_AND_WRITE, file_written),
     (WRITE_FILE, set_written),
+    (REVERSE, reversed),
     (BITMAP, bitmap_read),
 ];
 
@@ -44,8 +46,13 @@ pub fn any_case(random: &mut Random, entries: &Entries) -> Vec<u8> {
 
 /// Ways in which cases of the later entries are broken.
 type Way = fn(&mut Random, usize) -> Vec<u8>;
-const LATER_WAYS: &[(u8, Way)] =
-    &[(FORWARD_FACTS, bad_fact_forward), (DELIVER_FACTS, bad_fact_deliver), (WRITE_FILE, bad_group), (WRITE_FILE, stored_set)];
+const LATER_WAYS: &[(u8, Way)] = &[
+    (FORWARD_FACTS, bad_fact_forward),
+    (DELIVER_FACTS, bad_fact_deliver),
+    (WRITE_FILE, bad_group),
+    (WRITE_FILE, stored_set),
+    (REVERSE, long_room),
+];
 
 /// One of the five facts is neither 0 nor 1.
 fn bad_fact_forward(random: &mut Random, round: usize) -> Vec<u8> {
@@ -98,6 +105,19 @@ fn stored_set(_random: &mut Random, round: usize) -> Vec<u8> {
         octets.extend(vec![0; 6 * rows]);
     }
     octets.extend([0, 40, 0]);
+    octets
+}
+
+/// Room for more than 1024 rows, and tables with too much stored or lent.
+fn long_room(_random: &mut Random, round: usize) -> Vec<u8> {
+    let over = |way: usize, limit: usize| if round % 3 == way { limit + 1 } else { 0 };
+    let (pairs, rows, room) = (over(1, 16), over(2, 64), over(0, [MAX_ROOM, 65_534, MAX_ROOM + 1][round / 3 % 3]));
+    let mut octets = vec![REVERSE, 0, 0, 0, 5, 0, 0, 0, 9, 0, 0];
+    octets.extend((pairs as u16).to_be_bytes());
+    octets.extend(vec![0; 2 * pairs + 2]);
+    octets.extend((rows as u16).to_be_bytes());
+    octets.extend(vec![0; 6 * rows]);
+    octets.extend((room as u16).to_be_bytes());
     octets
 }
 

@@ -24,7 +24,7 @@ fn small_port(random: &mut Random) -> PortRecord {
     port_around(random, &label, false, false)
 }
 
-fn small_table(random: &mut Random) -> TableRecord {
+pub fn small_table(random: &mut Random) -> TableRecord {
     let (domain, shape) = (random_domain(random), random_shape(random));
     let label = random_label(random, domain, shape);
     let (to, targets) = (random_domain(random), random.pick(&[Targets::Small, Targets::Anywhere, Targets::High, Targets::Parted]));
@@ -57,7 +57,7 @@ fn port_of_most_runs(random: &mut Random) -> PortRecord {
 }
 
 /// A table with 16 level pairs and 64 rows.
-fn fullest_table(random: &mut Random) -> TableRecord {
+pub fn fullest_table(random: &mut Random) -> TableRecord {
     let (domain, to) = (random_domain(random), random_domain(random));
     let shape = random.pick(&[Shape::Many, Shape::All, Shape::Bitmap]);
     let targets = random.pick(&[Targets::Anywhere, Targets::Small, Targets::Parted]);

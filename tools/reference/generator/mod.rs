@@ -4,10 +4,10 @@
 // the reference gives that answer. So every number of every entry is hit often, whatever the seed. Slots for unsound records and
 // ill-formed labels take the clauses in turn.
 //
-//   labels, reading, bitmaps, files, forward, deliver, broken     cases of one kind each
-//   sets, spellings, ranges, tables, drafts                       good parts of cases
-//   unsound, faults                                               ways to spoil them
-//   sample_records                                                records for the sample program
+//   labels, reading, bitmaps, files, reverse, forward, deliver, broken     cases of one kind each
+//   sets, spellings, ranges, tables, drafts     good parts of cases
+//   unsound, faults                             ways to spoil them
+//   sample_records                              records for the sample program
 
 mod bitmaps;
 mod broken;
@@ -20,6 +20,7 @@ mod labels;
 mod random;
 mod ranges;
 mod reading;
+mod reverse;
 pub mod sample_records;
 mod sets;
 mod spellings;
@@ -31,7 +32,7 @@ use std::io::{self, Write};
 
 use crate::cases::{
     encode, line_of, Case, BITMAP, BROKEN, CONTAINS, DELIVER, DELIVER_FACTS, FORWARD, FORWARD_FACTS, READ, READ_AND_WRITE, READ_FILE,
-    RENUMBER, SPELL, WITHIN, WRITE_FILE,
+    RENUMBER, REVERSE, SPELL, WITHIN, WRITE_FILE,
 };
 use crate::decision::Facts;
 use crate::entries::Entries;
@@ -43,8 +44,10 @@ use files::*;
 use forward::*;
 use labels::*;
 use reading::*;
+use reverse::*;
 
 pub use files::{agree, break_range, largest_set, rich_set, sound_set, Layout, RULED};
+pub use labels::random_label_and_table;
 pub use random::Random;
 pub use spellings::random_option;
 
@@ -70,6 +73,7 @@ const ANSWERS: &[(u8, &str, &[&str])] = &[
     (READ_FILE, "read a file", &["ACCEPTED", "REFUSED", "VERSION"]),
     (READ_AND_WRITE, "read and write", &["0", "1", "REFUSED", "VERSION"]),
     (WRITE_FILE, "write a file", &["0", "1", "2"]),
+    (REVERSE, "reverse", &["0", "2", "24"]),
     (BITMAP, "bitmap", &["0", "10"]),
 ];
 
@@ -233,6 +237,9 @@ fn all_slots() -> Vec<Slot> {
         slot(WRITE_FILE, 1, "0", set_written),
         slot(WRITE_FILE, 1, "1", set_written_short),
         slot(WRITE_FILE, 3, "2", set_unsound),
+        slot(REVERSE, 2, "0", reversed),
+        slot(REVERSE, 2, "2", reverse_unsound),
+        slot(REVERSE, 1, "24", reverse_short_room),
         slot(BITMAP, 3, "0", bitmap_read),
         slot(BITMAP, 1, "10", bitmap_long),
     ]

@@ -1,6 +1,7 @@
 // Checks of the reference itself: document 01's "Numbers to try", its sample lines, and the points that are easy to misread.
 
 mod files;
+mod renumbering;
 
 use crate::cases::{self, hex};
 use crate::decision::{deliver, forward, Decision, Facts};
@@ -360,6 +361,7 @@ pub fn run() -> bool {
     silences(&mut tally);
     bitmaps(&mut tally);
     files::files(&mut tally);
+    renumbering::renumbering(&mut tally);
     walks(&mut tally);
     parsing(&mut tally);
     spellings(&mut tally);
