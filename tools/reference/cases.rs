@@ -529,7 +529,7 @@ impl Line {
         self.runs(&label.places[..MAX_RUNS.min(label.count as usize)]);
     }
 
-    fn runs(&mut self, runs: &[Run]) {
+    pub fn runs(&mut self, runs: &[Run]) {
         for run in runs {
             self.number(run.low as usize);
             self.number(run.high as usize);

@@ -1,8 +1,9 @@
 // Holds the fast variant against the plain reference on generated cases of the entries that it has.
 
-use crate::cases::{hex, parse, Case, Line};
+use crate::cases::{hex, parse, Case, Line, Output};
 use crate::entries::Entries;
 use crate::fast;
+use crate::file::SetRecord;
 use crate::generator::Generator;
 use crate::label::{HeldLabel, Run};
 use crate::records::{PortRecord, TableRecord};
@@ -36,6 +37,47 @@ fn table(record: &TableRecord) -> fast::Table {
         row_count: record.row_count,
         rows: record.rows.map(|row| fast::Row { low: row.low, high: row.high, target_low: row.target_low }),
     }
+}
+
+fn set(record: &SetRecord) -> fast::file::Set {
+    let mut set = fast::file::Set { port_count: record.port_count, table_count: record.table_count, ..fast::file::Set::EMPTY };
+    for (place, record) in set.ports.iter_mut().zip(&record.ports) {
+        *place = port(record);
+    }
+    for (place, record) in set.tables.iter_mut().zip(&record.tables) {
+        *place = table(record);
+    }
+    set
+}
+
+fn read_file(octets: &[u8]) -> Result<fast::file::Set, fast::file::Refusal> {
+    let mut set = fast::file::Set::EMPTY;
+    fast::file::read_file(octets, &mut set)?;
+    Ok(set)
+}
+
+fn add_refusal(line: &mut Line, refusal: fast::file::Refusal) {
+    match refusal {
+        fast::file::Refusal::Place(place) => {
+            line.word("REFUSED");
+            line.number(place);
+        }
+        fast::file::Refusal::Version(version) => {
+            line.word("VERSION");
+            line.number(version as usize);
+        }
+    }
+}
+
+fn add_written(line: &mut Line, set: &fast::file::Set, output: Output) {
+    let mut octets = vec![output.fill; output.length];
+    let (number, count) = match fast::file::write_file(set, &mut octets) {
+        Ok(count) => (0, count),
+        Err(number) => (number, 0),
+    };
+    line.number(number as usize);
+    line.number(count);
+    line.output(&octets);
 }
 
 /// The line for a label that is returned, whose unused places must be 0 also where the line does not show them.
@@ -78,6 +120,33 @@ fn answer(case: &Case) -> Option<String> {
             }
             add_label(&mut line, &decision.label);
             line.output(&octets);
+        }
+        Case::ReadFile(octets) => match read_file(octets) {
+            Ok(read) => {
+                line.word("ACCEPTED");
+                line.number(read.port_count as usize);
+                line.number(read.table_count as usize);
+            }
+            Err(refusal) => add_refusal(&mut line, refusal),
+        },
+        Case::ReadAndWrite(octets, output) => match read_file(octets) {
+            Ok(read) => add_written(&mut line, &read, *output),
+            Err(refusal) => add_refusal(&mut line, refusal),
+        },
+        Case::WriteFile(record, output) => add_written(&mut line, &set(record), *output),
+        Case::Bitmap(octets) => {
+            let mut runs = fast::Label::ALL_ZERO.runs;
+            match fast::read_bitmap_alone(octets, &mut runs) {
+                Ok(count) => {
+                    line.number(0);
+                    line.number(count as usize);
+                    line.runs(&runs[..count as usize].iter().map(|run| Run { low: run.low, high: run.high }).collect::<Vec<_>>());
+                }
+                Err(number) => {
+                    line.number(number as usize);
+                    line.number(0);
+                }
+            }
         }
         _ => return None,
     }
