@@ -115,7 +115,7 @@ fn arrive<'a>(area: &'a [u8], port: &Port) -> Result<(Label, Walk<'a>), Fault> {
 fn decide_forward(
     arriving: &PortRecord,
     leaving: &PortRecord,
-    table: &TableRecord,
+    table: Option<&TableRecord>,
     area: &[u8],
     output_length: usize,
 ) -> Result<(Label, Vec<u8>), Fault> {
@@ -129,20 +129,21 @@ fn decide_forward(
         _ => return refuse(2),
     };
     let domains_differ = arriving.domain != leaving.domain;
-    let table = if domains_differ {
-        match table.sound() {
+    let table = match table {
+        Some(table) if domains_differ => match table.sound() {
             Some(table) => Some(table),
             None => return refuse(2),
-        }
-    } else {
-        None
+        },
+        _ => None,
     };
     // 3 to 14.
     let (label, met) = arrive(area, &arriving)?;
     // 16: "forward, domains differ: table's domains aren't the two ports', or a level or category has no number". "With equal port
     // domains the table isn't read and the label stays."
     let label = match table {
-        None => label,
+        None if !domains_differ => label,
+        // Wish 1: "no table where one is read: 16".
+        None => return refuse(16),
         Some(table) => {
             if table.from != arriving.domain || table.to != leaving.domain {
                 return refuse(16);
@@ -169,15 +170,15 @@ fn decide_forward(
 }
 
 /// "forward (gateway, two ports)". "Octets from the count to 39 are 0, octets from 40 on are unchanged." A refusal writes nothing.
-pub fn forward(
+pub fn forward<'a>(
     arriving: &PortRecord,
     leaving: &PortRecord,
-    table: &TableRecord,
+    table: impl Into<Option<&'a TableRecord>>,
     facts: &Facts,
     area: &[u8],
     output: &mut [u8],
 ) -> Decision {
-    match decide_forward(arriving, leaving, table, area, output.len()) {
+    match decide_forward(arriving, leaving, table.into(), area, output.len()) {
         Err(fault) => refused(fault, GATEWAY_CODE, facts),
         Ok((label, octets)) => {
             output[..MAX_OCTETS].fill(0);

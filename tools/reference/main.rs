@@ -33,7 +33,9 @@ const BUFFER: usize = 1 << 20;
 
 const USAGE: &str = "usage:
   reference cases [ENTRIES]                          cases from standard input, one line each
-  reference sample                                   records from standard input, one line each
+  reference sample [FILE]                            records from standard input, one line each; FILE has ports and table
+  reference sample-file NUMBER SEED FILE             writes a file for the sample: document 01's as number 0, then variants
+  reference built ENTRY                              says by its exit status whether an entry is built
   reference generate COUNT SEED CASES LINES [ENTRIES]   writes cases and their expected lines
   reference sample-records COUNT SEED RECORDS        writes records for the sample
   reference differ-cases CASES EXPECTED FOUND        shows the first difference of two files of lines
@@ -64,13 +66,18 @@ fn run(arguments: &[&str]) -> io::Result<bool> {
     let number =
         |text: &str| text.parse::<u64>().map_err(|_| io::Error::new(io::ErrorKind::InvalidInput, format!("{}: not a number", text)));
     match arguments {
-        ["cases"] | ["cases", _] | ["sample"] => {
+        ["cases"] | ["cases", _] | ["sample"] | ["sample", _] => {
             let mut input = BufReader::with_capacity(BUFFER, io::stdin().lock());
             let mut output = BufWriter::with_capacity(BUFFER, io::stdout().lock());
             if arguments[0] == "cases" {
                 cases::run(&mut input, &mut output, &entries(arguments.get(1))?)?;
             } else {
-                sample::run(&mut input, &mut output)?;
+                let sample = match arguments.get(1) {
+                    None => Some(sample::Sample::new()),
+                    // A file that is missing is as one that is refused.
+                    Some(path) => std::fs::read(path).ok().and_then(|octets| sample::Sample::of_file(&octets)),
+                };
+                sample::run(&mut input, &mut output, sample.as_ref())?;
             }
             output.flush()?;
             Ok(true)
@@ -89,6 +96,11 @@ fn run(arguments: &[&str]) -> io::Result<bool> {
             records.flush()?;
             Ok(enough)
         }
+        ["sample-file", variant, seed, path] => {
+            std::fs::write(path, generator::sample_files::variant(number(variant)? as usize, number(seed)?))?;
+            Ok(true)
+        }
+        ["built", entry] => Ok(number(entry)? < 256 && Entries::built().has(number(entry)? as u8)),
         ["differ-cases", cases, expected, found] => differ::cases(&mut reader(cases)?, &mut reader(expected)?, &mut reader(found)?),
         ["differ-sample", records, expected, found] => differ::sample(&mut reader(records)?, &mut reader(expected)?, &mut reader(found)?),
         ["selfcheck"] => Ok(selfcheck::run()),

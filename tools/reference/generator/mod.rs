@@ -21,6 +21,7 @@ mod random;
 mod ranges;
 mod reading;
 mod reverse;
+pub mod sample_files;
 pub mod sample_records;
 mod sets;
 mod spellings;

@@ -6,6 +6,7 @@ mod renumbering;
 use crate::cases::{self, hex};
 use crate::decision::{deliver, forward, Decision, Facts};
 use crate::entries::Entries;
+use crate::generator::sample_files::{variant, VARIANTS};
 use crate::generator::{random_option, Random};
 use crate::label::{HeldLabel, Label, Run, HIGHEST_CATEGORY};
 use crate::option::{read_alone, read_bitmap_alone, spell, spell_alone, CIPSO};
@@ -111,7 +112,7 @@ fn sample_line(area: &str) -> String {
 
 fn sample_lines(tally: &mut Tally) {
     let mut output = Vec::new();
-    sample::run(&mut &octets_of("0c 860c00000005020600030000 00")[..], &mut output).unwrap();
+    sample::run(&mut &octets_of("0c 860c00000005020600030000 00")[..], &mut output, Some(&sample::Sample::new())).unwrap();
     let expected = "FORWARD 12 860c000000090206000403e8\nDROP 6 12 1 134\n";
     tally.equal("the two sample lines", String::from_utf8(output).unwrap(), expected.to_string());
 
@@ -124,11 +125,47 @@ fn sample_lines(tally: &mut Tally) {
 
     let run = |input: &str| {
         let mut output = Vec::new();
-        sample::run(&mut &octets_of(input)[..], &mut output).unwrap();
+        sample::run(&mut &octets_of(input)[..], &mut output, Some(&sample::Sample::new())).unwrap();
         String::from_utf8(output).unwrap()
     };
     tally.equal("no records", run(""), String::new());
     tally.equal("a cut record", run("00 04 0101"), "DROP 6 12 1 134\nBROKEN\n".to_string());
+}
+
+/// Wish 1: the sample of a file.
+fn sample_files(tally: &mut Tally) {
+    let lines = |file: &[u8]| {
+        let mut output = Vec::new();
+        let sample = sample::Sample::of_file(file);
+        sample::run(&mut &octets_of("0c 860c00000005020600030000 00")[..], &mut output, sample.as_ref()).unwrap();
+        String::from_utf8(output).unwrap()
+    };
+    let forward = "FORWARD 12 860c000000090206000403e8\nDROP 6 12 1 134\n";
+    let broken = "BROKEN\n";
+    let no_number = "DROP 16 3 9 0\nDROP 6 12 1 134\n";
+    // The variants by their numbers: no table is 16, fewer than two ports and every refused file is one line.
+    let expected = [
+        forward,
+        no_number,
+        broken,
+        broken,
+        "FORWARD 12 860b00000005010500038000\nDROP 6 12 1 134\n",
+        no_number,
+        no_number,
+        forward,
+        forward,
+    ];
+    for (number, expected) in expected.iter().enumerate() {
+        tally.equal(&format!("sample file {}", number), lines(&variant(number, 3)), expected.to_string());
+    }
+    for number in 12..VARIANTS {
+        for seed in 0..20 {
+            tally.equal(&format!("sample file {}", number), lines(&variant(number, seed)), broken.to_string());
+        }
+    }
+    let own = variant(10, 1);
+    let line = sample::Sample::of_file(&own).map(|sample| sample.line_of(&[]));
+    tally.equal("the assigned label of a file", line, Some("FORWARD 16 861000000009050a0004044b03e800c8".to_string()));
 }
 
 /// A port without a required label whose range is everything in its domain.
@@ -353,6 +390,7 @@ pub fn run() -> bool {
     let mut tally = Tally { passed: 0, failed: 0 };
     numbers_to_try(&mut tally);
     sample_lines(&mut tally);
+    sample_files(&mut tally);
     room(&mut tally);
     over_large(&mut tally);
     reading(&mut tally);
