@@ -388,13 +388,13 @@ pub fn file_length_wrong(random: &mut Random, turn: usize, _number: u8) -> Made 
             octets[VERSION_AT] = random.pick(&[0, 2, 3, 255]);
             octets[1] = octets[1].wrapping_add(1);
         }
-        10 => octets[0] = octets[0].wrapping_add(random.between(1, 255) as u8),
         // A length over the limit comes after the version and before all else; at the limit it is no fault.
-        _ if turn % 48 == 11 => {
-            let length = [MAX_FILE + 1, MAX_FILE, LONGEST, MAX_FILE + 2][turn / 48 % 4];
+        10 | 11 if turn % 48 < 12 => {
+            let length = if turn % 2 == 0 { MAX_FILE } else { [MAX_FILE + 1, LONGEST, MAX_FILE + 2][turn / 48 % 3] };
             octets.resize(length, 0);
             agree(&mut octets);
         }
+        10 => octets[0] = octets[0].wrapping_add(random.between(1, 255) as u8),
         _ => octets[..2].copy_from_slice(&(random.next() as u16).to_be_bytes()),
     }
     Made::Case(Case::ReadFile(octets))
