@@ -1,10 +1,15 @@
 // Checks of the reference itself: document 01's "Numbers to try", its sample lines, and the points that are easy to misread.
 
+mod files;
+mod renumbering;
+
 use crate::cases::{self, hex};
-use crate::decision::{deliver, forward, Decision};
+use crate::decision::{deliver, forward, Decision, Facts};
+use crate::entries::Entries;
+use crate::generator::sample_files::{variant, VARIANTS};
 use crate::generator::{random_option, Random};
 use crate::label::{HeldLabel, Label, Run, HIGHEST_CATEGORY};
-use crate::option::{read_alone, spell, spell_alone, CIPSO};
+use crate::option::{read_alone, read_bitmap_alone, spell, spell_alone, CIPSO};
 use crate::records::{renumber_alone, HostRecord, PortRecord, Row, TableRecord};
 use crate::sample;
 
@@ -107,7 +112,7 @@ fn sample_line(area: &str) -> String {
 
 fn sample_lines(tally: &mut Tally) {
     let mut output = Vec::new();
-    sample::run(&mut &octets_of("0c 860c00000005020600030000 00")[..], &mut output).unwrap();
+    sample::run(&mut &octets_of("0c 860c00000005020600030000 00")[..], &mut output, Some(&sample::Sample::new())).unwrap();
     let expected = "FORWARD 12 860c000000090206000403e8\nDROP 6 12 1 134\n";
     tally.equal("the two sample lines", String::from_utf8(output).unwrap(), expected.to_string());
 
@@ -120,11 +125,47 @@ fn sample_lines(tally: &mut Tally) {
 
     let run = |input: &str| {
         let mut output = Vec::new();
-        sample::run(&mut &octets_of(input)[..], &mut output).unwrap();
+        sample::run(&mut &octets_of(input)[..], &mut output, Some(&sample::Sample::new())).unwrap();
         String::from_utf8(output).unwrap()
     };
     tally.equal("no records", run(""), String::new());
     tally.equal("a cut record", run("00 04 0101"), "DROP 6 12 1 134\nBROKEN\n".to_string());
+}
+
+/// Wish 1: the sample of a file.
+fn sample_files(tally: &mut Tally) {
+    let lines = |file: &[u8]| {
+        let mut output = Vec::new();
+        let sample = sample::Sample::of_file(file);
+        sample::run(&mut &octets_of("0c 860c00000005020600030000 00")[..], &mut output, sample.as_ref()).unwrap();
+        String::from_utf8(output).unwrap()
+    };
+    let forward = "FORWARD 12 860c000000090206000403e8\nDROP 6 12 1 134\n";
+    let broken = "BROKEN\n";
+    let no_number = "DROP 16 3 9 0\nDROP 6 12 1 134\n";
+    // The variants by their numbers: no table is 16, fewer than two ports and every refused file is one line.
+    let expected = [
+        forward,
+        no_number,
+        broken,
+        broken,
+        "FORWARD 12 860b00000005010500038000\nDROP 6 12 1 134\n",
+        no_number,
+        no_number,
+        forward,
+        forward,
+    ];
+    for (number, expected) in expected.iter().enumerate() {
+        tally.equal(&format!("sample file {}", number), lines(&variant(number, 3)), expected.to_string());
+    }
+    for number in 12..VARIANTS {
+        for seed in 0..20 {
+            tally.equal(&format!("sample file {}", number), lines(&variant(number, seed)), broken.to_string());
+        }
+    }
+    let own = variant(10, 1);
+    let line = sample::Sample::of_file(&own).map(|sample| sample.line_of(&[]));
+    tally.equal("the assigned label of a file", line, Some("FORWARD 16 861000000009050a0004044b03e800c8".to_string()));
 }
 
 /// A port without a required label whose range is everything in its domain.
@@ -150,14 +191,14 @@ fn forwarded(decision: &Decision) -> (u8, u8, u8, u8, usize) {
 fn room(tally: &mut Tally) {
     let port = open_port(5, HeldLabel::empty(5, 3));
     let mut output = [FILL; 48];
-    let decision = forward(&port, &port, &TableRecord::ALL_ZERO, false, &area_with_kept(30), &mut output);
+    let decision = forward(&port, &port, &TableRecord::ALL_ZERO, &Facts::NONE, &area_with_kept(30), &mut output);
     tally.equal("kept option of 30 octets", forwarded(&decision), (0, 0, 0, 0, 40));
     tally.equal("octets from 40 on", output[40..].to_vec(), vec![FILL; 8]);
     let mut output = [FILL; 48];
-    let decision = forward(&port, &port, &TableRecord::ALL_ZERO, false, &area_with_kept(31), &mut output);
+    let decision = forward(&port, &port, &TableRecord::ALL_ZERO, &Facts::NONE, &area_with_kept(31), &mut output);
     tally.equal("kept option of 31 octets", forwarded(&decision), (18, 3, 9, 0, 0));
     tally.equal("a refusal writes nothing", output.to_vec(), vec![FILL; 48]);
-    let decision = forward(&port, &port, &TableRecord::ALL_ZERO, true, &area_with_kept(31), &mut output);
+    let decision = forward(&port, &port, &TableRecord::ALL_ZERO, &Facts::marked(true), &area_with_kept(31), &mut output);
     tally.equal("a datagram marked as ICMP", forwarded(&decision), (18, 0, 0, 0, 0));
 }
 
@@ -177,11 +218,11 @@ fn over_large(tally: &mut Tally) {
 
     let arriving = open_port(5, label);
     let mut leaving = open_port(9, HeldLabel::empty(9, 0));
-    let decision = forward(&arriving, &leaving, &table, false, &[], &mut [0; 40]);
+    let decision = forward(&arriving, &leaving, &table, &Facts::NONE, &[], &mut [0; 40]);
     tally.equal("121 runs inside the leaving range", decision.number, 18);
     // The last of them, 240, is outside.
     leaving.highest.places[0].high = 239;
-    let decision = forward(&arriving, &leaving, &table, false, &[], &mut [0; 40]);
+    let decision = forward(&arriving, &leaving, &table, &Facts::NONE, &[], &mut [0; 40]);
     tally.equal("121 runs outside the leaving range", decision.number, 17);
 }
 
@@ -234,13 +275,70 @@ fn deliveries(tally: &mut Tally) {
     let assigned = held(&[(2, 4)]);
     let port = open_port(5, assigned.clone());
     let host = HostRecord { lowest: HeldLabel::empty(5, 0), highest: assigned.clone() };
-    let decision = deliver(&port, &host, false, &[]);
+    let decision = deliver(&port, &host, &Facts::NONE, &[]);
     tally.equal("the assigned label is delivered", (forwarded(&decision), decision.label == assigned), ((0, 0, 0, 0, 0), true));
     let narrow = HostRecord { highest: HeldLabel::empty(5, 255), ..host };
-    tally.equal("outside the host's range", forwarded(&deliver(&port, &narrow, false, &[])), (15, 3, 10, 0, 0));
+    tally.equal("outside the host's range", forwarded(&deliver(&port, &narrow, &Facts::NONE, &[])), (15, 3, 10, 0, 0));
     let foreign = HostRecord { lowest: HeldLabel::empty(6, 0), highest: HeldLabel::empty(6, 255) };
-    tally.equal("a host of a foreign domain", forwarded(&deliver(&port, &foreign, false, &[])), (2, 0, 0, 0, 0));
-    tally.equal("1 comes before 2", forwarded(&deliver(&port, &foreign, false, &[134])), (1, 0, 0, 0, 0));
+    tally.equal("a host of a foreign domain", forwarded(&deliver(&port, &foreign, &Facts::NONE, &[])), (2, 0, 0, 0, 0));
+    tally.equal("1 comes before 2", forwarded(&deliver(&port, &foreign, &Facts::NONE, &[134])), (1, 0, 0, 0, 0));
+}
+
+/// Wish 2: "any of them silences. Numbers and the order of checks stay."
+fn silences(tally: &mut Tally) {
+    let port = open_port(5, HeldLabel::empty(5, 3));
+    let host = HostRecord { lowest: HeldLabel::empty(5, 4), highest: HeldLabel::empty(5, 4) };
+    for pattern in 0..32usize {
+        let facts = Facts::in_order(std::array::from_fn(|place| pattern >> place & 1 == 1));
+        let report = |number, icmp_type, code| if pattern == 0 { (number, icmp_type, code, 0, 0) } else { (number, 0, 0, 0, 0) };
+        let decision = forward(&port, &port, &TableRecord::ALL_ZERO, &facts, &area_with_kept(31), &mut [0; 40]);
+        tally.equal("facts of a forward", forwarded(&decision), report(18, 3, 9));
+        tally.equal("facts of a deliver", forwarded(&deliver(&port, &host, &facts, &[])), report(15, 3, 10));
+        let decision = forward(&port, &port, &TableRecord::ALL_ZERO, &facts, &[], &mut [0; 40]);
+        tally.equal("facts of a datagram that is forwarded", forwarded(&decision), (0, 0, 0, 0, 12));
+    }
+    let line = |octets: &str| cases::line_of(&octets_of(octets), &Entries::known());
+    // Domain 5, lowest level 0, highest level 9, nothing required, assigned level 3; a host of level 4 alone; no area.
+    let port = "00000005 00000005000000 00000005090000 00 00000005030000";
+    let host = "00000005040000 00000005040000";
+    tally.equal("entry 7, no mark", line(&format!("07 {} {} 00 00", port, host)), "15 3 10 0 0 0 0 0".to_string());
+    tally.equal("entry 9, no fact", line(&format!("09 {} {} 0000000000 00", port, host)), "15 3 10 0 0 0 0 0".to_string());
+    tally.equal("entry 9, the last fact", line(&format!("09 {} {} 0000000001 00", port, host)), "15 0 0 0 0 0 0 0".to_string());
+    tally.equal("entry 9, a fact of 2", line(&format!("09 {} {} 0000020000 00", port, host)), "BROKEN".to_string());
+    tally.equal("entry 9, four facts", line(&format!("09 {} {} 00000000 00", port, host)), "BROKEN".to_string());
+    tally.equal("entry 9 where it is not built", cases::line_of(&[9], &Entries::named("1-7").unwrap()), "BROKEN".to_string());
+    let forward = format!("{} {} 00000000 00000000 0000 000000", port, port);
+    let line = line(&format!("08 {} 0100000000 04 82020000 0028 ee", forward));
+    tally.equal("entry 8, the first fact", line, format!("4 0 0 0 0 0 0 0 {}", "ee".repeat(40)));
+}
+
+/// Wish 12: the runs of bitmaps, against a bit-by-bit reading of single categories.
+fn bitmaps(tally: &mut Tally) {
+    let line = |octets: &str| cases::line_of(&octets_of(octets), &Entries::known());
+    tally.equal("no octets", line("18 00"), "0 0".to_string());
+    tally.equal("category 0 is the top bit", line("18 01 80"), "0 1 0 0".to_string());
+    tally.equal("category 15 is the bottom bit of the second", line("18 02 0001"), "0 1 15 15".to_string());
+    tally.equal("a run across octets", line("18 03 01ff80"), "0 1 7 16".to_string());
+    tally.equal("runs that end at a border", line("18 02 ff7f"), "0 2 0 7 9 15".to_string());
+    tally.equal("trailing zero octets", line("18 03 a00000"), "0 2 0 0 2 2".to_string());
+    tally.equal("30 full octets", line(&format!("18 1e {}", "ff".repeat(30))), "0 1 0 239".to_string());
+    tally.equal("31 octets", line(&format!("18 1f {}", "00".repeat(31))), "10 0".to_string());
+    tally.equal("255 octets", line(&format!("18 ff {}", "01".repeat(255))), "10 0".to_string());
+    tally.equal("octets left over", line("18 01 8000"), "BROKEN".to_string());
+    let mut random = Random::new(12);
+    for turn in 0..256 * 30 {
+        let length = random.between(0, 30);
+        let mut octets = random.octets(length);
+        if turn / 256 < length {
+            octets[turn / 256] = (turn % 256) as u8;
+        }
+        let (number, runs) = read_bitmap_alone(&octets);
+        let covered = |category: usize| runs.iter().any(|run| run.low as usize <= category && category <= run.high as usize);
+        let same =
+            (0..240).all(|category| covered(category) == octets.get(category / 8).map_or(false, |octet| octet << category % 8 & 0x80 != 0));
+        let parted = runs.windows(2).all(|two| two[0].high + 2 <= two[1].low);
+        tally.equal(&hex(&octets), (number, same, parted), (0, true, true));
+    }
 }
 
 fn walks(tally: &mut Tally) {
@@ -257,14 +355,14 @@ fn walks(tally: &mut Tally) {
 fn parsing(tally: &mut Tally) {
     let run = |input: &str| {
         let mut output = Vec::new();
-        cases::run(&mut &octets_of(input)[..], &mut output).unwrap();
+        cases::run(&mut &octets_of(input)[..], &mut output, &Entries::known()).unwrap();
         String::from_utf8(output).unwrap()
     };
     tally.equal("empty input", run(""), String::new());
     tally.equal("no entry octet, then a case", run("0000 000a 01 00000005 03 01 00 0000"), "BROKEN\nYES\n".to_string());
     tally.equal("a lone octet", run("00"), "BROKEN\n".to_string());
     tally.equal("a length past the end", run("0009 01"), "BROKEN\n".to_string());
-    tally.equal("an unknown entry", run("0001 08"), "BROKEN\n".to_string());
+    tally.equal("an unknown entry", run("0001 17"), "BROKEN\n".to_string());
     tally.equal("no output", run("000b 04 00000005 03 00 00 0000 ee"), "1 0 -\n".to_string());
 }
 
@@ -292,11 +390,16 @@ pub fn run() -> bool {
     let mut tally = Tally { passed: 0, failed: 0 };
     numbers_to_try(&mut tally);
     sample_lines(&mut tally);
+    sample_files(&mut tally);
     room(&mut tally);
     over_large(&mut tally);
     reading(&mut tally);
     labels(&mut tally);
     deliveries(&mut tally);
+    silences(&mut tally);
+    bitmaps(&mut tally);
+    files::files(&mut tally);
+    renumbering::renumbering(&mut tally);
     walks(&mut tally);
     parsing(&mut tally);
     spellings(&mut tally);
