@@ -19,7 +19,9 @@ use spelling::spell_label;
 
 // How many numbers an answer has.
 const READING_NUMBERS: usize = 5;
+
 const SPELLING_NUMBERS: usize = 2;
+
 const DECISION_NUMBERS: usize = 8;
 
 // Reads one option. `answer` gets number, pointer, domain, level and count of runs, `runs` the runs; 1 and nothing where `answer` has under 5

@@ -69,14 +69,31 @@ pub extern "C" fn time_forward(
     out: &mut [u8],
     times: usize,
 ) -> usize {
+    forward_many(
+        port_of(lower, upper, high),
+        leaving(),
+        table_of(rows),
+        area,
+        size,
+        out,
+        times,
+    )
+}
+
+fn forward_many(
+    arriving: Port,
+    leaving: Port,
+    table: Table,
+    area: &[u8],
+    size: usize,
+    out: &mut [u8],
+    times: usize,
+) -> usize {
     let n = area.len();
     if n < size {
         return 0;
     }
-    let arriving = port_of(lower, upper, high);
-    let leaving = leaving();
     let levels = levels();
-    let table = table_of(rows);
     let last = n - size;
     let mut at: usize = 0;
     let mut total: usize = 0;

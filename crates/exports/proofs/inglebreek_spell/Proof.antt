@@ -41,7 +41,7 @@ returns-2 c =
     let s = to .before .before .before .before .before in
     let keys = s .args .runs .now in
     let same : to .to-label .result ≡ labelBy (s .args .domain) (s .args .level) keys =
-        rw (take-all (length keys) keys (omega arith)) at (to .to-label .ensures) in
+    rw (take-all (length keys) keys (omega arith)) at (to .to-label .ensures) in
     spells-whole
     (to .to-label .result)
     (labelBy (s .args .domain) (s .args .level) keys)
