@@ -310,13 +310,19 @@ fn rust_spell(octets: &[u8], size: usize, out: &mut [u8], times: usize) -> usize
     total
 }
 
+/// The one call of the variant's forward.
+#[inline(always)]
+fn rust_decision(records: &Records, area: &[u8], out: &mut [u8]) -> fast::Decision {
+    fast::forward(&records.arriving, &records.leaving, &records.table, false, area, out)
+}
+
 #[inline(never)]
 fn rust_forward(records: &Records, area: &[u8], size: usize, out: &mut [u8], times: usize) -> usize {
     let last = area.len() - size;
     let (mut at, mut total) = (0, 0);
     for _ in 0..times {
         let records = black_box(records);
-        let decision = fast::forward(&records.arriving, &records.leaving, &records.table, false, &area[at..at + size], out);
+        let decision = rust_decision(records, &area[at..at + size], out);
         let decision = black_box(&decision);
         let digest = mix(mix(decision.number as usize, decision.pointer as usize), decision.count as usize);
         total = mix(total, mix(digest, label_digest(&decision.label)));
@@ -515,7 +521,7 @@ fn box_forwarding(area: &[u8]) -> String {
 
 fn rust_forwarding(area: &[u8]) -> String {
     let (records, mut out) = (sample_records(), [FILL; OUTPUT]);
-    let d = fast::forward(&records.arriving, &records.leaving, &records.table, false, area, &mut out);
+    let d = rust_decision(&records, area, &mut out);
     let numbers = [d.number, d.icmp_type, d.icmp_code, d.pointer, d.count].map(u64::from);
     whole(&[numbers.to_vec(), label_numbers(&d.label)].concat(), &keys(&d.label), &out)
 }
