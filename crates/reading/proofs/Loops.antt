@@ -1,27 +1,34 @@
 -- How many runs a reader's loop can have made, and its next piece.
 use Prim.Native.Nat.{ℕ, zero, suc, _+_, _-_, _*_, _/_, _%_, _≤_, _<_, zero-le}
 use mathlib.Core.Path.{_≡_, refl, ap, sym, _∙_}
-use mathlib.Core.List.{List, []}
-use mathlib.Core.Bool.{Bool, true, false, cond}
+use mathlib.Core.List.{List, [], map}
+use mathlib.Core.Bool.{Bool, true, false, cond, _||_}
 use mathlib.Core.Logic.{_⊎_, inl, inr, ⊎-elim}
 use lib.ListN.{length, getD}
 use lib.Dec.{leb, ltb, eqb}
 use native.Mathlib.Omega.{arith}
 use native.Mathlib.Numerals.{add-one}
 use Rattle.label.specs.declared.Run.{Run}
-use Rattle.label.specs.Runs.{pushRun, joined}
+use Rattle.label.specs.Runs.{pushRun, joined, topOf}
 use Rattle.label.proofs.Bools.{less-or}
 use Rattle.label.proofs.Canon.{canon-length}
-use Rattle.label.proofs.Push.{push-length, push-more}
-use borrow.Author.Tests.{eq-eqb, ne-eqb, le-leb, lt-leb, lt-ltb, le-ltb}
+use Rattle.label.proofs.Push.{push-length, push-more, push-top}
+use borrow.Author.Tests.{eqb-false, le-leb, lt-leb, lt-ltb, le-ltb}
 use Rattle.option.specs.Bitmap.{bitAt}
 use Rattle.option.specs.Option.{numbersIn, singles, pairsIn}
 use Rattle.option.specs.Reading.{turned, bitPieces, pieces}
-use Rattle.option.specs.Index.{setRuns, rangeRuns, firstTrue, numberAt, pairsOf, lowPair, highPair}
+use Rattle.option.specs.Index.{setRuns, rangeRuns, firstTrue, numberAt, badNumber, badPair, pairsOf, lowPair, highPair}
 use Rattle.option.proofs.Pieces.{joined-good, bits-falling}
 use Rattle.option.proofs.Bridge.{set-joined, numbers-joined, pairs-joined}
-use Rattle.reading.specs.Reading.{countIn, badIn, badPlace}
-use Rattle.reading.specs.Building.{leftIn, lowIn, highIn}
+use Rattle.option.proofs.Bad.{first-is}
+use Rattle.reading.specs.Reading.{badPlace}
+use Rattle.reading.specs.Building.{leftIn}
+use Rattle.label.specs.Keys.{runKey}
+use Rattle.reading.specs.declared.Last.{Last}
+use Rattle.reading.specs.declared.Pass.{Pass}
+use Rattle.reading.specs.Keys.{runsIn, atFront, PassOver}
+use Rattle.label.proofs.Keys.{keys-back}
+use Rattle.reading.proofs.Building.{Stands, stands-count}
 use Rattle.reading.proofs.Octets.{zerosOf, onesOf, restOf, Ones, none-left, ones-left, passed-bits}
 
 -- at most one run a piece
@@ -121,14 +128,6 @@ module _ {b : List ℕ} {i c left : ℕ} (t : Inside b i c left) where
           left-is = ones .rest-is ∙ ap (leftIn (getD b i 0)) e;
         }
 
--- at most 15 numbers or pairs
-pub count-most : (t : ℕ) (b : List ℕ) → length b ≤ 30 → countIn t b ≤ 15
-count-most t b h = go (eqb t 2)
-  where
-    go : (z : Bool) → cond z (length b / 2) (pairsOf b) ≤ 15
-    go true = omega arith
-    go false = omega arith
-
 pub first-most : (f : ℕ → Bool) (n : ℕ) → firstTrue f n ≤ n
 first-most f zero = zero-le
 first-most f (suc n) = go (f zero) (first-most (λ k. f (suc k)) n)
@@ -137,36 +136,69 @@ first-most f (suc n) = go (f zero) (first-most (λ k. f (suc k)) n)
     go true h = omega arith
     go false h = omega arith
 
-pub first-few : (t : ℕ) (b : List ℕ) → length b ≤ 30 → firstTrue (badIn t b) (countIn t b) ≤ 15
-first-few t b h = omega (arith, first-most (badIn t b) (countIn t b), count-most t b h)
+-- Where no number or pair is bad, the runs that are written are those of the tag's pieces.
+pub runs-joined : (t : ℕ) (b : List ℕ) → ((t ≡ 1 → ⊥) → length b % 2 ≡ 0) → length b ≤ badPlace t b → runsIn t b ≡ joined (pieces t b)
+unfolding pieces
+runs-joined t b even fine = go (eqb t 1) refl (eqb t 2) fine
+  where
+    go : (x : Bool) → eqb t 1 ≡ x → (y : Bool)
+        → length b ≤ cond x (length b) (cond y 2 4 * firstTrue (λ k. cond y (badNumber b k) (badPair b k)) (cond y (length b / 2) (pairsOf b)))
+        → cond x (setRuns (bitAt b) (8 * length b)) (cond y (rangeRuns (numberAt b) (numberAt b) (firstTrue (badNumber b) (length b / 2))) (rangeRuns (lowPair b) (highPair b) (pairsOf b)))
+        ≡ joined (cond x (bitPieces (bitAt b) (8 * length b)) (cond y (turned [] (singles (numbersIn b))) (pairsIn (numbersIn b))))
+    go true p y f = set-joined (bitAt b) (8 * length b)
+    go false p true f =
+        let ev = even (eqb-false t 1 p) in
+        let all : firstTrue (badNumber b) (length b / 2) ≡ length b / 2 = omega (arith, first-most (badNumber b) (length b / 2)) in
+        ap (rangeRuns (numberAt b) (numberAt b)) all ∙ numbers-joined b ev
+    go false p false f = pairs-joined b (even (eqb-false t 1 p))
 
--- where the first bad one begins
-module _ (t : ℕ) (b : List ℕ) (k : ℕ) where
-  pub place-two : t ≡ 2 → k ≡ firstTrue (badIn t b) (countIn t b) → 2 * k ≡ badPlace t b
-  place-two e f = ap (λ (x : ℕ). 2 * x) f ∙ rest (eqb t 1) (ne-eqb t 1 (λ z. omega arith)) (eqb t 2) (eq-eqb t 2 e) (firstTrue (badIn t b) (countIn t b))
-    where
-      rest : (x : Bool) → x ≡ false → (y : Bool) → y ≡ true → (n : ℕ) → 2 * n ≡ cond x (length b) (cond y 2 4 * n)
-      rest x p y q n = rw (p, q)
+-- Tag 2: below the category after the last run, or not above the number before.
+pub bad-number-is : (b : List ℕ) (k next : ℕ) → next ≡ topOf (rangeRuns (numberAt b) (numberAt b) k) → (eqb (numberAt b k) 65535 || leb (numberAt b k + 1) next) ≡ badNumber b k
+bad-number-is b zero next e = rw e (ap (λ (z : Bool). eqb (numberAt b zero) 65535 || z) (lt-leb (numberAt b zero + 1) 0 (omega arith)))
+bad-number-is b (suc k) next e =
+    let top : next ≡ numberAt b k + 1 = e ∙ push-top (numberAt b k) (numberAt b k) (rangeRuns (numberAt b) (numberAt b) k) in
+    let k-is : suc k - 1 ≡ k = omega arith in
+    rw (top, k-is, lt-ltb 0 (suc k) (omega arith)) (ap (λ (z : Bool). eqb (numberAt b (suc k)) 65535 || z) (same-leb (numberAt b (suc k)) (numberAt b k)))
+  where
+    same-leb : (x y : ℕ) → leb (x + 1) (y + 1) ≡ leb x y
+    same-leb x y = ⊎-elim (λ w. lt-leb (x + 1) (y + 1) (omega arith) ∙ sym (lt-leb x y (omega arith))) (λ w. le-leb (x + 1) (y + 1) (omega arith) ∙ sym (le-leb x y w)) (less-or y x)
 
-  pub place-five : (t ≡ 1 → ⊥) → (t ≡ 2 → ⊥) → k ≡ firstTrue (badIn t b) (countIn t b) → 4 * k ≡ badPlace t b
-  place-five n m f = ap (λ (x : ℕ). 4 * x) f ∙ rest (eqb t 1) (ne-eqb t 1 n) (eqb t 2) (ne-eqb t 2 m) (firstTrue (badIn t b) (countIn t b))
-    where
-      rest : (x : Bool) → x ≡ false → (y : Bool) → y ≡ false → (n : ℕ) → 4 * n ≡ cond x (length b) (cond y 2 4 * n)
-      rest x p y q n = rw (p, q)
+-- Tag 5: the first bad pair of those from j on, met from the last to the first.
+pub record FirstFrom (f : ℕ → Bool) (n j bad : ℕ) : Type 0 where
+  pub from : j ≤ bad
+  pub most : bad ≤ n
+  pub before : (k : ℕ) → j ≤ k → k < bad → f k ≡ false
+  pub here : bad < n → f bad ≡ true
 
--- The pieces of a tag are what its runs are made of.
-module _ (t : ℕ) (b : List ℕ) where
-  pub bitmap-joined : t ≡ 1 → setRuns (bitAt b) (8 * length b) ≡ joined (pieces t b)
-  unfolding pieces
-  bitmap-joined e = set-joined (bitAt b) (8 * length b) ∙ rw (eq-eqb t 1 e)
+pub first-start : (f : ℕ → Bool) (n : ℕ) → FirstFrom f n n n
+first-start f n = record { from = omega arith; most = omega arith; before = λ k p q. absurd (omega arith); here = λ h. absurd (omega arith) }
 
-  pub pieces-joined : (t ≡ 1 → ⊥) → length b % 2 ≡ 0 → rangeRuns (lowIn t b) (highIn t b) (countIn t b) ≡ joined (pieces t b)
-  unfolding pieces
-  pieces-joined n even = rw (ne-eqb t 1 n, pieces) (go (eqb t 2))
-    where
-      go : (z : Bool) → rangeRuns (λ k. cond z (numberAt b k) (lowPair b k)) (λ k. cond z (numberAt b k) (highPair b k)) (cond z (length b / 2) (pairsOf b)) ≡ joined (cond z (turned [] (singles (numbersIn b))) (pairsIn (numbersIn b)))
-      go true = numbers-joined b even
-      go false = pairs-joined b even
+pub first-next : {f : ℕ → Bool} {n j bad : ℕ} → FirstFrom f n j bad → (i : ℕ) → j ≡ i + 1 → (is : Bool) → is ≡ f i → (r : ℕ) → r ≡ cond is i bad → FirstFrom f n i r
+first-next {f} {n} {j} {bad} t i e true p r q =
+    rw q (record { from = omega arith; most = omega (arith, t .from, t .most); before = λ k a b. absurd (omega arith); here = λ h. sym p })
+first-next {f} {n} {j} {bad} t i e false p r q =
+    rw q
+    (record {
+      from = omega (arith, t .from);
+      most = t .most;
+      before = λ k a b. ⊎-elim (λ w. t .before k (omega arith) b) (λ w. (let z : k ≡ i = omega arith in ap f z ∙ sym p)) (less-or i k);
+      here = t .here;
+    })
+
+pub first-found : {f : ℕ → Bool} {n bad : ℕ} → FirstFrom f n 0 bad → bad ≡ firstTrue f n
+first-found {f} {n} {bad} t = sym (first-is f n bad (t .most) (λ k q. t .before k (omega arith) q) (t .here))
+
+-- What a pass leaves.
+pub pass-of : (t : ℕ) (b : List ℕ) {was keys : List ℕ} {rs : List Run} {last : Last} → Stands was rs keys last → rs ≡ runsIn t b → length rs ≤ 120
+    → (bad : ℕ) → bad ≡ badPlace t b → PassOver t b was keys (record { count = last .count; bad = bad })
+pass-of t b {was} {keys} {rs} {last} s e h bad f =
+    record {
+      counted = stands-count s ∙ ap length e;
+      held = omega (arith, stands-count s);
+      bad-at = f;
+      left = s .keys-are ∙ ap (λ (z : List Run). atFront (map runKey z) was) e;
+      stands = rw (← e) (keys-back rs (s .small));
+    }
 
 -- below the next number is at most this one
 pub below-next : (a b : ℕ) → ltb a (b + 1) ≡ leb a b

@@ -1,14 +1,11 @@
--- How a label is built from ascending pieces, one after the other: what the readers of all three tags do alike.
-use Prim.Native.Nat.{ℕ, _+_, _-_, _*_, _%_, _^_}
-use mathlib.Core.List.{List, [], _∷_, _++_}
+-- How runs are made of ascending pieces, one after the other: what the readers of all three tags do alike.
+use Prim.Native.Nat.{ℕ, _+_, _*_, _%_, _^_}
+use mathlib.Core.List.{List, [], _∷_}
 use mathlib.Core.Bool.{_&&_, cond}
-use lib.ListN.{length, replicate}
+use lib.ListN.{length}
 use lib.Dec.{ltb, eqb}
 use Rattle.label.specs.declared.Run.{Run}
-use Rattle.label.specs.declared.Label.{Label}
 use Rattle.label.specs.Runs.{topOf}
-use Rattle.label.specs.Label.{noRun}
-use Rattle.option.specs.Index.{numberAt, lowPair, highPair}
 use Rattle.reading.specs.declared.Last.{Last}
 
 -- the low of the last run, or 0 where there is none
@@ -27,17 +24,6 @@ afterPiece x l h =
     cond (ltb 0 (x .count) && eqb (x .next) l)
     (record { count = x .count; low = x .low; next = h + 1 })
     (record { count = x .count + 1; low = l; next = h + 1 })
-
--- the label under construction: its runs are in their places, and its count is set at the end
-abbrev pub unfinished : ℕ → ℕ → List Run → Label
-unfinished d v rs = record { domain = d; level = v; count = 0; runs = rs ++ replicate (120 - length rs) noRun }
-
--- the ends of piece k of a tag 2 or 5, lowest first: a number, or a pair counted from the last
-abbrev pub lowIn : ℕ → List ℕ → ℕ → ℕ
-lowIn t b k = cond (eqb t 2) (numberAt b k) (lowPair b k)
-
-abbrev pub highIn : ℕ → List ℕ → ℕ → ℕ
-highIn t b k = cond (eqb t 2) (numberAt b k) (highPair b k)
 
 -- an octet's bits from place s on, at the top of 32 bits
 abbrev pub leftIn : ℕ → ℕ → ℕ

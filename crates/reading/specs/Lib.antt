@@ -1,4 +1,5 @@
 pub mod Reading
+pub mod Keys
 pub mod Building
 pub mod Theorems
 pub mod Examples

@@ -1,15 +1,19 @@
 -- Laws of two-octet numbers that are written one after another: the categories from run to run, and the ends of runs.
 use Prim.Native.Nat.{ℕ, zero, suc, _+_, _-_, _*_, _/_, _%_, _≤_, _<_}
 use mathlib.Core.Path.{_≡_, refl, ap, sym, _∙_}
-use mathlib.Core.List.{List, [], _∷_, _++_, append-assoc}
+use mathlib.Core.List.{List, [], _∷_, _++_, append-assoc, map-append}
 use mathlib.Core.Bool.{cond}
-use lib.ListN.{length, getD, set, take, drop, length-append, length-drop}
-use lib.Seq.{set-at, drop-cons, drop-drop, getD-drop, getD-take, length-take-le}
+use lib.ListN.{length, getD, set, take, drop, length-append, length-drop, length-map, drop-of-length-le}
+use lib.Seq.{set-at, drop-cons, drop-drop, getD-drop, take-suc}
 use lib.Dec.{eqb}
 use native.Mathlib.Omega.{arith}
 use native.Mathlib.Numerals.{add-one}
 use Rattle.label.specs.declared.Run.{Run}
-use Rattle.label.specs.Runs.{run, countOf}
+use Rattle.label.specs.Runs.{countOf}
+use Rattle.label.specs.Label.{noRun}
+use Rattle.label.specs.Keys.{keyRun, keyRuns}
+use Rattle.label.proofs.Keys.{key-at}
+use Rattle.label.proofs.Steps.{next}
 use Rattle.option.specs.Spelling.{countUp, numbersOf}
 use Rattle.option.specs.Index.{numbersOut, pairNumber}
 use Rattle.option.proofs.Spelled.{numbers-count}
@@ -114,6 +118,15 @@ all-written rs {j} {k} w h =
     omega (arith, length-drop k (numbersOf rs), ap length (w .rest), numbers-count rs)
 
 -- Tag 5: the end that is read is the number of the definition.
-pub end-is : (runs : List Run) (n k : ℕ) → n ≤ length runs → 0 < n
-    → cond (eqb (k % 2) 0) (getD runs (n - 1 - k / 2) (run 0 0) .high) (getD runs (n - 1 - k / 2) (run 0 0) .low) ≡ pairNumber (take n runs) k
-end-is runs n k h p = rw (length-take-le n runs h, getD-take n runs (n - 1 - k / 2) (run 0 0) (omega arith))
+pub end-is : (ks : List ℕ) (n k : ℕ) → n ≡ length ks → cond (eqb (k % 2) 0) (getD ks (n - 1 - k / 2) 0 % 65536) (getD ks (n - 1 - k / 2) 0 / 65536) ≡ pairNumber (keyRuns ks) k
+end-is ks n k e = rw (e, length-map ks keyRun, key-at ks (length ks - 1 - k / 2))
+
+-- One key more, as a loop meets it.
+pub next-key : (ks : List ℕ) (i : ℕ) → i < length ks → drop i (keyRuns ks) ≡ keyRun (getD ks i 0) ∷ drop (i + 1) (keyRuns ks)
+next-key ks i h = next noRun (keyRuns ks) i (omega (arith, length-map ks keyRun)) ∙ ap (λ (r : Run). r ∷ drop (i + 1) (keyRuns ks)) (key-at ks i)
+
+pub keys-up : (ks : List ℕ) (i : ℕ) → length ks ≤ i → drop i (keyRuns ks) ≡ []
+keys-up ks i h = drop-of-length-le (keyRuns ks) {i = i} (omega (arith, length-map ks keyRun))
+
+pub keys-taken : (ks : List ℕ) (i : ℕ) → i < length ks → keyRuns (take (i + 1) ks) ≡ keyRuns (take i ks) ++ keyRun (getD ks i 0) ∷ []
+keys-taken ks i h = rw (add-one i, take-suc ks i 0 h) (map-append keyRun (take i ks) (getD ks i 0 ∷ []))

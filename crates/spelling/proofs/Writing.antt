@@ -1,5 +1,5 @@
 -- Laws of writing over a list: zeros up to octet 39, the ten octets before the categories, and the whole option.
-use Prim.Native.Nat.{ℕ, suc, _+_, _-_, _≤_, _<_}
+use Prim.Native.Nat.{ℕ, zero, suc, _+_, _-_, _≤_, _<_}
 use mathlib.Core.Path.{_≡_, refl, sym, ap, _∙_}
 use mathlib.Core.List.{List, [], _∷_, _++_, append-assoc, append-nil}
 use mathlib.Core.Option.{some}
@@ -18,6 +18,12 @@ zero-more out i h l =
     let hl : i < length out = omega arith in
     rw (add-one, take-suc-set out i 0 hl, drop-set-lt 40 out i 0 h, e)
     (append-assoc (take i out) (0 ∷ []) (replicate (40 - suc i) 0 ++ drop 40 out))
+
+-- one octet more at the front is 0
+pub zeros-store : (out : List ℕ) (i : ℕ) → i < length out → set (replicate i 0 ++ drop i out) i 0 ≡ replicate (suc i) 0 ++ drop (suc i) out
+zeros-store [] i h = absurd (omega arith)
+zeros-store (x ∷ out) zero h = refl
+zeros-store (x ∷ out) (suc i) h = ap (λ (z : List ℕ). 0 ∷ z) (zeros-store out i (omega arith))
 
 pub zero-last : (out : List ℕ) (i : ℕ) → i ≡ 40 → zeroed i out ≡ out
 zero-last out i e = rw e (take-append-drop 40 out)

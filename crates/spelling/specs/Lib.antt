@@ -1,3 +1,4 @@
 pub mod Spelling
+pub mod Keys
 pub mod Parts
 pub mod Theorems

@@ -1,0 +1,5 @@
+pub mod Keys
+pub mod Entry
+pub mod Bitmap
+pub mod Engine
+pub mod Theorems
