@@ -2,7 +2,7 @@
 ghost use mathlib.Core.Path.{_≡_};
 ghost use mathlib.Core.Bool.{cond, _&&_};
 ghost use mathlib.Core.List.{_++_};
-ghost use Prim.Native.Nat.{ℕ, _+_, _-_, _*_, _/_, _%_, _≤_, _<_};
+ghost use Prim.Native.Nat.{ℕ, _+_, _-_, _*_, _/_, _%_, _^_, _≤_, _<_};
 ghost use lib.Dec.{leb, eqb};
 ghost use lib.ListN.{length, drop, replicate};
 ghost use Rattle.label.specs.Runs.{covers, countOf};
@@ -244,6 +244,14 @@ fn clear_front(n: usize, out: &mut [u8])
     }
 }
 
+// An octet's ones from a bit on; bit 0 is the top one.
+fn ones_from(bit: usize) -> u8
+    requires { ⌜ bit < 8 ⌝ }
+    ensures { λ r. ⌜ r ≡ 255 / 2 ^ bit ⌝ }
+{
+    255 >> bit
+}
+
 // A run's bits are added to n octets of a bitmap: ones from its first bit on, without those after its last. What lies past the n octets is
 // left out.
 fn add_run(key: u32, n: usize, out: &mut [u8])
@@ -256,7 +264,7 @@ fn add_run(key: u32, n: usize, out: &mut [u8])
         return;
     }
     let last = high / 8;
-    let mut ones: u8 = 255 >> (low % 8);
+    let mut ones = ones_from(low % 8);
     let mut o = low / 8;
     while o < n {
         if o == last {
