@@ -4,7 +4,7 @@ ghost use mathlib.Core.Bool.{true, cond, _&&_};
 ghost use mathlib.Core.List.{map, _++_};
 ghost use Prim.Native.Nat.{ℕ, _+_, _-_, _*_, _/_, _%_, _^_, _≤_, _<_};
 ghost use lib.Dec.{leb, eqb};
-ghost use lib.ListN.{length, take, drop, replicate};
+ghost use lib.ListN.{length, take, drop, set, replicate};
 ghost use Rattle.label.specs.Runs.{spaced, unused, covers, countOf};
 ghost use Rattle.label.specs.Label.{used, wellFormed};
 ghost use Rattle.label.specs.Keys.{keyRun, keyRuns, runKey};
@@ -377,29 +377,33 @@ fn write_numbers(keys: &[u32], out: &mut [u8])
     }
 }
 
-// One end of a key's run: its top, then its bottom.
-fn end_of(key: u32, k: usize) -> u32
-    ensures { λ x. ⌜ (x ≡ cond (eqb (k % 2) 0) (key % 65536) (key / 65536)) × (x < 65536) ⌝ }
+// Number k, in two octets.
+fn put_number(k: usize, x: u32, out: &mut [u8])
+    requires { ⌜ (2 * k + 1 < length (now out)) × (k ≤ 300) × (x < 65536) ⌝ }
+    ensures { λ _. ⌜ (now (out .exit) ≡ set (set (now (out .entry)) (2 * k) (x / 256)) (2 * k + 1) (x % 256)) × (length (now (out .exit)) ≡ length (now (out .entry))) ⌝ }
 {
-    if k % 2 == 0 {
-        return key % 65536;
-    }
-    key / 65536
+    out[2 * k] = (x / 256) as u8;
+    out[2 * k + 1] = (x % 256) as u8;
 }
 
-// Tag 5: the first m ends, from the last run to the first; m is odd where the last bottom is left out.
+// Tag 5: the first m ends, from the last run to the first, each run's top and then its bottom; m is odd where the last bottom is left out.
 fn write_pairs(keys: &[u32], m: usize, out: &mut [u8])
     requires { ⌜ (length (now keys) ≤ 120) × (m ≤ 2 * length (now keys)) × (2 * m ≤ length (now out)) ⌝ }
     ensures { λ _. ⌜ now (out .exit) ≡ numbersOut (pairNumber (keyRuns (now (keys .entry)))) m ++ drop (2 * m) (now (out .entry)) ⌝ }
 {
     let n = keys.len();
-    let mut k: usize = 0;
-    while k < m {
-        let j = n - 1 - k / 2;
-        let x = end_of(keys[j], k);
-        out[2 * k] = (x / 256) as u8;
-        out[2 * k + 1] = (x % 256) as u8;
-        k += 1;
+    let pairs = m / 2;
+    let mut j: usize = 0;
+    while j < pairs {
+        let at = n - 1 - j;
+        let key = keys[at];
+        put_number(2 * j, key % 65536, &mut out[..]);
+        put_number(2 * j + 1, key / 65536, &mut out[..]);
+        j += 1;
+    }
+    if 2 * j < m {
+        let at = n - 1 - j;
+        put_number(2 * j, keys[at] % 65536, &mut out[..]);
     }
 }
 
