@@ -365,14 +365,21 @@ fn write_numbers(keys: &[u32], out: &mut [u8])
     while i < m {
         let key = keys[i];
         let x = ((key / 65536) as usize) + j;
-        if ((key % 65536) as usize) < x {
+        let high = (key % 65536) as usize;
+        if high < x {
             i += 1;
             j = 0;
         } else {
             out[2 * k] = (x / 256) as u8;
             out[2 * k + 1] = (x % 256) as u8;
             k += 1;
-            j += 1;
+            // a run's last category: the next turn has the next run
+            if high == x {
+                i += 1;
+                j = 0;
+            } else {
+                j += 1;
+            }
         }
     }
 }
