@@ -5,7 +5,7 @@ use native.Mathlib.Omega.{arith}
 use borrow.Author.Needs.{needs}
 use lib.ListN.{length, drop, take, getD, set, length-drop, length-set, length-append}
 use lib.Seq.{take-all, drop-drop}
-use Rattle.leaving.specs.Kept.{zeroed}
+use Rattle.leaving.specs.Stages.{zeroed}
 use Rattle.leaving.proofs.Laws.{zero-more, zero-last}
 use Rattle.leaving.proofs.zero_from.Statement.{statement}
 use Rattle.leaving.proofs.zero_from.Tie as tie
