@@ -142,32 +142,26 @@ walk-end area at seen h = ap (λ (ms : List Met). judged ms seen) (met-end area 
 
 -- a refusal has a number from 3 on, and the option's place
 judge-refused : (k : Kind) (z : Size) (at : ℕ) (seen : Place) (num p : ℕ) → judge k z at seen ≡ Refused num p → (3 ≤ num) × (at ≡ p)
-judge-refused End z at seen num p e = let z : _≡_ {A = ℕ} 0 1 = cc in absurd (omega arith)
-judge-refused NoOperation z at seen num p e = let z : _≡_ {A = ℕ} 0 1 = cc in absurd (omega arith)
+judge-refused k Bad at seen num p e = let q : 3 ≡ num = cc in (omega arith, cc)
+judge-refused End (Whole m) at seen num p e = let z : _≡_ {A = ℕ} 0 1 = cc in absurd (omega arith)
+judge-refused NoOperation (Whole m) at seen num p e = let z : _≡_ {A = ℕ} 0 1 = cc in absurd (omega arith)
 judge-refused Basic (Whole m) at seen num p e = let q : 4 ≡ num = cc in (omega arith, cc)
-judge-refused Basic Bad at seen num p e = let q : 3 ≡ num = cc in (omega arith, cc)
 judge-refused Extended (Whole m) at seen num p e = let q : 4 ≡ num = cc in (omega arith, cc)
-judge-refused Extended Bad at seen num p e = let q : 3 ≡ num = cc in (omega arith, cc)
 judge-refused Cipso (Whole m) at Nowhere num p e = let z : _≡_ {A = ℕ} 0 1 = cc in absurd (omega arith)
 judge-refused Cipso (Whole m) at (At x) num p e = let q : 5 ≡ num = cc in (omega arith, cc)
-judge-refused Cipso Bad at seen num p e = let q : 3 ≡ num = cc in (omega arith, cc)
 judge-refused Other (Whole m) at seen num p e = let z : _≡_ {A = ℕ} 0 1 = cc in absurd (omega arith)
-judge-refused Other Bad at seen num p e = let q : 3 ≡ num = cc in (omega arith, cc)
 
 -- where the place comes from: it was seen before, or the option is a whole 134
 judge-placed : (k : Kind) (z : Size) (at : ℕ) (seen s : Place) → judge k z at seen ≡ Sound s
     → (seen ≡ s) ⊎ ((At at ≡ s) × (k ≡ Cipso) × (n : ℕ) × (z ≡ Whole n))
-judge-placed End z at seen s e = inl cc
-judge-placed NoOperation z at seen s e = inl cc
+judge-placed k Bad at seen s e = let z : _≡_ {A = ℕ} 0 1 = cc in absurd (omega arith)
+judge-placed End (Whole m) at seen s e = inl cc
+judge-placed NoOperation (Whole m) at seen s e = inl cc
 judge-placed Basic (Whole m) at seen s e = let z : _≡_ {A = ℕ} 0 1 = cc in absurd (omega arith)
-judge-placed Basic Bad at seen s e = let z : _≡_ {A = ℕ} 0 1 = cc in absurd (omega arith)
 judge-placed Extended (Whole m) at seen s e = let z : _≡_ {A = ℕ} 0 1 = cc in absurd (omega arith)
-judge-placed Extended Bad at seen s e = let z : _≡_ {A = ℕ} 0 1 = cc in absurd (omega arith)
 judge-placed Cipso (Whole m) at Nowhere s e = inr (cc, refl, m, refl)
 judge-placed Cipso (Whole m) at (At x) s e = let z : _≡_ {A = ℕ} 0 1 = cc in absurd (omega arith)
-judge-placed Cipso Bad at seen s e = let z : _≡_ {A = ℕ} 0 1 = cc in absurd (omega arith)
 judge-placed Other (Whole m) at seen s e = inl cc
-judge-placed Other Bad at seen s e = let z : _≡_ {A = ℕ} 0 1 = cc in absurd (omega arith)
 
 -- the same of options that stand in an area
 judged-refused : (area : List ℕ) (ms : List Met) (seen : Place) (num p : ℕ) → StandIn area ms → judged ms seen ≡ Refused num p

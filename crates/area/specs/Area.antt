@@ -73,16 +73,13 @@ judgeLabel at (At p) = Refused 5 at
 
 -- one option at an octet, with the place of the option 134 if one was met before: 3, then 4, then 5
 abbrev pub judge : Kind → Size → ℕ → Place → Walk
-judge End z at seen = Sound seen
-judge NoOperation z at seen = Sound seen
+judge k Bad at seen = Refused 3 at
+judge End (Whole n) at seen = Sound seen
+judge NoOperation (Whole n) at seen = Sound seen
 judge Basic (Whole n) at seen = Refused 4 at
-judge Basic Bad at seen = Refused 3 at
 judge Extended (Whole n) at seen = Refused 4 at
-judge Extended Bad at seen = Refused 3 at
 judge Cipso (Whole n) at seen = judgeLabel at seen
-judge Cipso Bad at seen = Refused 3 at
 judge Other (Whole n) at seen = Sound seen
-judge Other Bad at seen = Refused 3 at
 
 -- the earliest option decides
 abbrev pub judged : List Met → Place → Walk
