@@ -12,15 +12,14 @@ use Rattle.area.specs.declared.Size.{Size}
 use Rattle.area.specs.declared.Size.the-variants.{Whole, Bad}
 use Rattle.area.specs.declared.Place.{Place}
 use Rattle.area.specs.declared.Place.the-variants.{Nowhere, At}
-use Rattle.area.specs.declared.Walk.{Walk}
-use Rattle.area.specs.declared.Walk.the-variants.{Sound, Refused}
+use Rattle.area.specs.declared.Walk.the-variants.{Sound}
 use Rattle.area.specs.declared.Turn.the-variants.{On}
-use Rattle.area.specs.Area.{kindOf, sizeOf, Met, spanOf, frontOf, metFrom, metOf, judge, judged, walkOf}
+use Rattle.area.specs.Area.{kindOf, sizeOf, Met, spanOf, frontOf, metFrom, metOf, judged, walkOf}
 use Rattle.area.specs.Stages.{turnOf}
 use Rattle.area.proofs.Laws.{size-whole, whole-size, walk-turn, afterTurn}
 use Rattle.area.proofs.Meets.{next-octet}
 use Rattle.area.proofs.Front.{label-first}
-use Rattle.leaving.specs.declared.Next.the-variants.{Stop, Over}
+use Rattle.leaving.specs.declared.Next.the-variants.{Over}
 use Rattle.leaving.specs.Kept.{keptAmong, keptOf}
 use Rattle.leaving.specs.Stages.{overOf, nextOf}
 use Rattle.leaving.proofs.Laws.{keptFrom, afterNext, kept-turn}

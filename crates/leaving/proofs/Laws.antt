@@ -1,24 +1,24 @@
 -- Laws of the kept options and of writing over a list.
-use Prim.Native.Nat.{ℕ, zero, suc, pred, _+_, _-_, _*_, _/_, _≤_, _<_}
+use Prim.Native.Nat.{ℕ, zero, suc, _+_, _-_, _*_, _/_, _≤_, _<_}
 use mathlib.Core.Path.{_≡_, refl, sym, ap, _∙_}
 use mathlib.Core.List.{List, [], _∷_, _++_, append-assoc, append-nil}
 use native.Mathlib.Nat.{add-assoc, add-zero, zero-add, min-le-left}
 use native.Mathlib.Numerals.{add-one}
 use native.Mathlib.Omega.{arith}
-use mathlib.Core.Bool.{Bool, true, false, cond, _&&_, and-false}
+use mathlib.Core.Bool.{Bool, true, false, cond, and-false}
 use lib.Dec.{leb}
 use borrow.Author.Tests.{le-leb, lt-leb, leb-true, leb-false}
-use lib.ListN.{length, getD, set, take, drop, replicate, length-drop, length-take, length-append, length-replicate, drop-of-length-le, take-append-drop}
+use lib.ListN.{length, getD, set, take, drop, replicate, length-drop, length-take, length-append, drop-of-length-le, take-append-drop}
 use lib.Seq.{take-all, take-append-le, take-append-add, take-take, take-suc, drop-cons, set-at, append-snoc, length-take-le, take-suc-set, drop-set-lt, drop-drop, take-at, drop-at}
 use Rattle.area.specs.declared.Kind.{Kind}
 use Rattle.area.specs.declared.Kind.the-variants.{End, NoOperation, Basic, Extended, Cipso, Other}
 use Rattle.area.specs.declared.Size.{Size}
 use Rattle.area.specs.declared.Size.the-variants.{Whole, Bad}
-use Rattle.area.specs.Area.{kindOf, sizeOf, Met, spanOf, frontOf, metFrom}
+use Rattle.area.specs.Area.{kindOf, sizeOf, spanOf, frontOf, metFrom}
 use Rattle.area.proofs.Laws.{span-on, behind, met-turn, met-end, tail-is}
 use Rattle.leaving.specs.declared.Next.{Next}
 use Rattle.leaving.specs.declared.Next.the-variants.{Stop, Over}
-use Rattle.leaving.specs.Kept.{keptLen, keptAmong, keptOf, roundUp, leavingOf, hasRoom, restCount, restOf}
+use Rattle.leaving.specs.Kept.{keptLen, keptAmong, roundUp, leavingOf, hasRoom, restCount, restOf}
 use Rattle.leaving.specs.Stages.{overOf, nextOf, lesserOf, paint, zeroed}
 
 -- a turn of the loop that copies

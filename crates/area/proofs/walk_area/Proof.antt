@@ -1,9 +1,9 @@
-use Prim.Native.Nat.{ℕ, _≤_, _<_, _-_, _+_}
+use Prim.Native.Nat.{ℕ, _≤_, _-_, _+_}
 use mathlib.Core.Path.{_≡_, refl, sym, ap, _∙_}
 use native.Mathlib.Omega.{arith}
 use borrow.Author.Needs.{needs}
-use lib.ListN.{length, drop, take, getD, length-drop}
-use lib.Seq.{take-all, drop-drop, drop-length}
+use lib.ListN.{length, drop}
+use lib.Seq.{drop-drop}
 use mathlib.Core.List.{List}
 use Rattle.area.specs.Area.{metFrom, metOf, judged, walkOf}
 use Rattle.area.proofs.Laws.{turn-here, turn-moves, walk-end, afterTurn}

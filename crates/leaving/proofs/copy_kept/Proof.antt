@@ -1,5 +1,5 @@
 -- `leaving::copy_kept` meets its contract.
-use Prim.Native.Nat.{ℕ, _≤_, _<_, _-_, _+_}
+use Prim.Native.Nat.{ℕ, _≤_, _-_, _+_}
 use mathlib.Core.Path.{_≡_, refl, sym, ap, _∙_}
 use mathlib.Core.List.{List, [], _++_}
 use native.Mathlib.Omega.{arith}
@@ -9,7 +9,7 @@ use lib.Seq.{length-take-le}
 use Rattle.area.specs.Area.{metOf}
 use Rattle.area.proofs.Laws.{tail-is}
 use Rattle.leaving.specs.Kept.{keptOf}
-use Rattle.leaving.specs.Stages.{lesserOf, paint}
+use Rattle.leaving.specs.Stages.{paint}
 use Rattle.leaving.proofs.Laws.{keptFrom, kept-stop, kept-over, over-moves, kept-end, take-both, take-none, lesser-both, paint-none, turn-length, turn-paint}
 use Rattle.leaving.proofs.copy_kept.Statement.{statement}
 use Rattle.leaving.proofs.copy_kept.Tie as tie

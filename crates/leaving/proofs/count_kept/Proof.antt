@@ -1,10 +1,8 @@
-use Prim.Native.Nat.{ℕ, _≤_, _<_, _-_, _+_}
-use mathlib.Core.Path.{_≡_, refl, sym, ap, _∙_}
-use mathlib.Core.List.{List, [], _++_}
+use Prim.Native.Nat.{_≤_, _-_, _+_}
+use mathlib.Core.Path.{_≡_, ap}
 use native.Mathlib.Omega.{arith}
 use borrow.Author.Needs.{needs}
-use lib.ListN.{length, drop, take, length-drop, length-append}
-use lib.Seq.{length-take-le}
+use lib.ListN.{length}
 use Rattle.area.specs.Area.{metOf}
 use Rattle.leaving.specs.Kept.{keptOf}
 use Rattle.leaving.proofs.Laws.{keptFrom, kept-stop, over-moves, over-count, kept-end}

@@ -2,7 +2,6 @@
 use borrow.Author.Needs.{needs}
 use native.Mathlib.Omega.{arith}
 use Prim.Native.Nat.{_+_, _<_, _≤_}
-use lib.ListN.{length}
 use Rattle.leaving.specs.Kept.{keptOf}
 use Rattle.leaving.proofs.Laws.{take-short, rest-short, rest-over, rest-written}
 use Rattle.leaving.proofs.write_rest.Statement.{statement}
