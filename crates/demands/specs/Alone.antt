@@ -7,6 +7,7 @@ use mathlib.Core.Logic.{_↔_}
 use Prim.Native.Nat.{ℕ}
 use lib.Dec.{leb, ltb, eqb}
 use lib.ListN.{length, take}
+use Rattle.demands.specs.First.{NoneOf, FirstOf}
 use Rattle.label.specs.declared.Label.{Label}
 use Rattle.label.specs.Label.{used, labelOf, zeroLabel, emptyOf, wellFormed, member, leq}
 use Rattle.option.specs.Option.{domainOf}
@@ -20,7 +21,6 @@ use Rattle.table.specs.Numbers.{partnerOf, hasNumber, numbered}
 use Rattle.renumber.specs.Renumber.{imageRuns, renumberedOf}
 use Rattle.renumber.specs.Theorems.{Far}
 use Rattle.gateway.specs.Crossing.{known}
-use Rattle.demands.specs.First.{NoneOf, FirstOf}
 
 -- "One option read alone must begin with 134 and fill its buffer, else 3; then 7 to 13, .. 8 for domain 0 only"
 abbrev pub readChecks : List ℕ → List Check
