@@ -1,4 +1,4 @@
 pub mod Table
 pub mod Numbers
-pub mod Keys
+pub mod Order
 pub mod Theorems
