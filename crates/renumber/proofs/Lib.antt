@@ -2,6 +2,9 @@ pub mod Sets
 pub mod Image
 pub mod Join
 pub mod Pass
+pub mod Pieces
+pub mod Starts
 pub mod Turns
+pub mod Held
 pub mod Answers
 pub mod Theorems
