@@ -12,7 +12,8 @@ use Rattle.label.specs.Runs.{inRun, covers, spaced}
 use Rattle.label.proofs.Bools.{and-left, and-right}
 use Rattle.order.specs.Order.{Sorted, all}
 use Rattle.order.proofs.Merge.{sorted-lower}
-use Rattle.renumber.specs.Keys.{keyRun, keyRuns, stretched, joinFrom, joinAll, pushKey, joinOnto, Key}
+use Rattle.label.specs.Keys.{keyRun, keyRuns}
+use Rattle.renumber.specs.Stages.{stretched, joinFrom, joinAll, pushKey, joinOnto, Key}
 
 pub record IsKey (k : ℕ) : Type 0 where
   pub ordered : k / 65536 ≤ k % 65536

@@ -6,5 +6,6 @@ pub mod Pieces
 pub mod Starts
 pub mod Turns
 pub mod Held
+pub mod Carrying
 pub mod Answers
 pub mod Theorems

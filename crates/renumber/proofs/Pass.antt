@@ -15,7 +15,7 @@ use Rattle.table.specs.declared.Row.{Row}
 use Rattle.table.specs.Table.{targetEnd, rising}
 use Rattle.table.specs.Numbers.{hasNumber, sends, someBelow, numbered, inImage}
 use Rattle.table.proofs.Rows.{good, rise-lower}
-use Rattle.renumber.specs.Keys.{hit, hits}
+use Rattle.renumber.specs.Stages.{hit, hits}
 use Rattle.renumber.proofs.Image.{Numbered, left, skip-to, skip-back, stop-before, stop-none, whole-to, whole-back, cut-spaced, cut-to, cut-back}
 
 -- the first run from `f` on

@@ -23,7 +23,8 @@ use Rattle.order.specs.Order.{Sorted, all, insertKey, sortOnto, sortKeys}
 use Rattle.order.proofs.Laws.{sort-all}
 use Rattle.order.proofs.Merge.{sorted-lower}
 use Rattle.renumber.specs.Sets.{runsOf}
-use Rattle.renumber.specs.Keys.{keyRun, keyRuns, joinAll, joinOnto, pieceKey, rowPieces, pieces, hit, hits, Key}
+use Rattle.label.specs.Keys.{keyRun, keyRuns}
+use Rattle.renumber.specs.Stages.{joinAll, joinOnto, pieceKey, rowPieces, pieces, hit, hits, Key}
 use Rattle.renumber.proofs.Join.{all-covers, all-spaced, onto-all}
 use Rattle.renumber.proofs.Pass.{image-hits}
 use Rattle.renumber.proofs.Sets.{the-runs}

@@ -11,7 +11,7 @@ use Rattle.label.specs.declared.Run.{Run}
 use Rattle.table.specs.declared.Row.{Row}
 use Rattle.table.specs.Table.{noRow, rising}
 use Rattle.table.proofs.Rows.{good}
-use Rattle.renumber.specs.Keys.{rowPieces}
+use Rattle.renumber.specs.Stages.{rowPieces}
 use Rattle.renumber.proofs.Pieces.{below-skip}
 
 -- a later row begins above an earlier one's end

@@ -12,6 +12,7 @@ use Rattle.label.specs.declared.Run.{Run}
 use Rattle.label.specs.declared.Label.{Label}
 use Rattle.label.specs.Runs.{covers, subset}
 use Rattle.label.specs.Label.{used, labelOf, wellFormed, member, atMost, inRange}
+use Rattle.label.specs.Range.{setInRange}
 use Rattle.label.proofs.Bools.{and-right, or-cases, or-true-right, same-yes, less-or}
 use Rattle.label.proofs.Runs.{one-form}
 use Rattle.label.proofs.Labels.{formed, well-formed, formed-of, used-of, used-length, of-used, member-is, leq-says, leq-said, leq-at-most}
@@ -24,7 +25,7 @@ use Rattle.table.specs.Numbers.{partnerOf, sends, numbered, inImage}
 use Rattle.table.proofs.Sound.{sound, Rows, sound-rows}
 use Rattle.table.proofs.Numbers.{one-category, one-number, has-number, number-has, partners-order, partner-level, Ordered}
 use Rattle.renumber.specs.declared.Renumbered.{Renumbered}
-use Rattle.renumber.specs.Renumber.{refusal, done, imageRuns, fitted, whenNumbered, renumberedOf, setInRange, carriedOf}
+use Rattle.renumber.specs.Renumber.{refusal, done, imageRuns, fitted, whenNumbered, renumberedOf, carriedOf}
 use Rattle.renumber.specs.Theorems.{Far, Renumbering, Agrees, Carried, Carrying, KeepsOrder, KeepsJoins}
 use Rattle.renumber.proofs.Sets.{set-covers, set-spaced, the-runs}
 use Rattle.renumber.proofs.Pass.{numbered-yes, numbered-all, image-hits, sends-hits, hits-sends}

@@ -16,7 +16,7 @@ use Rattle.table.specs.declared.Row.{Row}
 use Rattle.table.specs.Table.{noRow, usedRows, rising}
 use Rattle.table.specs.Numbers.{numbered}
 use Rattle.table.proofs.Sound.{sound-rows}
-use Rattle.renumber.specs.Keys.{keyRun, keyRuns}
+use Rattle.label.specs.Keys.{keyRun, keyRuns}
 use Rattle.renumber.proofs.Image.{Numbered}
 use Rattle.renumber.proofs.Pass.{clip, Left, left-start, left-done, left-skip, left-stop, left-none, left-numbered, turn-whole, turn-cut, clip-start, numbered-yes, numbered-none}
 use Rattle.renumber.proofs.Starts.{Begun, begun-start, begun-row, begun-run}

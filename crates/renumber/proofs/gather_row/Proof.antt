@@ -6,15 +6,19 @@ use borrow.Author.Tests.{le-leb, lt-leb}
 use mathlib.Core.Path.{_≡_, refl, sym, _∙_, ap}
 use mathlib.Core.List.{List, [], _∷_}
 use lib.ListN.{take, drop, getD, length}
-use Rattle.renumber.specs.Keys.{keyRun, keyRuns, pieceKey, pushKey, joinOnto, rowPieces}
+use Rattle.label.specs.Keys.{keyRun, keyRuns}
+use Rattle.renumber.specs.Stages.{pieceKey, pushKey, joinOnto, rowPieces}
 use Rattle.renumber.proofs.Pieces.{drop-spaced, row-over}
 use Rattle.renumber.proofs.Held.{next-key, keys-up}
+use Rattle.renumber.proofs.Turns.{same-later}
 use Rattle.renumber.proofs.gather_row.Statement.{statement}
 use Rattle.renumber.proofs.gather_row.Tie as tie
 
 abbrev Inv-loop : tie.InvT-loop
 Inv-loop own n at row keys₀ w base top k₀ i₀ keys k i =
     (length keys ≡ length keys₀)
+    × (w ≤ k)
+    × (drop k keys ≡ drop k keys₀)
     × (k + length (rowPieces row (drop i (keyRuns (take n own)))) ≤ w + length (rowPieces row (drop at (keyRuns (take n own)))))
     × (joinOnto (take k keys) (rowPieces row (drop i (keyRuns (take n own)))) ≡ joinOnto (take w keys₀) (rowPieces row (drop at (keyRuns (take n own)))))
 
@@ -49,7 +53,7 @@ emitted c =
     rw (seen d, ← c .before .before .larger .ensures, ← c .before .smaller .ensures) (simp (le-leb _ _ (c .if2 .taken)))
 
 loop-holds : tie.Need-loop-holds Inv-loop μ-loop
-loop-holds c = (refl, omega arith, refl)
+loop-holds c = (refl, omega arith, refl, omega arith, refl)
 
 mul-run : tie.Need-mul-run Inv-loop μ-loop
 mul-run c = search needs
@@ -69,7 +73,7 @@ returns c =
     let x = keyRun (getD (s .args .own .now) (v .i) 0) in
     let g = rw (seen d) at (drop-spaced (v .i) 0 runs (s .pre .3)) in
     let z : rowPieces (s .args .row) (drop (v .i) runs) ≡ [] = rw (seen d) (row-over (s .args .row) x (drop (v .i + 1) runs) g (c .if1 .taken)) in
-    (omega (arith, v .inv .1), rw z at (v .inv .2))
+    (v .inv .1, omega (arith, v .inv .3), v .inv .2, rw z at (v .inv .4))
 
 larger-requires : tie.Need-larger-requires Inv-loop μ-loop
 larger-requires c κs = search needs
@@ -88,7 +92,7 @@ push-key-requires c κs =
     let d = t .before .before .before .before .before in
     let s = d .before .before .before .before .before .before in
     let v = d .before .loop in
-    omega (arith, v .inv .1, v .inv .0, s .pre .4, ap length (emitted t))
+    omega (arith, v .inv .3, v .inv .0, s .pre .4, ap length (emitted t))
 
 add-i : tie.Need-add-i Inv-loop μ-loop
 add-i c = search needs
@@ -105,11 +109,13 @@ loop-again c =
     let v = d .before .loop in
     let rest = rowPieces (s .args .row) (drop (v .i + 1) (keyRuns (take (s .args .n) (s .args .own .now)))) in (
       search needs,
-      omega (arith, v .inv .1, ap length (emitted t), p .push-key .ensures .0),
-      ap (λ (z : List ℕ). joinOnto z rest) (p .push-key .ensures .1)
+      omega (arith, v .inv .1, p .push-key .ensures .0),
+      p .push-key .ensures .2 ∙ same-later (v .keys) (s .args .keys .now) (v .k) (p .push-key .result) (p .push-key .ensures .0) (v .inv .2),
+      omega (arith, v .inv .3, ap length (emitted t), p .push-key .ensures .1),
+      ap (λ (z : List ℕ). joinOnto z rest) (p .push-key .ensures .3)
           ∙ ap (λ (z : ℕ). joinOnto (pushKey (take (v .k) (v .keys)) z) rest) (p .before .before .piece-key .ensures)
           ∙ ap (joinOnto (take (v .k) (v .keys))) (sym (emitted t))
-          ∙ v .inv .2,
+          ∙ v .inv .4,
     )
 
 add-i-2 : tie.Need-add-i-2 Inv-loop μ-loop
@@ -126,7 +132,7 @@ loop-again-2 c =
     let runs = keyRuns (take (s .args .n) (s .args .own .now)) in
     let z : rowPieces (s .args .row) (drop (v .i) runs) ≡ rowPieces (s .args .row) (drop (v .i + 1) runs) =
     rw (seen d, ← c .before .before .larger .ensures, ← c .before .smaller .ensures) (simp (lt-leb _ _ (c .if2 .left))) in
-    (v .inv .0, rw (← z) (v .inv .1), rw (← z) (v .inv .2))
+    (v .inv .0, v .inv .1, v .inv .2, rw (← z) (v .inv .3), rw (← z) (v .inv .4))
 
 same-length-2 : tie.Need-same-length-2 Inv-loop μ-loop
 same-length-2 c = search needs
@@ -136,7 +142,7 @@ returns-2 c =
     let s = c .before .before .before .before .before .before in
     let v = c .before .loop in
     let z : drop (v .i) (keyRuns (take (s .args .n) (s .args .own .now))) ≡ [] = keys-up (s .args .own .now) (s .args .n) (v .i) (c .loop-test .left) in
-    (omega (arith, v .inv .1), rw z at (v .inv .2))
+    (v .inv .1, omega (arith, v .inv .3), v .inv .2, rw z at (v .inv .4))
 
 pub gather-row-spec : {M : Type 1} → statement M
 gather-row-spec =

@@ -12,9 +12,11 @@ use Rattle.table.specs.Table.{noRow, usedRows, rising}
 use Rattle.table.specs.Order.{rowOrder, rowAt, inOrder}
 use Rattle.table.proofs.Sound.{sound-rows}
 use Rattle.table.proofs.Order.{Turn, order-turn, order-length}
-use Rattle.renumber.specs.Keys.{keyRuns, joinOnto, rowPieces, pieces}
+use Rattle.label.specs.Keys.{keyRuns}
+use Rattle.renumber.specs.Stages.{joinOnto, rowPieces, pieces}
 use Rattle.renumber.proofs.Join.{onto-append}
 use Rattle.renumber.proofs.Pieces.{Giving, giving-at, order-giving, order-few, pieces-next, pieces-room}
+use Rattle.renumber.proofs.Turns.{same-later}
 use Rattle.renumber.proofs.gather_rows.Statement.{statement}
 use Rattle.renumber.proofs.gather_rows.Tie as tie
 
@@ -23,6 +25,7 @@ Inv-loop own n order start keys₀ table m w₀ k₀ keys w k =
     (k ≤ m)
     × (length keys ≡ length keys₀)
     × (w ≤ length (pieces (take k (inOrder (usedRows table))) (keyRuns (take n own))))
+    × (drop w keys ≡ drop w keys₀)
     × (take w keys ≡ joinOnto [] (pieces (take k (inOrder (usedRows table))) (keyRuns (take n own))))
 
 abbrev μ-loop : tie.MeasureT-loop
@@ -83,7 +86,7 @@ there c =
     omega (arith, length-map (rowOrder rs) (rowAt rs), order-length rs, sized s, c .loop-test .taken)
 
 loop-holds : tie.Need-loop-holds Inv-loop μ-loop
-loop-holds c = (omega arith, refl, omega arith, refl)
+loop-holds c = (omega arith, refl, omega arith, refl, refl)
 
 mul-x : tie.Need-mul-x Inv-loop μ-loop
 mul-x c = search needs
@@ -154,9 +157,10 @@ loop-again c =
     let n = ap length next ∙ length-append (pieces (take (v .k) (inOrder rs)) runs) (rowPieces r runs) in (
       omega arith,
       search needs,
-      omega (arith, n, v .inv .2, rw (begun d) at (g .gather-row .ensures .0)),
-      rw (begun d) at (g .gather-row .ensures .1)
-          ∙ ap (λ (z : List ℕ). joinOnto z (rowPieces r runs)) (v .inv .3)
+      omega (arith, n, v .inv .2, rw (begun d) at (g .gather-row .ensures .1)),
+      g .gather-row .ensures .2 ∙ same-later (v .keys) (s .args .keys .now) (v .w) (g .gather-row .result) (g .gather-row .ensures .0) (v .inv .3),
+      rw (begun d) at (g .gather-row .ensures .3)
+          ∙ ap (λ (z : List ℕ). joinOnto z (rowPieces r runs)) (v .inv .4)
           ∙ sym (ap (joinOnto []) next ∙ onto-append [] (pieces (take (v .k) (inOrder rs)) runs) (rowPieces r runs)),
     )
 
@@ -174,7 +178,8 @@ returns c =
     let few = order-few rs runs (omega (arith, sized s, s .pre .3 .held)) (risen s) (s .pre .3 .gaps) in
     record {
       held = omega (arith, few, rw e at (v .inv .2), s .pre .3 .few, s .pre .3 .held, sized s);
-      joined = rw e at (v .inv .3);
+      joined = rw e at (v .inv .4);
+      rest = v .inv .3;
     }
 
 pub gather-rows-spec : {M : Type 1} → statement M

@@ -1,8 +1,9 @@
 -- `renumber::push_key` meets its contract.
 use borrow.Author.Needs.{needs}
 use native.Mathlib.Omega.{arith}
-use Prim.Native.Nat.{ℕ, _<_}
+use Prim.Native.Nat.{ℕ, _+_, _-_, _<_}
 use mathlib.Core.Path.{_≡_}
+use lib.Seq.{drop-set-lt}
 use Rattle.renumber.proofs.Turns.{push-first, push-joined, push-behind}
 use Rattle.renumber.proofs.push_key.Statement.{statement}
 use Rattle.renumber.proofs.push_key.Tie as tie
@@ -19,7 +20,7 @@ same-length c = search needs
 returns : tie.Need-returns
 returns c =
     let s = c .before .before in
-    (omega arith, push-first (s .args .keys .now) (s .args .w) (s .args .x) (s .pre) (c .if1 .taken))
+    (omega arith, omega arith, drop-set-lt 1 (s .args .keys .now) 0 (s .args .x) (omega arith), push-first (s .args .keys .now) (s .args .w) (s .args .x) (s .pre) (c .if1 .taken))
 
 sub-last : tie.Need-sub-last
 sub-last c = search needs
@@ -53,7 +54,7 @@ returns-2 c =
     let e1 = c .before .before .before in
     let s = e1 .before .before in
     let p : 0 < s .args .w = some (s .args .w) (e1 .if1 .left) in
-    (omega arith, rw (c .stretch .ensures) (push-joined (s .args .keys .now) (s .args .w) (s .args .x) (s .pre) p (c .before .if2 .taken)))
+    (omega arith, omega arith, drop-set-lt (s .args .w) (s .args .keys .now) (s .args .w - 1) (c .stretch .result) (omega arith), rw (c .stretch .ensures) (push-joined (s .args .keys .now) (s .args .w) (s .args .x) (s .pre) p (c .before .if2 .taken)))
 
 mul-keys-2 : tie.Need-mul-keys-2
 mul-keys-2 c = search needs
@@ -72,7 +73,7 @@ returns-3 c =
     let e1 = c .before .before in
     let s = e1 .before .before in
     let p : 0 < s .args .w = some (s .args .w) (e1 .if1 .left) in
-    (omega arith, push-behind (s .args .keys .now) (s .args .w) (s .args .x) (s .pre) p (c .if2 .left))
+    (omega arith, omega arith, drop-set-lt (s .args .w + 1) (s .args .keys .now) (s .args .w) (s .args .x) (omega arith), push-behind (s .args .keys .now) (s .args .w) (s .args .x) (s .pre) p (c .if2 .left))
 
 pub push-key-spec : {M : Type 1} → statement M
 push-key-spec =
