@@ -13,7 +13,7 @@ use Rattle.label.specs.declared.Label.{Label}
 use Rattle.label.specs.Runs.{spaced}
 use Rattle.label.specs.Label.{used, wellFormed}
 use Rattle.label.specs.Keys.{keyRun, keyRuns, runKey}
-use Rattle.label.proofs.Bools.{and-left, and-right}
+use Rattle.label.proofs.Bools.{never, and-left, and-right}
 use Rattle.label.proofs.Labels.{formed, used-length}
 use Rattle.label.proofs.Keys.{keys-runs}
 use Rattle.table.specs.declared.Row.{Row}
@@ -30,6 +30,7 @@ use Rattle.renumber.specs.Renumber.{imageOf}
 use Rattle.renumber.specs.Carry.{labelRuns, notCarried, carriedTo, carriedKeys, carryOf}
 use Rattle.renumber.specs.Stages.{joinFrom, joinAll, joinOnto, stretched, pieces, Gathered}
 use Rattle.renumber.proofs.Sets.{set-spaced}
+use Rattle.renumber.proofs.Pass.{numbered-yes}
 use Rattle.renumber.proofs.Join.{onto-all}
 use Rattle.renumber.proofs.Pieces.{gathered-runs, order-few}
 
@@ -129,6 +130,10 @@ module _ (c : Carried) (image : List Run) (far : List ℕ) where
   pub refused-same : (n : ℕ) → c ≡ notCarried n → (n ≡ 0 → ⊥) → far ≡ carriedKeys c image far
   refused-same n k h = sym (carried-same (λ e. h (sym (ap (λ (z : Carried). z .number) k) ∙ e)))
 
+  -- of no run no key is written
+  pub none-written : c .number ≡ 0 → image ≡ [] → far ≡ carriedKeys c image far
+  none-written e z = sym (carried-keys e ∙ rw z)
+
   pub carried-runs : c .number ≡ 0 → spaced 0 image ≡ true → keyRuns (take (length image) (carriedKeys c image far)) ≡ image
   carried-runs e s =
       ap (λ (z : List ℕ). keyRuns (take (length image) z)) (carried-keys e)
@@ -159,6 +164,17 @@ join-few k (x ∷ xs) = go (leb (x / 65536) (k % 65536 + 1)) (join-few (stretche
 all-few : (ks : List ℕ) → length (joinAll ks) ≤ length ks
 all-few [] = omega arith
 all-few (k ∷ ks) = omega (arith, join-few k ks)
+
+pieces-none : (rs : List Row) → pieces rs [] ≡ []
+pieces-none [] = refl
+pieces-none (r ∷ rs) = pieces-none rs
+
+-- No run has no number, and lacks none.
+pub none-numbered : (rows : List Row) → numbered rows [] ≡ true
+none-numbered rows = numbered-yes rows [] (λ c e. absurd (never (sym e)))
+
+pub none-image : (rows : List Row) → length rows ≤ 65536 → rising 0 rows ≡ true → targetsApart rows ≡ true → runsOf (inImage rows []) ≡ []
+none-image rows few e a = sym (gathered-runs rows [] few e a refl) ∙ ap (λ (z : List ℕ). keyRuns (joinOnto [] z)) (pieces-none (inOrder rows))
 
 -- Rows that rise, with targets apart, and spaced runs.
 module _ (rows : List Row) (runs : List Run) (few : length rows ≤ 65536) (e : rising 0 rows ≡ true) (a : targetsApart rows ≡ true) (s : spaced 0 runs ≡ true) where

@@ -175,6 +175,14 @@ fn carry_checked(
     let Partner::Level(to) = partner else {
         return not_carried(16);
     };
+    if n == 0 {
+        // no run: no row is looked at
+        return Carried {
+            number: 0,
+            level: to,
+            count: 0,
+        };
+    }
     let mut start = [0u32; 65];
     if !find_starts(own, n, table, &mut start) {
         return not_carried(16);

@@ -5,7 +5,7 @@ use borrow.Author.Tests.{not-true, not-false}
 use Prim.Native.Nat.{ℕ, _≤_}
 use mathlib.Core.Path.{_≡_, refl, sym, _∙_, ap}
 use mathlib.Core.Bool.{Bool, true}
-use mathlib.Core.List.{List}
+use mathlib.Core.List.{List, []}
 use lib.ListN.{length, take, length-map}
 use lib.Seq.{length-take-le}
 use Rattle.label.specs.declared.Run.{Run}
@@ -13,10 +13,11 @@ use Rattle.label.specs.Keys.{keyRun, keyRuns}
 use Rattle.label.proofs.Steps.{length-mapped}
 use Rattle.table.specs.declared.Row.{Row}
 use Rattle.table.specs.Table.{usedRows}
+use Rattle.table.specs.Numbers.{numbered}
 use Rattle.table.proofs.Sound.{sound-rows}
 use Rattle.renumber.specs.Renumber.{imageOf}
 use Rattle.renumber.specs.Stages.{Starts}
-use Rattle.renumber.proofs.Carrying.{carried-missing, carried-unnumbered, carried-found, carried-keys, refused-same, gathered-count, gathered-list}
+use Rattle.renumber.proofs.Carrying.{carried-missing, carried-unnumbered, carried-found, carried-keys, refused-same, none-written, none-numbered, none-image, gathered-count, gathered-list}
 use Rattle.renumber.proofs.carry_checked.Statement.{statement}
 use Rattle.renumber.proofs.carry_checked.Tie as tie
 
@@ -51,12 +52,29 @@ returns c =
       refused-same (c .not-carried .result) image (s .args .far .now) 16 (c .not-carried .ensures) (λ z. omega arith),
     )
 
+returns-2 : tie.Need-returns-2
+returns-2 c =
+    let l = c .before .before in
+    let p = l .before .before in
+    let s = p .before .before .before .before in
+    let t = s .args .table in
+    let k = sound-rows t (s .pre .2 .rows) in
+    let runs = keyRuns (take (s .args .n) (s .args .own .now)) in
+    let none : runs ≡ [] = ap (λ (z : ℕ). keyRuns (take z (s .args .own .now))) (c .if1 .taken) in
+    let image : imageOf t runs ≡ [] = ap (imageOf t) none ∙ none-image (usedRows t) (few s) (k .rise) (k .apart) in (
+      carried-found _ _ (imageOf t runs) (l .partner .given .0 .0) 0
+          (sym (p .partner-of .ensures) ∙ l .partner .given .1)
+          (ap (numbered (usedRows t)) none ∙ none-numbered (usedRows t))
+          (sym (ap length image)),
+      none-written _ (imageOf t runs) (s .args .far .now) refl image,
+    )
+
 slice-aggregate-find-starts : tie.Need-slice-aggregate-find-starts
 slice-aggregate-find-starts c = search needs
 
 find-starts-requires : tie.Need-find-starts-requires
 find-starts-requires c κs =
-    let s = c .before .before .before .before .before .before .before .before in
+    let s = c .before .before .before .before .before .before .before .before .before in
     let r = s .pre .2 in
     let n : length (keyRuns (take (s .args .n) (s .args .own .now))) ≡ s .args .n = length-map (take (s .args .n) (s .args .own .now)) keyRun ∙ length-take-le (s .args .n) (s .args .own .now) (s .pre .0) in
     (s .pre .0, omega (arith, r .few), refl, r .held, r .rows, r .gaps)
@@ -64,13 +82,13 @@ find-starts-requires c κs =
 not-carried-requires-2 : tie.Need-not-carried-requires-2
 not-carried-requires-2 c κs = search needs
 
-returns-2 : tie.Need-returns-2
-returns-2 c =
+returns-3 : tie.Need-returns-3
+returns-3 c =
     let t = c .before in
     let f = t .before .before in
-    let s = f .before .before .before .before .before .before .before .before .before in
+    let s = f .before .before .before .before .before .before .before .before .before .before in
     let image = imageOf (s .args .table) (keyRuns (take (s .args .n) (s .args .own .now))) in (
-      c .not-carried2 .ensures ∙ carried-unnumbered _ _ image (sym (f .find-starts .ensures .answer) ∙ not-true _ (t .if1 .taken)),
+      c .not-carried2 .ensures ∙ carried-unnumbered _ _ image (sym (f .find-starts .ensures .answer) ∙ not-true _ (t .if2 .taken)),
       refused-same (c .not-carried2 .result) image (s .args .far .now) 16 (c .not-carried2 .ensures) (λ z. omega arith),
     )
 
@@ -81,18 +99,18 @@ gather-rows-requires : tie.Need-gather-rows-requires
 gather-rows-requires c κs =
     let e = c .before .before in
     let f = e .before .before in
-    let s = f .before .before .before .before .before .before .before .before .before in
-    (s .pre .0, search needs, search needs, s .pre .2, begun (usedRows (s .args .table)) (keyRuns (take (s .args .n) (s .args .own .now))) (f .find-starts .result) _ (not-false _ (e .if1 .left)) (f .find-starts .ensures))
+    let s = f .before .before .before .before .before .before .before .before .before .before in
+    (s .pre .0, search needs, search needs, s .pre .2, begun (usedRows (s .args .table)) (keyRuns (take (s .args .n) (s .args .own .now))) (f .find-starts .result) _ (not-false _ (e .if2 .left)) (f .find-starts .ensures))
 
 same-length : tie.Need-same-length
 same-length c = search needs
 
-returns-3 : tie.Need-returns-3
-returns-3 c =
+returns-4 : tie.Need-returns-4
+returns-4 c =
     let g = c .before .before in
     let e = g .before .before .before in
     let f = e .before .before in
-    let l = f .before .before .before in
+    let l = f .before .before .before .before in
     let p = l .before .before in
     let s = p .before .before .before .before in
     let t = s .args .table in
@@ -103,7 +121,7 @@ returns-3 c =
     let n = gathered-count rows runs (few s) (k .rise) (k .apart) (s .pre .2 .gaps) (s .args .far .now) (g .gather-rows .result) _ (g .gather-rows .ensures) room in (
       carried-found _ _ (imageOf t runs) (l .partner .given .0 .0) (g .gather-rows .result)
           (sym (p .partner-of .ensures) ∙ l .partner .given .1)
-          (sym (f .find-starts .ensures .answer) ∙ not-false _ (e .if1 .left))
+          (sym (f .find-starts .ensures .answer) ∙ not-false _ (e .if2 .left))
           n,
       gathered-list rows runs (few s) (k .rise) (k .apart) (s .pre .2 .gaps) (s .args .far .now) (g .gather-rows .result) _ (g .gather-rows .ensures) room
           ∙ sym (carried-keys _ (imageOf t runs) (s .args .far .now) refl),
@@ -118,11 +136,12 @@ carry-checked-spec =
     enum-told
     not-carried-requires
     returns
+    returns-2
     slice-aggregate-find-starts
     find-starts-requires
     not-carried-requires-2
-    returns-2
+    returns-3
     slice-aggregate-gather-rows
     gather-rows-requires
     same-length
-    returns-3)
+    returns-4)
