@@ -17,7 +17,8 @@ use Rattle.label.proofs.Runs.{first, lower, covers-append}
 use Rattle.table.specs.declared.Row.{Row}
 use Rattle.table.specs.Table.{noRow, targetEnd, rising, targetsApart}
 use Rattle.table.specs.Numbers.{inImage}
-use Rattle.table.specs.Order.{orderKeys, rowOrder, rowAt, inOrder, chain}
+use Rattle.table.specs.Order.{orderKeys, rowOrder, rowAt, inOrder}
+use Rattle.table.specs.Stages.{chain}
 use Rattle.table.proofs.Rows.{good, order-rows, targets-chain}
 use Rattle.order.specs.Order.{Sorted, all, insertKey, sortOnto, sortKeys}
 use Rattle.order.proofs.Laws.{sort-all}

@@ -18,7 +18,8 @@ use Rattle.order.proofs.Merge.{put}
 use Rattle.table.specs.declared.Row.{Row}
 use Rattle.table.specs.declared.Table.{Table}
 use Rattle.table.specs.Table.{noRow, usedRows, rising, rowsSound, levelsSound, typed, tableSound}
-use Rattle.table.specs.Order.{orderKeys, rowOrder, orderOf, rowAt, inOrder, fieldsSound, RowsRise}
+use Rattle.table.specs.Order.{orderKeys, rowOrder, orderOf, rowAt, inOrder}
+use Rattle.table.specs.Stages.{fieldsSound, RowsRise}
 use Rattle.table.proofs.Rows.{good, order-all}
 
 -- Zeros written one by one.

@@ -15,7 +15,8 @@ use Rattle.order.proofs.Laws.{insert-all, sort-sorted, sort-all, sort-length}
 use Rattle.order.proofs.Merge.{sorted-self}
 use Rattle.table.specs.declared.Row.{Row}
 use Rattle.table.specs.Table.{noRow, targetEnd, rising, apart, apartFrom, targetsApart}
-use Rattle.table.specs.Order.{orderKeys, rowOrder, rowAt, inOrder, chain}
+use Rattle.table.specs.Order.{orderKeys, rowOrder, rowAt, inOrder}
+use Rattle.table.specs.Stages.{chain}
 
 or-comm : (a b : Bool) → (a || b) ≡ (b || a)
 or-comm true true = refl

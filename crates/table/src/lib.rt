@@ -5,7 +5,8 @@ ghost use Prim.Native.Nat.{_+_, _*_, _≤_};
 ghost use lib.ListN.{length, take, drop, replicate};
 ghost use Rattle.table.specs.Table.{usedRows, rising, unusedRows, targetsApart, rowsSound, levelsRise, unusedPairs, levelsSound, levelNumbers, tableSound};
 ghost use Rattle.table.specs.Numbers.{partnerOf};
-ghost use Rattle.table.specs.Order.{rowOrder, orderOf, fieldsSound, RowsRise, RowsOrder};
+ghost use Rattle.table.specs.Order.{rowOrder, orderOf};
+ghost use Rattle.table.specs.Stages.{fieldsSound, RowsRise, RowsOrder};
 use order::sort_keys;
 
 // The categories from low to high go to those from target on.

@@ -8,7 +8,7 @@ use mathlib.Core.Bool.{Bool, true, false, _&&_, and-true}
 use lib.ListN.{length, take}
 use Rattle.label.proofs.Steps.{length-mapped}
 use Rattle.table.specs.Table.{typed, levelNumbers}
-use Rattle.table.specs.Order.{fieldsSound}
+use Rattle.table.specs.Stages.{fieldsSound}
 use Rattle.table.proofs.fields_sound.Statement.{statement}
 use Rattle.table.proofs.fields_sound.Tie as tie
 

@@ -11,7 +11,8 @@ use lib.ListN.{take, drop, getD, set, length, length-set}
 use lib.Seq.{length-take-le, take-length, getD-take}
 use Rattle.label.proofs.Steps.{next-used, used-up, length-mapped}
 use Rattle.table.specs.Table.{usedRows, rising, noRow, targetEnd}
-use Rattle.table.specs.Order.{orderKeys, chain}
+use Rattle.table.specs.Order.{orderKeys}
+use Rattle.table.specs.Stages.{chain}
 use Rattle.table.proofs.Order.{order-step, refused}
 use Rattle.table.proofs.rows_rise.Statement.{statement}
 use Rattle.table.proofs.rows_rise.Tie as tie

@@ -4,7 +4,7 @@ use native.Mathlib.Omega.{arith}
 use borrow.Author.Tests.{not-true, not-false}
 use mathlib.Core.Path.{_≡_, sym, _∙_}
 use mathlib.Core.Bool.{true}
-use Rattle.table.specs.Order.{fieldsSound}
+use Rattle.table.specs.Stages.{fieldsSound}
 use Rattle.table.proofs.Order.{order-unsound, order-sound, fields-held, fields-unsound, rows-unsound, both-sound}
 use Rattle.table.proofs.table_order.Statement.{statement}
 use Rattle.table.proofs.table_order.Tie as tie

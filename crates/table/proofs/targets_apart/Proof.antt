@@ -10,7 +10,8 @@ use lib.ListN.{drop, getD, length, length-map, drop-of-length-le}
 use lib.Seq.{length-take-le, getD-take}
 use Rattle.label.proofs.Steps.{length-mapped}
 use Rattle.table.specs.Table.{usedRows, noRow, targetEnd}
-use Rattle.table.specs.Order.{rowOrder, rowAt, inOrder, chain}
+use Rattle.table.specs.Order.{rowOrder, rowAt, inOrder}
+use Rattle.table.specs.Stages.{chain}
 use Rattle.table.proofs.Rows.{targets-chain}
 use Rattle.table.proofs.Order.{Turn, order-turn, order-length}
 use Rattle.table.proofs.targets_apart.Statement.{statement}
