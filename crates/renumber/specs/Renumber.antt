@@ -1,7 +1,6 @@
 -- Document 01, "Labels" ("Asked alone"), "Records", and the numbers 16, 17 and 18 of "The order of checks": a label carried to the far domain.
-use mathlib.Core.Bool.{Bool, true, cond, _&&_}
+use mathlib.Core.Bool.{Bool, cond, _&&_}
 use mathlib.Core.List.{List}
-use mathlib.Core.Path.{_≡_}
 use Prim.Native.Nat.{ℕ}
 use lib.Dec.{leb, eqb}
 use lib.ListN.{length, take}
@@ -24,9 +23,13 @@ refusal n = record { number = n; label = zeroLabel }
 abbrev pub done : Label → Renumbered
 done l = record { number = 0; label = l }
 
--- the numbers of the label's categories, the whole set: it may have more runs than a label holds
+-- the numbers of the runs' categories, the whole set: it may have more runs than a label holds
+abbrev pub imageOf : Table → List Run → List Run
+imageOf t rs = runsOf (inImage (usedRows t) rs)
+
+-- those of a label's categories
 abbrev pub imageRuns : Label → Table → List Run
-imageRuns l t = runsOf (inImage (usedRows t) (used l))
+imageRuns l t = imageOf t (used l)
 
 -- 18 over 120 runs, else the label of the far domain and level
 abbrev pub fitted : ℕ → ℕ → List Run → Renumbered
@@ -52,7 +55,3 @@ unfoldable pub carriedOf : Label → Table → List (List ℕ) → Label → Lab
 carriedOf l t ls lowest highest =
     whenNumbered (partnerOf (take (t .pairs) ls) (l .level)) (numbered (usedRows t) (used l))
     (λ v. cond (setInRange lowest highest v (imageRuns l t)) (fitted (t .to) v (imageRuns l t)) (refusal 17))
-
--- what carrying answers of a label, a table and a range that are known to be sound
-pub record Carries (l : Label) (t : Table) (ls : List (List ℕ)) (lowest highest : Label) (r : Renumbered) : Type 0 where
-  pub carries : wellFormed l ≡ true → tableSound t ls ≡ true → wellFormed lowest ≡ true → wellFormed highest ≡ true → r ≡ carriedOf l t ls lowest highest
