@@ -17,9 +17,8 @@ use Rattle.option.specs.Reading.{bitPieces}
 use Rattle.option.specs.Index.{setRuns}
 use Rattle.option.proofs.Pieces.{joined-good, bits-falling}
 use Rattle.option.proofs.Bridge.{set-joined}
-use Rattle.bitmap.specs.Keys.{keyRun, keyRuns, runKey}
-use Rattle.bitmap.specs.Entry.{headed}
-use Rattle.bitmap.specs.Engine.{Ends}
+use Rattle.label.specs.Keys.{keyRun, keyRuns, runKey}
+use Rattle.bitmap.specs.Stages.{headed, Ends}
 use Rattle.bitmap.proofs.Table.{firstLow}
 use Rattle.bitmap.proofs.Join.{shiftRun, shifted, joinRuns, push-apart, push-touch, set-top}
 

@@ -10,7 +10,7 @@ use borrow.Author.Tests.{leb-true, ltb-true, eqb-true, eqb-false, lt-leb, le-leb
 use Rattle.label.specs.declared.Run.{Run}
 use Rattle.label.specs.Runs.{run, allBelow}
 use Rattle.label.proofs.Bools.{never, and-left, and-right, all-below}
-use Rattle.bitmap.specs.Keys.{keyRuns}
+use Rattle.label.specs.Keys.{keyRuns}
 use Rattle.bitmap.specs.Entry.{countIn, partsIn, octetRuns, Right}
 use Rattle.bitmap.specs.Theorems.{Rule}
 
@@ -57,6 +57,10 @@ rule x h =
 abbrev pub firstLow : List Run → ℕ
 firstLow [] = 0
 firstLow (r ∷ rs) = r .low
+
+abbrev pub firstHigh : List Run → ℕ
+firstHigh [] = 0
+firstHigh (r ∷ rs) = r .high
 
 starts : ℕ → Bool
 starts x = eqb x 0 || (ltb 0 (length (octetRuns x)) && cond (leb 128 x) (eqb (firstLow (octetRuns x)) 0) (ltb 0 (firstLow (octetRuns x))))

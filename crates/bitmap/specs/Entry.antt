@@ -6,7 +6,7 @@ use lib.ListN.{take}
 use Rattle.label.specs.declared.Run.{Run}
 use Rattle.option.specs.Bitmap.{bitAt}
 use Rattle.option.specs.Index.{setRuns}
-use Rattle.bitmap.specs.Keys.{keyRuns}
+use Rattle.label.specs.Keys.{keyRuns}
 
 -- the run in an entry's lowest places, as a key: three bits of its high, and 16 bits above them three of its low
 abbrev pub partOf : ℕ → ℕ
@@ -28,8 +28,3 @@ octetRuns x = setRuns (bitAt (x ∷ [])) 8
 pub record Right (x e : ℕ) : Type 0 where
   pub few : countIn e ≤ 4
   pub runs : keyRuns (partsIn e) ≡ octetRuns x
-
--- keys moved up: the first by one number, the others by another
-abbrev pub headed : ℕ → ℕ → List ℕ → List ℕ
-headed head base [] = []
-headed head base (p ∷ ps) = (head + p) ∷ map (λ q. base + q) ps

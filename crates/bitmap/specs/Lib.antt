@@ -1,5 +1,4 @@
-pub mod Keys
 pub mod Entry
 pub mod Bitmap
-pub mod Engine
+pub mod Stages
 pub mod Theorems

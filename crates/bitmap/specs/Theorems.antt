@@ -6,9 +6,9 @@ use lib.ListN.{length, getD, take}
 use Rattle.label.specs.Runs.{joined}
 use Rattle.label.specs.Label.{labelOf}
 use Rattle.option.specs.Reading.{pieces}
-use Rattle.bitmap.specs.Keys.{keyRuns}
+use Rattle.label.specs.Keys.{keyRuns}
 use Rattle.bitmap.specs.Entry.{Right}
-use Rattle.bitmap.specs.Bitmap.{foundOf, keysAfter}
+use Rattle.bitmap.specs.Bitmap.{bitmapFound, bitmapKeys}
 
 -- "The table's rule is shown once for all entries"
 abbrev pub Rule : List ℕ → Type 0
@@ -19,4 +19,5 @@ abbrev pub Agree : Type 0
 Agree =
     (d v : ℕ) (b ks : List ℕ)
     → length b ≤ 30
-    → labelOf d v (keyRuns (take (foundOf b .count) (keysAfter b ks))) ≡ labelOf d v (joined (pieces 1 b))
+    → 120 ≤ length ks
+    → labelOf d v (keyRuns (take (bitmapFound b (length ks) .count) (bitmapKeys b ks))) ≡ labelOf d v (joined (pieces 1 b))

@@ -3,9 +3,10 @@ ghost use mathlib.Core.Path.{_≡_};
 ghost use Prim.Native.Nat.{_+_, _*_, _≤_, _<_};
 ghost use lib.ListN.{length, getD, drop};
 ghost use lib.Seq.{sets};
-ghost use Rattle.bitmap.specs.Entry.{partOf, countIn, partsIn, headed, Right};
-ghost use Rattle.bitmap.specs.Bitmap.{runsOf, foundOf, keysAfter};
-ghost use Rattle.bitmap.specs.Engine.{Stands};
+ghost use Rattle.bitmap.specs.Entry.{partOf, countIn, partsIn, Right};
+ghost use Rattle.bitmap.specs.Bitmap.{bitmapRuns, bitmapFound, inPlace, bitmapKeys};
+ghost use Rattle.bitmap.specs.Stages.{headed, LastKey, Stands};
+use label::Label;
 
 // The runs inside each octet, bit 0 the top one. Run j, counted from 0, has its high at bits 3j to 3j + 2 and its low 16 bits above; bits 28 to 31
 // say how many runs there are.
@@ -268,15 +269,20 @@ const RUNS: [u32; 256] = [
     268435463,
 ];
 
-// Number 0 and how many runs there are; or number 10 and 0.
+// The most octets of a bitmap.
+const BITMAP_OCTETS: usize = (Label::BITMAP_CATEGORIES / 8) as usize;
+
+// Number 0 and how many runs there are; or the number of a refusal and 0.
 pub struct Found {
     pub number: u8,
     pub count: usize,
 }
 
-// Where the engine stands: how many keys are written, and the last bit of the octet before.
+// Where the engine stands: how many keys are written, the last of them, and the last bit of the octet before. The key is kept beside the list, so
+// that a run that goes on is not loaded again.
 pub struct Last {
     pub count: usize,
+    pub key: u32,
     pub bit: u32,
 }
 
@@ -306,64 +312,89 @@ fn count_in(entry: u32) -> usize
 }
 
 // Writes the keys of an entry's runs from a place on: the first above head, the others above base.
-fn put_runs(keys: &mut [u32], at: usize, head: u32, base: u32, entry: u32) -> usize
-    requires { ⌜ (length (now keys) ≡ 120) × (at ≤ 116) × (head ≤ 100000000) × (base ≤ 100000000) × (1 ≤ countIn entry) × (countIn entry ≤ 4) ⌝ }
-    ensures { λ r. ⌜ (r ≡ at + countIn entry) × (now (keys .exit) ≡ sets (now (keys .entry)) at (headed head base (partsIn entry))) ⌝ }
+fn put_runs(keys: &mut [u32], at: usize, head: u32, base: u32, entry: u32, bit: u32) -> Last
+    requires { ⌜ (120 ≤ length (now keys)) × (at ≤ 116) × (head ≤ 100000000) × (base ≤ 100000000) × (1 ≤ countIn entry) × (countIn entry ≤ 4) ⌝ }
+    ensures { λ r. ⌜ (r .count ≡ at + countIn entry) × (r .bit ≡ bit) × LastKey (now (keys .exit)) r × (now (keys .exit) ≡ sets (now (keys .entry)) at (headed head base (partsIn entry))) ⌝ }
 {
     let n = count_in(entry);
-    keys[at] = head + part(entry);
+    let first = head + part(entry);
+    keys[at] = first;
     if n == 1 {
-        return at + 1;
+        return Last {
+            count: at + 1,
+            key: first,
+            bit: bit,
+        };
     }
-    keys[at + 1] = base + part(entry / 8);
+    let second = base + part(entry / 8);
+    keys[at + 1] = second;
     if n == 2 {
-        return at + 2;
+        return Last {
+            count: at + 2,
+            key: second,
+            bit: bit,
+        };
     }
-    keys[at + 2] = base + part(entry / 64);
+    let third = base + part(entry / 64);
+    keys[at + 2] = third;
     if n == 3 {
-        return at + 3;
+        return Last {
+            count: at + 3,
+            key: third,
+            bit: bit,
+        };
     }
-    keys[at + 3] = base + part(entry / 512);
-    at + 4
+    let fourth = base + part(entry / 512);
+    keys[at + 3] = fourth;
+    Last {
+        count: at + 4,
+        key: fourth,
+        bit: bit,
+    }
 }
 
-// Adds the runs of octet i: where its first touches the last run, the two become one.
+// Adds the runs of octet i: where its first touches the last run, the two become one. An octet of ones after a run that touches it is quickest.
 fn add_octet(octets: &[u8], i: usize, entry: u32, keys: &mut [u32], last: Last) -> Last
-    requires { ⌜ (i < length (now octets)) × (length (now octets) ≤ 30) × Right (getD (now octets) i 0) entry × Stands (now octets) i (now keys) last × (length (now keys) ≡ 120) ⌝ }
-    ensures { λ r. ⌜ Stands (now (octets .entry)) (i + 1) (now (keys .exit)) r × (last .count ≤ r .count) × (drop (r .count) (now (keys .exit)) ≡ drop (r .count) (now (keys .entry))) × (length (now (keys .exit)) ≡ 120) ⌝ }
+    requires { ⌜ (i < length (now octets)) × (length (now octets) ≤ 30) × Right (getD (now octets) i 0) entry × Stands (now octets) i (now keys) last × (120 ≤ length (now keys)) ⌝ }
+    ensures { λ r. ⌜ Stands (now (octets .entry)) (i + 1) (now (keys .exit)) r × (last .count ≤ r .count) × (drop (r .count) (now (keys .exit)) ≡ drop (r .count) (now (keys .entry))) × (length (now (keys .exit)) ≡ length (now (keys .entry))) ⌝ }
 {
     let x = widen(octets[i]);
     if x == 0 {
         return Last {
             count: last.count,
+            key: last.key,
             bit: 0,
+        };
+    }
+    if last.bit + x == 256 {
+        let key = last.key + 8;
+        let at = last.count - 1;
+        keys[at] = key;
+        return Last {
+            count: last.count,
+            key: key,
+            bit: 1,
         };
     }
     let base = (i as u32) * 524296;
     if last.bit + x / 128 == 2 {
-        let at = last.count - 1;
-        let head = keys[at] + 1;
-        let count = put_runs(keys, at, head, base, entry);
-        return Last {
-            count: count,
-            bit: x % 2,
-        };
+        return put_runs(keys, last.count - 1, last.key + 1, base, entry, x % 2);
     }
-    let count = put_runs(keys, last.count, base, base, entry);
-    Last {
-        count: count,
-        bit: x % 2,
-    }
+    put_runs(keys, last.count, base, base, entry, x % 2)
 }
 
 // Writes the keys of all runs of at most 30 octets.
 fn fill(octets: &[u8], keys: &mut [u32]) -> usize
-    requires { ⌜ (length (now octets) ≤ 30) × (length (now keys) ≡ 120) ⌝ }
-    ensures { λ r. ⌜ (r ≡ length (runsOf (now (octets .entry)))) × (now (keys .exit) ≡ keysAfter (now (octets .entry)) (now (keys .entry))) ⌝ }
+    requires { ⌜ (length (now octets) ≤ 30) × (120 ≤ length (now keys)) ⌝ }
+    ensures { λ r. ⌜ (r ≡ length (bitmapRuns (now (octets .entry)))) × (now (keys .exit) ≡ inPlace (bitmapRuns (now (octets .entry))) (now (keys .entry))) ⌝ }
 {
     let n = octets.len();
     let table = RUNS;
-    let mut last = Last { count: 0, bit: 0 };
+    let mut last = Last {
+        count: 0,
+        key: 0,
+        bit: 0,
+    };
     let mut i: usize = 0;
     while i < n {
         let x = place_of(octets[i]);
@@ -374,18 +405,25 @@ fn fill(octets: &[u8], keys: &mut [u32]) -> usize
     last.count
 }
 
-// Reads a bitmap's runs into a lent list of keys, low * 65536 + high each, lowest first; what stands after them stays. Over 30 octets are
-// refused with 10, and then every key stays.
-pub fn read_bitmap(octets: &[u8], keys: &mut [u32; 120]) -> Found
-    ensures { λ r. ⌜ (r ≡ foundOf (now (octets .entry))) × (now (keys .exit) ≡ keysAfter (now (octets .entry)) (now (keys .entry))) ⌝ }
+// Reads a bitmap's runs into a lent list of keys, low * 65536 + high each, lowest first; what stands after them stays. A list of under 120
+// numbers is refused with 1, over 30 octets with 10, and then every key stays.
+pub fn read_bitmap(octets: &[u8], keys: &mut [u32]) -> Found
+    ensures { λ r. ⌜ (r ≡ bitmapFound (now (octets .entry)) (length (now (keys .entry)))) × (now (keys .exit) ≡ bitmapKeys (now (octets .entry)) (now (keys .entry))) ⌝ }
 {
+    if keys.len() < Label::MAX_RUNS {
+        return Found {
+            number: 1,
+            count: 0,
+        };
+    }
     let n = octets.len();
-    if 30 < n {
+    if BITMAP_OCTETS < n {
         return Found {
             number: 10,
             count: 0,
         };
     }
+    // the table is not built for no octets
     if n == 0 {
         return Found {
             number: 0,

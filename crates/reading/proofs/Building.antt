@@ -16,7 +16,7 @@ use Rattle.label.proofs.Canon.{Below}
 use Rattle.label.proofs.Keys.{front-store}
 use Rattle.label.proofs.Push.{push-some}
 use Rattle.reading.specs.declared.Last.{Last}
-use Rattle.reading.specs.Building.{lastLow, lastOf, afterPiece}
+use Rattle.reading.specs.Stages.{lastLow, lastOf, afterPiece}
 use Rattle.reading.specs.Keys.{atFront}
 
 -- The last run of a list.

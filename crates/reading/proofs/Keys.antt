@@ -20,7 +20,8 @@ use Rattle.reading.specs.declared.Reading.{Reading}
 use Rattle.reading.specs.declared.KeyReading.{KeyReading}
 use Rattle.reading.specs.declared.Pass.{Pass}
 use Rattle.reading.specs.Reading.{found, refusal, firstOf, categoriesIn, badPlace, tagChecks, labelIn, readingOf, readingFor}
-use Rattle.reading.specs.Keys.{runsIn, keysIn, atFront, keyed, withLabel, labelled, early, keysWith, keyReadingFor, keysAfter, PassOver, ReadsTag, AloneRead, ReadsKeys}
+use Rattle.reading.specs.Keys.{runsIn, keysIn, atFront, keyed, withLabel, labelled, early, keysWith, keyReadingFor, keysAfter, ReadsKeys}
+use Rattle.reading.specs.Stages.{PassOver, ReadsTag, AloneRead}
 use Rattle.reading.proofs.Loops.{runs-joined}
 
 -- A pass over the categories of tag 5 is what a tag that is neither 1 nor 2 asks for.

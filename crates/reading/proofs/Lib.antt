@@ -1,5 +1,4 @@
 pub mod Building
-pub mod Octets
 pub mod Loops
 pub mod Checks
 pub mod Keys

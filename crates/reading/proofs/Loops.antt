@@ -1,10 +1,10 @@
 -- How many runs a reader's loop can have made, and its next piece.
 use Prim.Native.Nat.{ℕ, zero, suc, _+_, _-_, _*_, _/_, _%_, _≤_, _<_, zero-le}
 use mathlib.Core.Path.{_≡_, refl, ap, sym, _∙_}
-use mathlib.Core.List.{List, [], map}
+use mathlib.Core.List.{List, [], _++_, map}
 use mathlib.Core.Bool.{Bool, true, false, cond, _||_}
 use mathlib.Core.Logic.{_⊎_, inl, inr, ⊎-elim}
-use lib.ListN.{length, getD}
+use lib.ListN.{length, drop, length-map}
 use lib.Dec.{leb, ltb, eqb}
 use native.Mathlib.Omega.{arith}
 use native.Mathlib.Numerals.{add-one}
@@ -14,6 +14,9 @@ use Rattle.label.proofs.Bools.{less-or}
 use Rattle.label.proofs.Canon.{canon-length}
 use Rattle.label.proofs.Push.{push-length, push-more, push-top}
 use borrow.Author.Tests.{eqb-false, le-leb, lt-leb, lt-ltb, le-ltb}
+use Rattle.bitmap.specs.declared.Found.{Found}
+use Rattle.bitmap.specs.Bitmap.{bitmapRuns, bitmapFound, bitmapKeys}
+use Rattle.bitmap.proofs.Theorems.{bitmap-below, bitmap-most, bitmap-found, bitmap-keys}
 use Rattle.option.specs.Bitmap.{bitAt}
 use Rattle.option.specs.Option.{numbersIn, singles, pairsIn}
 use Rattle.option.specs.Reading.{turned, bitPieces, pieces}
@@ -22,14 +25,13 @@ use Rattle.option.proofs.Pieces.{joined-good, bits-falling}
 use Rattle.option.proofs.Bridge.{set-joined, numbers-joined, pairs-joined}
 use Rattle.option.proofs.Bad.{first-is}
 use Rattle.reading.specs.Reading.{badPlace}
-use Rattle.reading.specs.Building.{leftIn}
 use Rattle.label.specs.Keys.{runKey}
 use Rattle.reading.specs.declared.Last.{Last}
 use Rattle.reading.specs.declared.Pass.{Pass}
-use Rattle.reading.specs.Keys.{runsIn, atFront, PassOver}
+use Rattle.reading.specs.Keys.{runsIn, atFront}
+use Rattle.reading.specs.Stages.{PassOver}
 use Rattle.label.proofs.Keys.{keys-back}
 use Rattle.reading.proofs.Building.{Stands, stands-count}
-use Rattle.reading.proofs.Octets.{zerosOf, onesOf, restOf, Ones, none-left, ones-left, passed-bits}
 
 -- at most one run a piece
 pub range-most : (lo hi : ℕ → ℕ) (n : ℕ) → length (rangeRuns lo hi n) ≤ n
@@ -41,92 +43,6 @@ range-next lo hi n = rw (add-one n)
 
 pub range-room : (lo hi : ℕ → ℕ) (n : ℕ) → length (pushRun (rangeRuns lo hi n) (lo n) (hi n)) ≤ n + 1
 range-room lo hi n = omega (arith, range-most lo hi (suc n))
-
--- of n bits at most every other one begins a run
-pub set-most : (f : ℕ → Bool) (n : ℕ) → n ≤ 240 → length (setRuns f n) ≤ 120
-set-most f n h =
-    let g = joined-good n (bitPieces f n) (bits-falling f n) in
-    omega (arith, ap length (set-joined f n), canon-length n 0 (joined (bitPieces f n)) (g .0) (g .1) zero-le)
-
-module _ (f : ℕ → Bool) (c : ℕ) where
-  -- bits that are all 0 add nothing
-  pub clear-bits : (e : ℕ) → c ≤ e → ((k : ℕ) → c ≤ k → k < e → f k ≡ false) → setRuns f e ≡ setRuns f c
-  clear-bits zero h z = let q : zero ≡ c = omega arith in ap (setRuns f) q
-  clear-bits (suc e) h z = go (less-or e c) (λ w. clear-bits e w (λ k p q. z k p (omega arith)))
-    where
-      go : (e < c) ⊎ (c ≤ e) → (c ≤ e → setRuns f e ≡ setRuns f c) → setRuns f (suc e) ≡ setRuns f c
-      go (inl w) ih = let q : suc e ≡ c = omega arith in ap (setRuns f) q
-      go (inr w) ih = rw (z e w (omega arith)) (ih w)
-
-  -- bits that are all 1 are one piece
-  pub set-bits : (e : ℕ) → c ≤ e → ((k : ℕ) → c ≤ k → k ≤ e → f k ≡ true) → pushRun (setRuns f c) c e ≡ setRuns f (suc e)
-  set-bits zero h z =
-      let q : c ≡ zero = omega arith in
-      rw (q, z zero h (omega arith))
-  set-bits (suc e) h z = go (less-or e c) (λ w. set-bits e w (λ k p q. z k p (omega arith)))
-    where
-      go : (e < c) ⊎ (c ≤ e) → (c ≤ e → pushRun (setRuns f c) c e ≡ setRuns f (suc e)) → pushRun (setRuns f c) c (suc e) ≡ setRuns f (suc (suc e))
-      go (inl w) ih =
-          let q : c ≡ suc e = omega arith in
-          rw (z (suc e) h (omega arith), q)
-      go (inr w) ih =
-          rw (z (suc e) h (omega arith), ← ih w)
-          (sym (ap (λ (n : ℕ). pushRun (pushRun (setRuns f c) c e) n (suc e)) (sym (add-one e)) ∙ push-more c e (suc e) (setRuns f c)))
-
--- Where the reader of a bitmap stands: `left` has the bits of octet i from category c on.
-pub record Inside (b : List ℕ) (i c left : ℕ) : Type 0 where
-  pub from : 8 * i ≤ c
-  pub most : c ≤ 8 * i + 8
-  pub whole : c ≤ 8 * length b
-  pub small : getD b i 0 < 256
-  pub left-is : left ≡ leftIn (getD b i 0) (c - 8 * i)
-
-pub inside-start : (b : List ℕ) (i left : ℕ) → i ≤ length b → getD b i 0 < 256 → left ≡ leftIn (getD b i 0) 0 → Inside b i (8 * i) left
-inside-start b i left h small e =
-    let z : 8 * i - 8 * i ≡ 0 = omega arith in
-    record { from = omega arith; most = omega arith; whole = omega arith; small = small; left-is = rw z e }
-
-module _ {b : List ℕ} {i c left : ℕ} (t : Inside b i c left) where
-  place : 8 * i + (c - 8 * i) ≡ c
-  place = omega (arith, t .from)
-
-  -- nothing is left of the octet
-  pub octet-over : left ≡ 0 → setRuns (bitAt b) (8 * i + 8) ≡ setRuns (bitAt b) c
-  octet-over z =
-      clear-bits (bitAt b) c (8 * i + 8) (t .most) (λ k p q. passed-bits b true i (c - 8 * i) 8 (t .small) (none-left (getD b i 0) (c - 8 * i) left (t .small) (omega (arith, t .from, t .most)) (t .left-is) z) k (omega (arith, place)) q)
-
-  module _ (z : left ≡ 0 → ⊥) where
-    ones : Ones (getD b i 0) (c - 8 * i) left
-    ones = ones-left (getD b i 0) (c - 8 * i) left (t .small) (omega (arith, t .from, t .most)) (t .left-is) z
-
-    pub ones-some : 0 < onesOf left
-    ones-some = ones .some
-
-    pub ones-most : c + zerosOf left + onesOf left ≤ 8 * i + 8
-    ones-most = omega (arith, place, ones .ones-full .most)
-
-    -- the ones are the next piece
-    pub octet-piece : pushRun (setRuns (bitAt b) c) (c + zerosOf left) (c + zerosOf left + onesOf left - 1) ≡ setRuns (bitAt b) (c + zerosOf left + onesOf left)
-    octet-piece =
-        let low : ℕ = c + zerosOf left in
-        let high : ℕ = low + onesOf left - 1 in
-        let e : suc high ≡ low + onesOf left = omega (arith, ones-some) in
-        let clear : setRuns (bitAt b) low ≡ setRuns (bitAt b) c =
-        clear-bits (bitAt b) c low (omega arith) (λ k p q. passed-bits b true i (c - 8 * i) (c - 8 * i + zerosOf left) (t .small) (ones .zeros-clear) k (omega (arith, place)) (omega (arith, place))) in
-        ap (λ (rs : List Run). pushRun rs low high) (sym clear)
-        ∙ set-bits (bitAt b) low high (omega (arith, ones-some)) (λ k p q. passed-bits b false i (c - 8 * i + zerosOf left) (c - 8 * i + zerosOf left + onesOf left) (t .small) (ones .ones-full) k (omega (arith, place)) (omega (arith, place, ones-some)))
-        ∙ ap (setRuns (bitAt b)) e
-
-    pub inside-next : i < length b → Inside b i (c + zerosOf left + onesOf left) (restOf left)
-    inside-next h =
-        let e : c - 8 * i + zerosOf left + onesOf left ≡ c + zerosOf left + onesOf left - 8 * i = omega (arith, t .from) in
-        record {
-          from = omega (arith, t .from);
-          most = ones-most;
-          whole = omega (arith, ones-most);
-          small = t .small;
-          left-is = ones .rest-is ∙ ap (leftIn (getD b i 0)) e;
-        }
 
 pub first-most : (f : ℕ → Bool) (n : ℕ) → firstTrue f n ≤ n
 first-most f zero = zero-le
@@ -198,6 +114,19 @@ pass-of t b {was} {keys} {rs} {last} s e h bad f =
       bad-at = f;
       left = s .keys-are ∙ ap (λ (z : List Run). atFront (map runKey z) was) e;
       stands = rw (← e) (keys-back rs (s .small));
+    }
+
+-- Tag 1: what the table's engine leaves.
+pub pass-bitmap : (b was keys : List ℕ) (f : Found) → length b ≤ 30 → 120 ≤ length was → (f ≡ bitmapFound b (length was)) × (keys ≡ bitmapKeys b was)
+    → PassOver 1 b was keys (record { count = f .count; bad = length b })
+pass-bitmap b was keys f h room e =
+    let counted : f .count ≡ length (bitmapRuns b) = ap (λ (g : Found). g .count) (e .0 ∙ bitmap-found b h was room) in
+    record {
+      counted = counted;
+      held = omega (arith, counted, bitmap-most b h);
+      bad-at = refl;
+      left = e .1 ∙ bitmap-keys b h was room ∙ ap (λ (n : ℕ). map runKey (bitmapRuns b) ++ drop n was) (sym (length-map (bitmapRuns b) runKey));
+      stands = keys-back (bitmapRuns b) (bitmap-below b h);
     }
 
 -- below the next number is at most this one

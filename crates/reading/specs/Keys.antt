@@ -63,24 +63,3 @@ pub record ReadsKeys (d : ℕ) (o keys keys′ : List ℕ) (r : KeyReading) : Ty
   pub left : keys′ ≡ keysAfter d o keys
   pub held : r .count ≤ 120
   pub reading : 120 ≤ length keys → labelled d r keys′ ≡ readingFor d o
-
--- the same of rows 9 to 13
-pub record ReadsTag (o keys keys′ : List ℕ) (r : KeyReading) : Type 0 where
-  pub answer : r ≡ keyed (firstOf (tagChecks o) (labelIn o))
-  pub left : keys′ ≡ atFront (keysWith (firstOf (tagChecks o) (labelIn o)) o) keys
-  pub held : r .count ≤ 120
-  pub reading : labelled (domainOf o) r keys′ ≡ firstOf (tagChecks o) (labelIn o)
-
--- and of an option alone
-pub record AloneRead (o keys′ : List ℕ) (r : KeyReading) : Type 0 where
-  pub held : r .count ≤ 120
-  pub long : r .number ≡ 0 → 10 ≤ length o
-  pub reading : labelled (domainOf o) r keys′ ≡ readingOf o
-
--- one pass over a tag's categories: how many keys it wrote, where the first bad one begins, and that the keys stand for the runs
-pub record PassOver (t : ℕ) (b keys keys′ : List ℕ) (r : Pass) : Type 0 where
-  pub counted : r .count ≡ length (runsIn t b)
-  pub held : r .count ≤ 120
-  pub bad-at : r .bad ≡ badPlace t b
-  pub left : keys′ ≡ atFront (keysIn t b) keys
-  pub stands : keyRuns (keysIn t b) ≡ runsIn t b

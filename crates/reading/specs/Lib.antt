@@ -1,5 +1,5 @@
 pub mod Reading
 pub mod Keys
-pub mod Building
+pub mod Stages
 pub mod Theorems
 pub mod Examples

@@ -4,16 +4,20 @@ ghost use mathlib.Core.Path.{_≡_};
 ghost use Prim.Native.Nat.{_+_, _*_, _%_, _≤_, _<_};
 ghost use mathlib.Core.Bool.{cond, _&&_, _||_};
 ghost use lib.Dec.{leb, eqb};
-ghost use lib.ListN.{length, getD};
+ghost use lib.ListN.{length};
 ghost use Rattle.label.specs.Runs.{run};
 ghost use Rattle.label.specs.Keys.{runKey};
 ghost use Rattle.option.specs.Option.{domainOf};
 ghost use Rattle.option.specs.Index.{numberAt, bottomAt, pairsOf, badPair};
-ghost use Rattle.reading.specs.Building.{afterPiece, leftIn};
+ghost use Rattle.reading.specs.Stages.{afterPiece, PassOver, ReadsTag, AloneRead};
 ghost use Rattle.reading.specs.Reading.{refusal, knownTag, goodLength, readingOf, readingFor};
-ghost use Rattle.reading.specs.Keys.{keyed, withLabel, PassOver, ReadsTag, AloneRead, ReadsKeys};
+ghost use Rattle.reading.specs.Keys.{keyed, withLabel, ReadsKeys};
+use bitmap::read_bitmap;
 use label::Label;
 use label::to_label;
+
+// The one number of two octets that is no category.
+const NO_CATEGORY: u16 = Label::MAX_CATEGORY + 1;
 
 // Number 0 and the label; else the refusal's number, its pointer from the option's own start, and the all-zero label.
 pub struct Reading {
@@ -88,59 +92,15 @@ fn add_piece(last: Last, low: u16, high: u16) -> Last
     }
 }
 
-// Octet i, or 0 past the end.
-fn octet_at(octets: &[u8], i: usize) -> u16
-    ensures { λ r. ⌜ (r ≡ getD (now (octets .entry)) i 0) × (r < 256) ⌝ }
-{
-    if i < octets.len() {
-        octets[i] as u16
-    } else {
-        0
-    }
-}
-
-// Octet i at the top of 32 bits; 0 past the end.
-fn octet_left(octets: &[u8], i: usize) -> u32
-    ensures { λ r. ⌜ (getD (now (octets .entry)) i 0 < 256) × (r ≡ leftIn (getD (now (octets .entry)) i 0) 0) ⌝ }
-{
-    (octet_at(octets, i) as u32) << 24
-}
-
-// Tag 1: in each octet the ones that stand together are a piece. `left` has the bits of octet i from category c on.
+// Tag 1, by the table; none of its categories can be bad.
 fn bitmap_keys(octets: &[u8], keys: &mut [u32]) -> Pass
     requires { ⌜ (length (now octets) ≤ 30) × (120 ≤ length (now keys)) ⌝ }
     ensures { λ r. ⌜ PassOver 1 (now (octets .entry)) (now (keys .entry)) (now (keys .exit)) r ⌝ }
 {
-    let n = octets.len();
-    let mut last = Last {
-        count: 0,
-        low: 0,
-        next: 0,
-    };
-    let mut i: usize = 0;
-    let mut c: usize = 0;
-    let mut left = octet_left(octets, 0);
-    while i < n {
-        if left == 0 {
-            i += 1;
-            c = 8 * i;
-            left = octet_left(octets, i);
-        } else {
-            let zeros = u32::leading_zeros(left);
-            let raised = left << zeros;
-            let ones = u32::leading_zeros(4294967295 - raised);
-            let low = c + (zeros as usize);
-            c = low + (ones as usize);
-            let high = (c - 1) as u16;
-            last = add_piece(last, low as u16, high);
-            let at = last.count - 1;
-            keys[at] = key_of(last.low, high);
-            left = raised << ones;
-        }
-    }
+    let found = read_bitmap(octets, keys);
     Pass {
-        count: last.count,
-        bad: n,
+        count: found.count,
+        bad: octets.len(),
     }
 }
 
@@ -156,7 +116,7 @@ fn number_at(octets: &[u8], k: usize) -> u16
 fn bad_after(x: u16, next: u32) -> bool
     ensures { λ r. ⌜ r ≡ (eqb x 65535 || leb (x + 1) next) ⌝ }
 {
-    if x == 65535 {
+    if x == NO_CATEGORY {
         return true;
     }
     let after = (x as u32) + 1;
@@ -212,7 +172,7 @@ fn bad_pair(octets: &[u8], j: usize) -> bool
 {
     let top = number_at(octets, 2 * j);
     let bottom = bottom_at(octets, j);
-    if top == 65535 {
+    if top == NO_CATEGORY {
         return true;
     }
     if top < bottom {

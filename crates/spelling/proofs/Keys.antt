@@ -4,23 +4,22 @@ use mathlib.Core.Path.{_≡_, refl, ap, sym, _∙_}
 use mathlib.Core.Bool.{true, cond}
 use mathlib.Core.List.{List, _++_, map}
 use mathlib.Core.Option.{Option, none, some}
-use lib.ListN.{length, getD, take, drop, length-take, length-map, length-append, length-drop}
-use lib.Seq.{length-take-le}
+use lib.ListN.{length, getD, take, drop, length-map, length-append}
+use lib.Seq.{length-take-le, take-at}
 use lib.Dec.{eqb}
 use native.Mathlib.Omega.{arith}
-use native.Mathlib.Decide.{decLe}
 use borrow.Author.Tests.{le-leb, lt-leb, lt-ltb, le-ltb}
 use Rattle.label.specs.declared.Run.{Run}
 use Rattle.label.specs.declared.Label.{Label}
 use Rattle.label.specs.Runs.{countOf}
 use Rattle.label.specs.Label.{noRun, used, wellFormed}
-use Rattle.label.specs.Keys.{keyRun, keyRuns, runKey}
+use Rattle.label.specs.Keys.{keyRun, keyRuns, runKey, keysFit, withKeys}
 use Rattle.label.proofs.Labels.{formed, used-length}
-use Rattle.label.proofs.Keys.{key-at, keys-of}
+use Rattle.label.proofs.Keys.{key-at, keys-runs}
 use Rattle.option.specs.Spelling.{spellingOf, spelledOf}
-use Rattle.spelling.specs.Spelling.{lengthOf, Writes}
+use Rattle.spelling.specs.Spelling.{lengthOf}
 use Rattle.spelling.specs.Keys.{keysSpelled, inFront, keysCount, keysWritten}
-use Rattle.spelling.specs.Parts.{capped, leastOf, choiceOf}
+use Rattle.spelling.specs.Stages.{capped, leastOf, choiceOf}
 use Rattle.spelling.proofs.Sizes.{choice-some}
 
 -- the choice by the first and the last key
@@ -55,55 +54,51 @@ module _ (d v : ℕ) (ks : List ℕ) where
     unfolding keysCount keysWritten
     keys-some out′ r s h e w = (w .0 ∙ rw (le-ltb (length out) 40 h, e), w .1 ∙ rw (le-ltb (length out) 40 h, e))
 
-    -- the same read back
-    pub short-back : length out < 40 → (keysCount d v ks (length out) ≡ 0) × (keysWritten d v ks out ≡ out)
-    short-back h = let p = keys-short h in (sym (p .0), sym (p .1))
+-- keys of at most 120 given runs
+pub keys-spelled : (d v : ℕ) (ks : List ℕ) (rs : List Run) → keyRuns ks ≡ rs → length rs ≤ 120 → keysSpelled d v ks ≡ spellingOf d v rs
+keys-spelled d v ks rs e h = keys-within d v ks (omega (arith, length-map ks keyRun, ap length e)) ∙ ap (spellingOf d v) e
 
-    pub none-back : 40 ≤ length out → keysSpelled d v ks ≡ none → (keysCount d v ks (length out) ≡ 0) × (keysWritten d v ks out ≡ out)
-    none-back h e = let p = keys-none h e in (sym (p .0), sym (p .1))
+-- what `keys_length` answers of them is the length of the spelling
+pub keys-measured : (d v : ℕ) (ks : List ℕ) (rs : List Run) (r : ℕ) → keyRuns ks ≡ rs → length rs ≤ 120
+    → ((d v : ℕ) → r ≡ lengthOf (keysSpelled d v ks)) → r ≡ lengthOf (spellingOf d v rs)
+keys-measured d v ks rs r e h m = m d v ∙ ap lengthOf (keys-spelled d v ks rs e h)
 
-    pub some-back : (s : List ℕ) → 40 ≤ length out → keysSpelled d v ks ≡ some s → (keysCount d v ks (length out) ≡ length s) × (keysWritten d v ks out ≡ s ++ drop (length s) out)
-    some-back s h e = let p = keys-some (s ++ drop (length s) out) (length s) s h e (refl, refl) in (sym (p .0), sym (p .1))
+-- what `write_keys` leaves of an output that is long enough: the option at its front, and the rest as it was
+pub keys-put : (d v : ℕ) (ks : List ℕ) (rs : List Run) (out : List ℕ) → keyRuns ks ≡ rs → length rs ≤ 120 → 40 ≤ length out
+    → (keysCount d v ks (length out) ≡ lengthOf (spellingOf d v rs)) × (keysWritten d v ks out ≡ inFront (spellingOf d v rs) out)
+unfolding keysCount keysWritten
+keys-put d v ks rs out e h long =
+    let s : keysSpelled d v ks ≡ spellingOf d v rs = keys-spelled d v ks rs e h in
+    (rw (le-ltb (length out) 40 long) (ap lengthOf s), rw (le-ltb (length out) 40 long) (ap (λ (o : Option (List ℕ)). inFront o out) s))
 
--- A label's keys.
-module _ (l : Label) (was keys : List ℕ) (long : 120 ≤ length was) (e : 120 ≤ length was → keys ≡ map runKey (used l) ++ drop (length (used l)) was) where
-  pub keys-long : 120 ≤ length keys
-  keys-long = omega (arith, ap length (e long), length-append (map runKey (used l)) (drop (length (used l)) was), length-map (used l) runKey, length-drop (length (used l)) was)
+-- A well-formed label's keys in a list with room for them.
+module _ (l : Label) (was keys : List ℕ) (w : wellFormed l ≡ true) (long : 120 ≤ length was) (e : keys ≡ withKeys l was) where
+  filled : keys ≡ map runKey (used l) ++ drop (l .count) was
+  unfolding keysFit withKeys
+  filled =
+      let h : l .count ≤ 120 = formed l w .held in
+      e ∙ rw (le-leb (l .count) 120 h, le-leb (l .count) (length was) (omega arith))
+
+  mapped : length (map runKey (used l)) ≡ l .count
+  mapped = length-map (used l) runKey ∙ used-length l (formed l w)
 
   -- as many keys as the label counts
-  pub keys-counted : l .count ≤ 120 → l .count ≡ length (take (l .count) keys)
-  keys-counted h = sym (length-take-le (l .count) keys (omega (arith, keys-long)))
+  pub keys-held : l .count ≤ length keys
+  keys-held = omega (arith, ap length filled, length-append (map runKey (used l)) (drop (l .count) was), mapped)
 
-  pub label-spelled : wellFormed l ≡ true → keysSpelled (l .domain) (l .level) (take (l .count) keys) ≡ spelledOf l
-  label-spelled w =
-      let f = formed l w in
-      let n : length (used l) ≡ l .count = used-length l f in
-      let runs : keyRuns (take (l .count) keys) ≡ used l =
-      ap (λ (z : List ℕ). keyRuns (take (l .count) z)) (e long)
-      ∙ ap (λ (k : ℕ). keyRuns (take k (map runKey (used l) ++ drop (length (used l)) was))) (sym n)
-      ∙ keys-of l was (f .runs) in
-      keys-within (l .domain) (l .level) (take (l .count) keys) (omega (arith, length-take (l .count) keys, f .held)) ∙ ap (spellingOf (l .domain) (l .level)) runs
+  pub keys-counted : l .count ≡ length (take (l .count) keys)
+  keys-counted = sym (length-take-le (l .count) keys keys-held)
+
+  pub label-runs : keyRuns (take (l .count) keys) ≡ used l
+  label-runs =
+      ap (λ (z : List ℕ). keyRuns (take (l .count) z)) filled
+      ∙ ap keyRuns (take-at (map runKey (used l)) (drop (l .count) was) (l .count) mapped)
+      ∙ keys-runs 0 (used l) (formed l w .runs)
 
   -- what writing them does
-  pub label-writes : (out out′ : List ℕ) (r : ℕ) → length out′ ≡ length out → r ≡ keysCount (l .domain) (l .level) (take (l .count) keys) (length out)
-      → out′ ≡ keysWritten (l .domain) (l .level) (take (l .count) keys) out → Writes l out out′ r
-  label-writes out out′ r n a b =
-      record {
-        sized = n;
-        short = λ h. (let p = short-back d v ks out h in (a ∙ p .0, b ∙ p .1));
-        unspelled = λ w q. go w q (decLe 40 (length out));
-        spelled = λ w h s q. (let p = some-back d v ks out s h (label-spelled w ∙ q) in (a ∙ p .0, b ∙ p .1));
-      }
-    where
-      d : ℕ
-      d = l .domain
-
-      v : ℕ
-      v = l .level
-
-      ks : List ℕ
-      ks = take (l .count) keys
-
-      go : wellFormed l ≡ true → spelledOf l ≡ none → Dec (40 ≤ length out) → (r ≡ 0) × (out′ ≡ out)
-      go w q (yes h) = let p = none-back d v ks out h (label-spelled w ∙ q) in (a ∙ p .0, b ∙ p .1)
-      go w q (no h) = let p = short-back d v ks out (omega arith) in (a ∙ p .0, b ∙ p .1)
+  pub label-put : (out out′ : List ℕ) (r : ℕ) → 40 ≤ length out
+      → (r ≡ keysCount (l .domain) (l .level) (take (l .count) keys) (length out)) × (out′ ≡ keysWritten (l .domain) (l .level) (take (l .count) keys) out)
+      → (r ≡ lengthOf (spelledOf l)) × (out′ ≡ inFront (spelledOf l) out)
+  label-put out out′ r h c =
+      let p = keys-put (l .domain) (l .level) (take (l .count) keys) (used l) out label-runs (omega (arith, used-length l (formed l w), formed l w .held)) h in
+      (c .0 ∙ p .0, c .1 ∙ p .1)

@@ -17,7 +17,7 @@ use Rattle.label.proofs.Bools.{all-below, implies-yes, less-or}
 use Rattle.option.specs.Spelling.{bitOf, bitsOf, octetsOf}
 use Rattle.option.proofs.Bits.{bit-le}
 use Rattle.label.specs.Keys.{keyRun, keyRuns}
-use Rattle.spelling.specs.Keys.{RunAdded}
+use Rattle.spelling.specs.Stages.{RunAdded}
 use Rattle.spelling.proofs.Numbers.{keys-taken}
 
 same-leb : (x y x′ y′ : ℕ) → (x ≤ y → x′ ≤ y′) → (x′ ≤ y′ → x ≤ y) → leb x y ≡ leb x′ y′

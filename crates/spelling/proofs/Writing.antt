@@ -10,7 +10,7 @@ use lib.Seq.{take-suc-set, drop-set-lt, take-append-seam, take-length, drop-drop
 use Rattle.label.specs.declared.Run.{Run}
 use Rattle.option.specs.Spelling.{tagFor, bodyFor, optionOf, spelledBy, spellingOf, padded}
 use Rattle.option.proofs.Theorems.{spelled-some}
-use Rattle.spelling.specs.Parts.{headOf, zeroed}
+use Rattle.spelling.specs.Stages.{headOf, zeroed}
 
 pub zero-more : (out : List ℕ) (i : ℕ) → i < 40 → 40 ≤ length out → zeroed (i + 1) (set out i 0) ≡ zeroed i out
 zero-more out i h l =

@@ -1,16 +1,12 @@
 -- The spelling of runs that are held as keys, for every list of keys and every output.
-use Prim.Native.Nat.{ℕ, _*_, _<_}
-use mathlib.Core.Path.{_≡_}
+use Prim.Native.Nat.{ℕ}
 use mathlib.Core.Bool.{cond}
 use mathlib.Core.List.{List, _++_}
 use mathlib.Core.Option.{Option, none, some}
-use lib.Bits.{bitOr}
-use lib.ListN.{length, getD, drop}
+use lib.ListN.{length, drop}
 use lib.Dec.{leb, ltb}
-use Rattle.label.specs.declared.Run.{Run}
-use Rattle.label.specs.Runs.{inRun}
 use Rattle.label.specs.Keys.{keyRuns}
-use Rattle.option.specs.Spelling.{bitsOf, spellingOf}
+use Rattle.option.specs.Spelling.{spellingOf}
 use Rattle.spelling.specs.Spelling.{lengthOf}
 
 -- the spelling of the keys' runs; over 120 are no label's
@@ -28,9 +24,3 @@ keysCount d v ks n = cond (ltb n 40) 0 (lengthOf (keysSpelled d v ks))
 
 unfoldable pub keysWritten : ℕ → ℕ → List ℕ → List ℕ → List ℕ
 keysWritten d v ks out = cond (ltb (length out) 40) out (inFront (keysSpelled d v ks) out)
-
--- a run's bits are added to the first n octets of a bitmap
-pub record RunAdded (r : Run) (n : ℕ) (out out′ : List ℕ) : Type 0 where
-  pub sized : length out′ ≡ length out
-  pub rest : drop n out′ ≡ drop n out
-  pub added : (j : ℕ) → j < n → getD out′ j 0 ≡ bitOr (getD out j 0) (bitsOf (inRun r) (8 * j) 8)

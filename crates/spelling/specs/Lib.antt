@@ -1,4 +1,4 @@
 pub mod Spelling
 pub mod Keys
-pub mod Parts
+pub mod Stages
 pub mod Theorems

@@ -9,9 +9,9 @@ ghost use Rattle.label.specs.Runs.{covers, countOf};
 ghost use Rattle.label.specs.Keys.{keyRun, keyRuns};
 ghost use Rattle.option.specs.Spelling.{octetsOf, octetsOut, numbersOf, tagFor, bodyFor};
 ghost use Rattle.option.specs.Index.{numbersOut, pairNumber};
-ghost use Rattle.spelling.specs.Spelling.{lengthOf, spellingAnswer, spellingOut, Measures, Writes};
-ghost use Rattle.spelling.specs.Keys.{keysSpelled, keysCount, keysWritten, RunAdded};
-ghost use Rattle.spelling.specs.Parts.{capped, leastOf, choiceOf, headOf, zeroed};
+ghost use Rattle.spelling.specs.Spelling.{lengthOf, spellingAnswer, spellingOut};
+ghost use Rattle.spelling.specs.Keys.{keysSpelled, keysCount, keysWritten};
+ghost use Rattle.spelling.specs.Stages.{capped, leastOf, choiceOf, headOf, zeroed, RunAdded};
 use label::Label;
 use label::label_keys;
 use option::ALIGNMENT_AT;
@@ -27,7 +27,7 @@ use option::TAG_TYPE_AT;
 pub const OPTION_OCTETS: usize = 40;
 
 // The most octets of categories that a tag 1, a tag 2 and a tag 5 have: 240 bits, 15 numbers, 7 pairs.
-const BITMAP_OCTETS: usize = 30;
+const BITMAP_OCTETS: usize = (Label::BITMAP_CATEGORIES / 8) as usize;
 
 const NUMBERS_OCTETS: usize = 30;
 
@@ -64,7 +64,10 @@ pub fn spell_label(label: Label, out: &mut [u8]) -> Spelling
             count: 0,
         };
     }
-    let length = write_option(label, &mut out[..]);
+    let n = label.count;
+    let mut keys = [0u32; 120];
+    label_keys(label, &mut keys);
+    let length = write_keys(&keys[..n], label.domain, label.level, &mut out[..]);
     if length == 0 {
         return Spelling {
             number: 18,
@@ -76,32 +79,6 @@ pub fn spell_label(label: Label, out: &mut [u8]) -> Spelling
         number: 0,
         count: length,
     }
-}
-
-// The length of the spelling of a label that the caller knows to be well formed, or 0 where it has none.
-pub fn option_length(label: Label) -> usize
-    ensures { λ r. ⌜ Measures label r ⌝ }
-{
-    let n = label.count;
-    if Label::MAX_RUNS < n {
-        return 0;
-    }
-    let mut keys = [0u32; 120];
-    label_keys(label, &mut keys);
-    keys_length(&keys[..n])
-}
-
-// Writes the spelling of a label that the caller knows to be well formed, and returns its length; or writes nothing and returns 0.
-pub fn write_option(label: Label, out: &mut [u8]) -> usize
-    ensures { λ r. ⌜ Writes label (now (out .entry)) (now (out .exit)) r ⌝ }
-{
-    let n = label.count;
-    if Label::MAX_RUNS < n {
-        return 0;
-    }
-    let mut keys = [0u32; 120];
-    label_keys(label, &mut keys);
-    write_keys(&keys[..n], label.domain, label.level, out)
 }
 
 // The length of the spelling of the keys' runs, in any domain at any level, or 0 where they have none.

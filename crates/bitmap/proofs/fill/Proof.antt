@@ -2,22 +2,22 @@
 use borrow.Author.Needs.{needs}
 use native.Mathlib.Omega.{arith}
 use Prim.Native.Nat.{_-_, _≤_}
-use mathlib.Core.Path.{_≡_, refl}
+use mathlib.Core.Path.{_≡_, refl, _∙_}
 use lib.ListN.{drop, length}
-use Rattle.bitmap.specs.Engine.{Stands}
+use Rattle.bitmap.specs.Stages.{Stands}
 use Rattle.bitmap.proofs.Table.{rule}
 use Rattle.bitmap.proofs.Turn.{stands-start, stays, stands-end}
 use Rattle.bitmap.proofs.fill.Statement.{statement}
 use Rattle.bitmap.proofs.fill.Tie as tie
 
 abbrev Inv-loop : tie.InvT-loop
-Inv-loop octets keys₀ n table last₀ i₀ keys last i = Stands octets i keys last × (drop (last .count) keys ≡ drop (last .count) keys₀) × (i ≤ n) × (length keys ≡ 120)
+Inv-loop octets keys₀ n table last₀ i₀ keys last i = Stands octets i keys last × (drop (last .count) keys ≡ drop (last .count) keys₀) × (i ≤ n) × (length keys ≡ length keys₀)
 
 abbrev μ-loop : tie.MeasureT-loop
 μ-loop octets keys₀ n table last₀ i₀ keys last i = n - i
 
 loop-holds : tie.Need-loop-holds Inv-loop μ-loop
-loop-holds c = (stands-start _ _, refl, omega arith, c .before .before .pre .1)
+loop-holds c = (stands-start _ _, refl, omega arith, refl)
 
 shared-slice-read-place-of : tie.Need-shared-slice-read-place-of Inv-loop μ-loop
 shared-slice-read-place-of c = search needs
@@ -34,7 +34,7 @@ array-read-entry c = search needs
 add-octet-requires : tie.Need-add-octet-requires Inv-loop μ-loop
 add-octet-requires c κs =
     let p = c .before .place-of in
-    (search needs, search needs, rw (← p .ensures .0) (rule (p .result) (p .ensures .1)), c .before .before .before .before .loop .inv .0, c .before .before .before .before .loop .inv .3)
+    (search needs, search needs, rw (← p .ensures .0) (rule (p .result) (p .ensures .1)), c .before .before .before .before .loop .inv .0, omega (arith, c .before .before .before .before .loop .inv .3, c .before .before .before .before .before .before .before .pre .1))
 
 add-i : tie.Need-add-i Inv-loop μ-loop
 add-i c = search needs
@@ -46,15 +46,15 @@ loop-again : tie.Need-loop-again Inv-loop μ-loop
 loop-again c =
     let l = c .before .before .before .before .before .before .before .loop in
     let a = c .before .before .add-octet in
-    (a .ensures .0, stays (l .last .count) (a .result .count) _ _ _ (a .ensures .1) (a .ensures .2) (l .inv .1), omega (arith, c .before .before .before .before .before .before .loop-test .taken), a .ensures .3)
+    (a .ensures .0, stays (l .last .count) (a .result .count) _ _ _ (a .ensures .1) (a .ensures .2) (l .inv .1), omega (arith, c .before .before .before .before .before .before .loop-test .taken), a .ensures .3 ∙ l .inv .3)
 
 same-length : tie.Need-same-length Inv-loop μ-loop
-same-length c = omega (arith, c .before .loop .inv .3, c .before .before .before .before .pre .1)
+same-length c = c .before .loop .inv .3
 
 returns : tie.Need-returns Inv-loop μ-loop
 returns c =
     let l = c .before .loop in
-    stands-end _ _ _ (l .i) (l .last) (omega (arith, l .inv .2, c .loop-test .left)) (c .before .before .before .before .pre .0) (l .inv .0) (l .inv .1)
+    stands-end _ _ _ (l .i) (l .last) (omega (arith, l .inv .2, c .loop-test .left)) (l .inv .0) (l .inv .1)
 
 pub fill-spec : {M : Type 1} → statement M
 fill-spec =

@@ -9,7 +9,7 @@ use mathlib.Core.Path.{_≡_, refl, sym, _∙_, ap}
 use lib.ListN.{length, length-set}
 use Rattle.label.specs.declared.Run.{Run}
 use Rattle.label.specs.Runs.{pushRun}
-use Rattle.reading.specs.Building.{afterPiece}
+use Rattle.reading.specs.Stages.{afterPiece}
 use Rattle.option.specs.Index.{rangeRuns, numberAt, badNumber, firstTrue}
 use Rattle.option.proofs.Bad.{first-is}
 use Rattle.reading.proofs.Building.{Stands, stands-nil, stands-count, stands-next, stands-push, piece-count, piece-some}

@@ -8,7 +8,7 @@ use lib.ListN.{length, length-set}
 use Rattle.label.specs.declared.Run.{Run}
 use Rattle.label.specs.Runs.{run, pushRun}
 use Rattle.label.specs.Keys.{runKey}
-use Rattle.reading.specs.Building.{afterPiece}
+use Rattle.reading.specs.Stages.{afterPiece}
 use Rattle.option.specs.Index.{rangeRuns, pairsOf, lowPair, highPair, badPair, topAt, bottomAt}
 use Rattle.reading.proofs.Building.{Stands, stands-nil, stands-count, stands-push, piece-count, piece-some}
 use Rattle.reading.proofs.Loops.{range-most, range-next, range-room, FirstFrom, first-start, first-next, first-found, pass-of}

@@ -10,7 +10,8 @@ use lib.ListN.{length, take, drop}
 use lib.Dec.{leb}
 use Rattle.option.specs.Option.{tagOf, tagLengthOf}
 use Rattle.reading.specs.Reading.{refusal, knownTag, goodLength, categoriesIn, badPlace}
-use Rattle.reading.specs.Keys.{keyed, PassOver}
+use Rattle.reading.specs.Keys.{keyed}
+use Rattle.reading.specs.Stages.{PassOver}
 use Rattle.reading.proofs.Keys.{refused-tag, found-tag}
 use Rattle.reading.proofs.Checks.{Lengths, lengths, Past, categories-length, part-is, stops9, stops10, stops11, stops12, stops13, passes}
 use Rattle.reading.proofs.read_tag.Statement.{statement}

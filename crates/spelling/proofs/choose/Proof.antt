@@ -6,7 +6,7 @@ use mathlib.Core.Path.{_≡_, refl, _∙_}
 use lib.ListN.{length, length-map}
 use Rattle.label.specs.Runs.{countOf}
 use Rattle.label.specs.Keys.{keyRun, keyRuns}
-use Rattle.spelling.specs.Parts.{leastOf}
+use Rattle.spelling.specs.Stages.{leastOf}
 use Rattle.spelling.proofs.Sizes.{capped-most, choice-none}
 use Rattle.spelling.proofs.Keys.{choice-keys}
 use borrow.Author.Needs.{needs}
