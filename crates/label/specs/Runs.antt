@@ -76,6 +76,11 @@ pushRun [] l h = run l h ∷ []
 pushRun (r ∷ []) l h = cond (eqb (r .high + 1) l) (run (r .low) h ∷ []) (r ∷ run l h ∷ [])
 pushRun (r ∷ s ∷ rs) l h = r ∷ pushRun (s ∷ rs) l h
 
+-- the runs of the categories below n of which the test says yes
+abbrev pub setRuns : (ℕ → Bool) → ℕ → List Run
+setRuns f zero = []
+setRuns f (suc n) = cond (f n) (pushRun (setRuns f n) n n) (setRuns f n)
+
 -- pieces, highest first, as runs, lowest first
 abbrev pub joined : List Run → List Run
 joined [] = []

@@ -6,12 +6,8 @@ use lib.ListN.{length, getD}
 use lib.Dec.{leb, ltb, eqb}
 use Rattle.label.specs.declared.Run.{Run}
 use Rattle.label.specs.Runs.{run, pushRun}
+pub use Rattle.label.specs.Runs.{setRuns}
 use Rattle.option.specs.Spelling.{numbersOf}
-
--- the runs of the categories below n of which f says yes
-abbrev pub setRuns : (ℕ → Bool) → ℕ → List Run
-setRuns f zero = []
-setRuns f (suc n) = cond (f n) (pushRun (setRuns f n) n n) (setRuns f n)
 
 -- the ranges lo 0 to hi 0, lo 1 to hi 1, .. up to n of them, lowest first
 abbrev pub rangeRuns : (ℕ → ℕ) → (ℕ → ℕ) → ℕ → List Run

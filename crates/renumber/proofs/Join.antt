@@ -1,7 +1,7 @@
 -- Laws of ranges in order: joined where they touch, they are the one form of their set.
 use mathlib.Core.Path.{_≡_, refl, sym, _∙_, ap}
-use mathlib.Core.Bool.{Bool, true, false, cond, _&&_, _||_, or-false, or-assoc}
-use mathlib.Core.List.{List, [], _∷_}
+use mathlib.Core.Bool.{Bool, true, false, cond, _&&_, _||_, or-assoc}
+use mathlib.Core.List.{List, [], _∷_, _++_, append-assoc}
 use mathlib.Core.Logic.{_⊎_, inl, inr, ⊎-elim}
 use Prim.Native.Nat.{ℕ, _+_, _-_, _/_, _%_, _≤_, _<_}
 use native.Mathlib.Omega.{arith}
@@ -9,37 +9,11 @@ use native.Mathlib.Decide.{decLe}
 use lib.Dec.{leb, ltb}
 use borrow.Author.Tests.{le-leb, lt-leb, leb-true, leb-false, ltb-true, ltb-false}
 use Rattle.label.specs.Runs.{inRun, covers, spaced}
-use Rattle.label.specs.Keys.{keyRun, keyRuns}
 use Rattle.label.proofs.Bools.{and-left, and-right}
-use Rattle.order.specs.Order.{Sorted, all, insertKey, sortOnto}
-use Rattle.renumber.specs.Keys.{stretched, joinFrom, joinAll, Key}
-
-or-swap : (a b c : Bool) → (a || (b || c)) ≡ (b || (a || c))
-or-swap true true c = refl
-or-swap true false c = refl
-or-swap false true c = refl
-or-swap false false c = refl
-
--- Sorting changes no membership.
-pub insert-covers : (k : ℕ) (xs : List ℕ) (c : ℕ) → covers (keyRuns (insertKey k xs)) c ≡ (inRun (keyRun k) c || covers (keyRuns xs) c)
-insert-covers k [] c = refl
-insert-covers k (x ∷ xs) c = go (leb x k) (insert-covers k xs c)
-  where
-    go : (b : Bool) → covers (keyRuns (insertKey k xs)) c ≡ (inRun (keyRun k) c || covers (keyRuns xs) c)
-        → covers (keyRuns (cond b (x ∷ insertKey k xs) (k ∷ x ∷ xs))) c ≡ (inRun (keyRun k) c || (inRun (keyRun x) c || covers (keyRuns xs) c))
-    go true ih = rw ih (or-swap (inRun (keyRun x) c) (inRun (keyRun k) c) (covers (keyRuns xs) c))
-    go false ih = refl
-
-pub sort-covers : (ys xs : List ℕ) (c : ℕ) → covers (keyRuns (sortOnto ys xs)) c ≡ (covers (keyRuns ys) c || covers (keyRuns xs) c)
-sort-covers ys [] c = sym (or-false (covers (keyRuns ys) c))
-sort-covers ys (x ∷ xs) c =
-    sort-covers (insertKey x ys) xs c ∙ rw (insert-covers x ys c) (go (inRun (keyRun x) c) (covers (keyRuns ys) c) (covers (keyRuns xs) c))
-  where
-    go : (a b d : Bool) → ((a || b) || d) ≡ (b || (a || d))
-    go true true d = refl
-    go true false d = refl
-    go false true d = refl
-    go false false d = refl
+use Rattle.order.specs.Order.{Sorted, all}
+use Rattle.order.proofs.Merge.{sorted-lower}
+use Rattle.label.specs.Keys.{keyRun, keyRuns}
+use Rattle.renumber.specs.Stages.{stretched, joinFrom, joinAll, pushKey, joinOnto, Key}
 
 pub record IsKey (k : ℕ) : Type 0 where
   pub ordered : k / 65536 ≤ k % 65536
@@ -82,10 +56,6 @@ stretch-covers k x s c t a b h l =
       where
         last : (c ≤ k % 65536 → ⊥) → leb c (s % 65536) ≡ leb c (x % 65536)
         last v = ⊎-elim (λ w. simp (lt-leb c (s % 65536) (omega arith), lt-leb c (x % 65536) (omega (arith, t .over)))) (λ w. ap (leb c) w) (t .one)
-
-sorted-lower : (a b : ℕ) (xs : List ℕ) → a ≤ b → Sorted b xs → Sorted a xs
-sorted-lower a b [] h s = tt
-sorted-lower a b (x ∷ xs) h s = (omega (arith, s .0), s .1)
 
 pub join-covers : (k : ℕ) (ks : List ℕ) (c : ℕ) → Sorted k ks → IsKey k → all Key ks ≡ true → covers (keyRuns (joinFrom k ks)) c ≡ (inRun (keyRun k) c || covers (keyRuns ks) c)
 join-covers k [] c s a g = refl
@@ -132,3 +102,27 @@ all-covers (k ∷ ks) c s g = join-covers k ks c (s .1) (is-key k (and-left (Key
 pub all-spaced : (ks : List ℕ) → Sorted 0 ks → all Key ks ≡ true → spaced 0 (keyRuns (joinAll ks)) ≡ true
 all-spaced [] s g = refl
 all-spaced (k ∷ ks) s g = join-spaced k 0 ks (s .1) (is-key k (and-left (Key k) _ g)) (and-right (Key k) _ g) (omega arith)
+
+-- Joined from the other end.
+pub push-last : (ks : List ℕ) (k x : ℕ) → pushKey (ks ++ (k ∷ [])) x ≡ ks ++ cond (leb (x / 65536) (k % 65536 + 1)) (stretched k x ∷ []) (k ∷ x ∷ [])
+push-last [] k x = refl
+push-last (j ∷ []) k x = refl
+push-last (j ∷ i ∷ ks) k x = ap (λ (z : List ℕ). j ∷ z) (push-last (i ∷ ks) k x)
+
+onto-last : (ks : List ℕ) (k : ℕ) (xs : List ℕ) → joinOnto (ks ++ (k ∷ [])) xs ≡ ks ++ joinFrom k xs
+onto-last ks k [] = refl
+onto-last ks k (x ∷ xs) =
+    ap (λ (z : List ℕ). joinOnto z xs) (push-last ks k x) ∙ go (leb (x / 65536) (k % 65536 + 1)) (onto-last ks (stretched k x) xs) (onto-last (ks ++ (k ∷ [])) x xs)
+  where
+    go : (b : Bool) → joinOnto (ks ++ (stretched k x ∷ [])) xs ≡ ks ++ joinFrom (stretched k x) xs → joinOnto ((ks ++ (k ∷ [])) ++ (x ∷ [])) xs ≡ (ks ++ (k ∷ [])) ++ joinFrom x xs
+        → joinOnto (ks ++ cond b (stretched k x ∷ []) (k ∷ x ∷ [])) xs ≡ ks ++ cond b (joinFrom (stretched k x) xs) (k ∷ joinFrom x xs)
+    go true p q = p
+    go false p q = ap (λ (z : List ℕ). joinOnto z xs) (sym (append-assoc ks (k ∷ []) (x ∷ []))) ∙ q ∙ append-assoc ks (k ∷ []) (joinFrom x xs)
+
+pub onto-all : (ks : List ℕ) → joinOnto [] ks ≡ joinAll ks
+onto-all [] = refl
+onto-all (k ∷ ks) = onto-last [] k ks
+
+pub onto-append : (ks xs ys : List ℕ) → joinOnto ks (xs ++ ys) ≡ joinOnto (joinOnto ks xs) ys
+onto-append ks [] ys = refl
+onto-append ks (x ∷ xs) ys = onto-append (pushKey ks x) xs ys

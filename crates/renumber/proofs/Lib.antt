@@ -2,6 +2,10 @@ pub mod Sets
 pub mod Image
 pub mod Join
 pub mod Pass
+pub mod Pieces
+pub mod Starts
 pub mod Turns
+pub mod Held
+pub mod Carrying
 pub mod Answers
 pub mod Theorems

@@ -1,82 +1,54 @@
--- Laws of the pass over rows and runs that cuts a set into pieces, one row each.
+-- Laws of the pass over rows and runs that finds whether every category has a number, and of the numbers of a set asked row by row.
 use mathlib.Core.Path.{_≡_, refl, sym, _∙_, ap}
-use mathlib.Core.Bool.{Bool, true, false, not, _&&_, _||_, or-false, or-assoc}
-use mathlib.Core.List.{List, [], _∷_, _++_, map-append}
-use mathlib.Core.Logic.{_⊎_, ⊎-elim}
-use Prim.Native.Nat.{ℕ, zero, suc, _+_, _-_, _/_, _%_, _≤_, _<_, max}
+use mathlib.Core.Bool.{Bool, true, false, not, _&&_, _||_}
+use mathlib.Core.List.{List, [], _∷_}
+use mathlib.Core.Logic.{⊎-elim}
+use Prim.Native.Nat.{ℕ, zero, suc, _+_, _-_, _≤_, _<_, max}
 use native.Mathlib.Omega.{arith}
 use lib.Dec.{leb, eqb}
 use borrow.Author.Tests.{le-leb, leb-true, eqb-true, eq-eqb}
 use Rattle.label.specs.declared.Run.{Run}
-use Rattle.label.specs.Runs.{run, inRun, covers, spaced}
-use Rattle.label.specs.Keys.{keyRun, keyRuns}
+use Rattle.label.specs.Runs.{run, covers, spaced}
 use Rattle.label.proofs.Bools.{never, and-left, and-right, not-yes, less-or, or-true-right, same-yes, all-below, below-all, implies-yes, yes-implies}
-use Rattle.label.proofs.Runs.{First, first, lower, covers-top, covers-append}
+use Rattle.label.proofs.Runs.{First, first, lower, covers-top}
 use Rattle.table.specs.declared.Row.{Row}
 use Rattle.table.specs.Table.{targetEnd, rising}
 use Rattle.table.specs.Numbers.{hasNumber, sends, someBelow, numbered, inImage}
 use Rattle.table.proofs.Rows.{good, rise-lower}
-use Rattle.order.specs.Order.{Sorted, all, sortKeys}
-use Rattle.order.proofs.Laws.{sort-all, sort-sorted}
-use Rattle.renumber.specs.Sets.{runsOf}
-use Rattle.renumber.specs.Keys.{joinAll, hit, hits, pieceKey, Key, Pieces}
-use Rattle.renumber.proofs.Image.{Numbered, piece, pieceLow, pieceHigh, front, left, hits-none, skip-hits, skip-to, skip-back, stop-before, stop-none, whole-hits, whole-to, whole-back, cut-spaced, cut-hits, cut-to, cut-back}
-use Rattle.renumber.proofs.Join.{sort-covers, all-covers, all-spaced}
-use Rattle.renumber.proofs.Sets.{the-runs}
+use Rattle.renumber.specs.Stages.{hit, hits}
+use Rattle.renumber.proofs.Image.{Numbered, left, skip-to, skip-back, stop-before, stop-none, whole-to, whole-back, cut-spaced, cut-to, cut-back}
 
 -- the first run from `f` on
 abbrev pub clip : ℕ → List Run → List Run
 clip f [] = []
 clip f (x ∷ xs) = run (max (x .low) f) (x .high) ∷ xs
 
--- What is left of rows and runs, with the keys of the pieces so far, says the same as the whole.
-pub record Left (rows : List Row) (runs : List Run) (ks : List ℕ) (rs : List Row) (xs : List Run) : Type 0 where
+-- What is left of rows and runs says the same as the whole.
+pub record Left (rows : List Row) (runs : List Run) (rs : List Row) (xs : List Run) : Type 0 where
   pub rise : rising 0 rs ≡ true
   pub gaps : spaced 0 xs ≡ true
-  pub keys : all Key ks ≡ true
-  pub image : (d : ℕ) → hits rows runs d ≡ (covers (keyRuns ks) d || hits rs xs d)
   pub to : Numbered rows runs → Numbered rs xs
   pub back : Numbered rs xs → Numbered rows runs
 
-pub left-start : (rows : List Row) (runs : List Run) → rising 0 rows ≡ true → spaced 0 runs ≡ true → Left rows runs [] rows runs
-left-start rows runs e h = record { rise = e; gaps = h; keys = refl; image = λ d. refl; to = λ k. k; back = λ k. k }
+pub left-start : (rows : List Row) (runs : List Run) → rising 0 rows ≡ true → spaced 0 runs ≡ true → Left rows runs rows runs
+left-start rows runs e h = record { rise = e; gaps = h; to = λ k. k; back = λ k. k }
 
-all-snoc : (p : ℕ → Bool) (ks : List ℕ) (k : ℕ) → all p ks ≡ true → p k ≡ true → all p (ks ++ (k ∷ [])) ≡ true
-all-snoc p [] k e h = rw h
-all-snoc p (x ∷ ks) k e h = rw (and-left (p x) _ e) (all-snoc p ks k (and-right (p x) _ e) h)
+-- no run is left: the other rows change nothing
+pub left-done : (rows : List Row) (runs : List Run) (r : Row) (rs : List Row) → Left rows runs (r ∷ rs) [] → Left rows runs rs []
+left-done rows runs r rs k =
+    record {
+      rise = rise-lower (r .high + 1) 0 rs (omega arith) (good 0 r rs (k .rise) .rest);
+      gaps = refl;
+      to = λ q c e. absurd (never (sym e));
+      back = λ q. k .back (λ c e. absurd (never (sym e)));
+    }
 
-piece-key : (r : Row) (x : Run) → r .low ≤ x .low → x .low ≤ x .high → x .high ≤ r .high → targetEnd r ≤ 65534 → keyRun (pieceKey r (x .low) (x .high)) ≡ piece r x
-piece-key r x h o l t =
-    let a : pieceKey r (x .low) (x .high) / 65536 ≡ pieceLow r x = omega arith in
-    let b : pieceKey r (x .low) (x .high) % 65536 ≡ pieceHigh r x = omega arith in
-    λ i. record { low = a i; high = b i }
-
-is-piece : (r : Row) (x : Run) → r .low ≤ x .low → x .low ≤ x .high → x .high ≤ r .high → targetEnd r ≤ 65534 → Key (pieceKey r (x .low) (x .high)) ≡ true
-is-piece r x h o l t =
-    let a : pieceKey r (x .low) (x .high) / 65536 ≡ pieceLow r x = omega arith in
-    let b : pieceKey r (x .low) (x .high) % 65536 ≡ pieceHigh r x = omega arith in
-    rw (a, b) (simp (le-leb (pieceLow r x) (pieceHigh r x) (omega arith), le-leb (pieceHigh r x) 65534 (omega arith)))
-
-module _ (rows : List Row) (runs : List Run) (ks : List ℕ) (r : Row) (rs : List Row) (x : Run) (xs : List Run) (k : Left rows runs ks (r ∷ rs) (x ∷ xs)) where
-  grown : (y : Run) → keyRun (pieceKey r (y .low) (y .high)) ≡ piece r y → (b : Bool) (d : ℕ)
-      → (covers (keyRuns ks) d || (inRun (piece r y) d || b)) ≡ (covers (keyRuns (ks ++ (pieceKey r (y .low) (y .high) ∷ []))) d || b)
-  grown y e b d =
-      let n : ℕ = pieceKey r (y .low) (y .high) in
-      let q : inRun (keyRun n) d ≡ inRun (piece r y) d = ap (λ (z : Run). inRun z d) e in
-      let m : covers (keyRuns (ks ++ (n ∷ []))) d ≡ (covers (keyRuns ks) d || inRun (piece r y) d) =
-      ap (λ (z : List Run). covers z d) (map-append keyRun ks (n ∷ []))
-      ∙ covers-append (keyRuns ks) (keyRun n ∷ []) d
-      ∙ ap (λ (z : Bool). covers (keyRuns ks) d || z) (or-false (inRun (keyRun n) d) ∙ q) in
-      sym (ap (λ (z : Bool). z || b) m ∙ or-assoc (covers (keyRuns ks) d) (inRun (piece r y) d) b)
-
-  pub left-skip : r .high < x .low → Left rows runs ks rs (x ∷ xs)
+module _ (rows : List Row) (runs : List Run) (r : Row) (rs : List Row) (x : Run) (xs : List Run) (k : Left rows runs (r ∷ rs) (x ∷ xs)) where
+  pub left-skip : r .high < x .low → Left rows runs rs (x ∷ xs)
   left-skip h =
-      let g = good 0 r rs (k .rise) in
       record {
-        rise = rise-lower (r .high + 1) 0 rs (omega arith) (g .rest);
+        rise = rise-lower (r .high + 1) 0 rs (omega arith) (good 0 r rs (k .rise) .rest);
         gaps = k .gaps;
-        keys = k .keys;
-        image = λ d. k .image d ∙ ap (λ (b : Bool). covers (keyRuns ks) d || b) (skip-hits 0 r rs x xs (k .rise) (k .gaps) h d);
         to = λ q. skip-to 0 r rs x xs (k .rise) (k .gaps) h (k .to q);
         back = λ q. k .back (skip-back 0 r rs x xs (k .rise) (k .gaps) q);
       }
@@ -84,37 +56,27 @@ module _ (rows : List Row) (runs : List Run) (ks : List ℕ) (r : Row) (rs : Lis
   pub left-stop : x .low < r .low → Numbered rows runs → ⊥
   left-stop h q = stop-before 0 r rs x xs (k .rise) (k .gaps) h (k .to q)
 
-  pub left-whole : r .low ≤ x .low → x .high ≤ r .high → Left rows runs (ks ++ (pieceKey r (x .low) (x .high) ∷ [])) (r ∷ rs) xs
+  pub left-whole : r .low ≤ x .low → x .high ≤ r .high → Left rows runs (r ∷ rs) xs
   left-whole h l =
       let s = first 0 x xs (k .gaps) in
-      let g = good 0 r rs (k .rise) in
       record {
         rise = k .rise;
         gaps = lower (x .high + 2) 0 xs (omega arith) (s .rest);
-        keys = all-snoc Key ks (pieceKey r (x .low) (x .high)) (k .keys) (is-piece r x h (s .ordered) l (g .end));
-        image = λ d. k .image d
-            ∙ ap (λ (b : Bool). covers (keyRuns ks) d || b) (whole-hits 0 r rs x xs (k .rise) (s .ordered) h l d)
-            ∙ grown x (piece-key r x h (s .ordered) l (g .end)) (hits (r ∷ rs) xs d) d;
         to = λ q. whole-to 0 r rs x xs (k .rise) (s .ordered) h l (k .to q);
         back = λ q. k .back (whole-back 0 r rs x xs (k .rise) (s .ordered) h l q);
       }
 
-  pub left-cut : r .low ≤ x .low → x .low ≤ r .high → r .high < x .high → Left rows runs (ks ++ (pieceKey r (x .low) (r .high) ∷ [])) rs (left r x ∷ xs)
+  pub left-cut : r .low ≤ x .low → x .low ≤ r .high → r .high < x .high → Left rows runs rs (left r x ∷ xs)
   left-cut h m l =
-      let g = good 0 r rs (k .rise) in
       record {
-        rise = rise-lower (r .high + 1) 0 rs (omega arith) (g .rest);
+        rise = rise-lower (r .high + 1) 0 rs (omega arith) (good 0 r rs (k .rise) .rest);
         gaps = cut-spaced 0 r rs x xs (k .rise) (k .gaps) h m l;
-        keys = all-snoc Key ks (pieceKey r (x .low) (r .high)) (k .keys) (is-piece r (front r x) h m (omega arith) (g .end));
-        image = λ d. k .image d
-            ∙ ap (λ (b : Bool). covers (keyRuns ks) d || b) (cut-hits 0 r rs x xs (k .rise) (k .gaps) h m l d)
-            ∙ grown (front r x) (piece-key r (front r x) h m (omega arith) (g .end)) (hits rs (left r x ∷ xs) d) d;
         to = λ q. cut-to 0 r rs x xs (k .rise) (k .gaps) h m l (k .to q);
         back = λ q. k .back (cut-back 0 r rs x xs (k .rise) (k .gaps) h m l q);
       }
 
-pub left-none : (rows : List Row) (runs : List Run) (ks : List ℕ) (x : Run) (xs : List Run) → Left rows runs ks [] (x ∷ xs) → Numbered rows runs → ⊥
-left-none rows runs ks x xs k q = stop-none x xs (k .gaps) (k .to q)
+pub left-none : (rows : List Row) (runs : List Run) (x : Run) (xs : List Run) → Left rows runs [] (x ∷ xs) → Numbered rows runs → ⊥
+left-none rows runs x xs k q = stop-none x xs (k .gaps) (k .to q)
 
 -- The first run from a number on, as the loop has it.
 clip-same : (f g : ℕ) (xs : List Run) → spaced g xs ≡ true → f ≤ g → clip f xs ≡ xs
@@ -130,25 +92,20 @@ clip-start (x ∷ xs) =
     let m : max (x .low) 0 ≡ x .low = omega arith in
     λ i. record { low = m i; high = x .high } ∷ xs
 
-module _ (rows : List Row) (runs : List Run) (ks : List ℕ) (r : Row) (rs : List Row) (f : ℕ) (x : Run) (xs : List Run) (k : Left rows runs ks (r ∷ rs) (clip f (x ∷ xs))) where
-  pub turn-whole : r .low ≤ max (x .low) f → x .high ≤ r .high → Left rows runs (ks ++ (pieceKey r (max (x .low) f) (x .high) ∷ [])) (r ∷ rs) (clip f xs)
+module _ (rows : List Row) (runs : List Run) (r : Row) (rs : List Row) (f : ℕ) (x : Run) (xs : List Run) (k : Left rows runs (r ∷ rs) (clip f (x ∷ xs))) where
+  pub turn-whole : r .low ≤ max (x .low) f → x .high ≤ r .high → Left rows runs (r ∷ rs) (clip f xs)
   turn-whole h l =
       let s : First 0 (run (max (x .low) f) (x .high)) xs = first 0 (run (max (x .low) f) (x .high)) xs (k .gaps) in
-      rw (clip-same f (x .high + 2) xs (s .rest) (omega (arith, s .ordered)))
-      (left-whole rows runs ks r rs (run (max (x .low) f) (x .high)) xs k h l)
+      rw (clip-same f (x .high + 2) xs (s .rest) (omega (arith, s .ordered))) (left-whole rows runs r rs (run (max (x .low) f) (x .high)) xs k h l)
 
-  pub turn-cut : r .low ≤ max (x .low) f → max (x .low) f ≤ r .high → r .high < x .high → Left rows runs (ks ++ (pieceKey r (max (x .low) f) (r .high) ∷ [])) rs (clip (r .high + 1) (x ∷ xs))
+  pub turn-cut : r .low ≤ max (x .low) f → max (x .low) f ≤ r .high → r .high < x .high → Left rows runs rs (clip (r .high + 1) (x ∷ xs))
   turn-cut h m l =
       let e : max (x .low) (r .high + 1) ≡ r .high + 1 = omega arith in
-      rw e (left-cut rows runs ks r rs (run (max (x .low) f) (x .high)) xs k h m l)
+      rw e (left-cut rows runs r rs (run (max (x .low) f) (x .high)) xs k h m l)
 
 -- The end of the pass.
-pub left-pieces : (rows : List Row) (runs : List Run) (ks : List ℕ) (rs : List Row) → Left rows runs ks rs [] → Pieces rows runs ks
-left-pieces rows runs ks rs k =
-    record { keys = k .keys; image = λ d. k .image d ∙ rw (hits-none rs d) (or-false (covers (keyRuns ks) d)) }
-
-pub left-numbered : (rows : List Row) (runs : List Run) (ks : List ℕ) (rs : List Row) → Left rows runs ks rs [] → Numbered rows runs
-left-numbered rows runs ks rs k = k .back (λ c e. absurd (never (sym e)))
+pub left-numbered : (rows : List Row) (runs : List Run) (rs : List Row) → Left rows runs rs [] → Numbered rows runs
+left-numbered rows runs rs k = k .back (λ c e. absurd (never (sym e)))
 
 pub numbered-yes : (rows : List Row) (runs : List Run) → Numbered rows runs → numbered rows runs ≡ true
 unfolding numbered
@@ -215,11 +172,3 @@ image-hits rs xs d e s =
     same-yes _ _
     (λ w. let c = some-below 65535 (λ c. covers xs c && sends rs c d) w in sends-hits 0 rs xs (c .0) d e (and-left (covers xs (c .0)) _ (c .1)) (and-right (covers xs (c .0)) _ (c .1)))
     (λ w. let c = hits-sends 0 rs xs d e w in below-some 65535 (λ c. covers xs c && sends rs c d) (c .0) (omega (arith, covers-top 0 xs (c .0) s (c .1))) (rw (c .1) (c .2)))
-
--- The pieces in order, joined, are the runs of the image.
-pub pieces-runs : (rs : List Row) (xs : List Run) (ks : List ℕ) → rising 0 rs ≡ true → spaced 0 xs ≡ true → Pieces rs xs ks → keyRuns (joinAll (sortKeys ks)) ≡ runsOf (inImage rs xs)
-pieces-runs rs xs ks e s p =
-    let o : Sorted 0 (sortKeys ks) = sort-sorted [] ks tt in
-    let g : all Key (sortKeys ks) ≡ true = sort-all Key [] ks ∙ p .keys in
-    the-runs (inImage rs xs) (keyRuns (joinAll (sortKeys ks))) (all-spaced (sortKeys ks) o g)
-    (λ c. all-covers (sortKeys ks) c o g ∙ sort-covers [] ks c ∙ sym (image-hits rs xs c e s ∙ p .image c))

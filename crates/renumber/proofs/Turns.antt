@@ -1,69 +1,42 @@
 -- One turn of each loop that writes, over plain lists.
-use mathlib.Core.Path.{_≡_, refl, sym, _∙_, ap}
+use mathlib.Core.Path.{_≡_, sym, _∙_, ap}
 use mathlib.Core.List.{List, [], _∷_, _++_, append-assoc}
-use Prim.Native.Nat.{ℕ, _+_, _/_, _%_, _≤_, _<_}
+use Prim.Native.Nat.{ℕ, suc, _+_, _-_, _/_, _%_, _≤_, _<_}
 use native.Mathlib.Omega.{arith}
-use native.Mathlib.Numerals.{add-one}
-use lib.ListN.{length, take, drop, getD, set, length-set}
-use lib.Seq.{take-suc-set, drop-set-lt, drop-drop, getD-drop}
+use lib.ListN.{length, take, drop, getD, set}
+use lib.Seq.{take-suc, drop-drop, drop-set-lt}
 use borrow.Author.Tests.{le-leb, lt-leb}
-use Rattle.label.proofs.Steps.{next-used, used-up}
-use Rattle.renumber.specs.Keys.{stretched, joinFrom, joinAll}
+use Rattle.order.proofs.Merge.{put}
+use Rattle.renumber.specs.Stages.{stretched, pushKey}
+use Rattle.renumber.proofs.Join.{push-last}
 
-pub record Joining (was : List ℕ) (n : ℕ) (s : List ℕ) (cur w i : ℕ) : Type 0 where
-  pub behind : w < i
-  pub inside : i ≤ n
-  pub long : length s ≡ length was
-  pub rest : drop i s ≡ drop i was
-  pub whole : joinAll (take n was) ≡ take w s ++ joinFrom cur (drop i (take n was))
+-- A range is put behind the others, or joined to the last.
+module _ (keys : List ℕ) (w x : ℕ) (h : w < length keys) where
+  pub push-first : w ≡ 0 → take 1 (set keys 0 x) ≡ pushKey (take w keys) x
+  push-first e =
+      let l : 0 < length keys = omega arith in
+      rw e (put keys 0 x l)
 
-pub stored : (s : List ℕ) (w x : ℕ) → w < length s → take (w + 1) (set s w x) ≡ take w s ++ (x ∷ [])
-stored s w x h = rw (add-one w) (take-suc-set s w x h)
+  last-is : 0 < w → take w keys ≡ take (w - 1) keys ++ (getD keys (w - 1) 0 ∷ [])
+  last-is p = let z : suc (w - 1) ≡ w = omega arith in ap (λ (k : ℕ). take k keys) (sym z) ∙ take-suc keys (w - 1) 0 (omega arith)
 
-module _ (was : List ℕ) (n : ℕ) (fits : n ≤ length was) where
-  pub join-start : 0 < n → Joining was n was (getD was 0 0) 0 1
-  join-start h =
-      record {
-        behind = omega arith;
-        inside = h;
-        long = refl;
-        rest = refl;
-        whole = ap joinAll (next-used 0 was n 0 h fits);
-      }
+  pub push-joined : 0 < w → x / 65536 ≤ getD keys (w - 1) 0 % 65536 + 1 → take w (set keys (w - 1) (stretched (getD keys (w - 1) 0) x)) ≡ pushKey (take w keys) x
+  push-joined p t =
+      let z : w - 1 + 1 ≡ w = omega arith in
+      let q : ℕ = getD keys (w - 1) 0 in
+      let a : take w (set keys (w - 1) (stretched q x)) ≡ take (w - 1) keys ++ (stretched q x ∷ []) = rw z at (put keys (w - 1) (stretched q x) (omega arith)) in
+      a ∙ sym (ap (λ (l : List ℕ). pushKey l x) (last-is p) ∙ push-last (take (w - 1) keys) q x ∙ simp (le-leb (x / 65536) (q % 65536 + 1) t))
 
-  module _ (s : List ℕ) (cur w i : ℕ) (k : Joining was n s cur w i) where
-    read : getD was i 0 ≡ getD s i 0
-    read =
-        let z : i + 0 ≡ i = omega arith in
-        sym (rw z at (getD-drop i was 0 0)) ∙ ap (λ (l : List ℕ). getD l 0 0) (sym (k .rest)) ∙ rw z at (getD-drop i s 0 0)
+  pub push-behind : 0 < w → getD keys (w - 1) 0 % 65536 + 1 < x / 65536 → take (w + 1) (set keys w x) ≡ pushKey (take w keys) x
+  push-behind p t =
+      let q : ℕ = getD keys (w - 1) 0 in
+      put keys w x h
+      ∙ ap (λ (l : List ℕ). l ++ (x ∷ [])) (last-is p)
+      ∙ append-assoc (take (w - 1) keys) (q ∷ []) (x ∷ [])
+      ∙ sym (ap (λ (l : List ℕ). pushKey l x) (last-is p) ∙ push-last (take (w - 1) keys) q x ∙ simp (lt-leb (x / 65536) (q % 65536 + 1) t))
 
-    next-is : i < n → drop i (take n was) ≡ getD s i 0 ∷ drop (i + 1) (take n was)
-    next-is h = rw (← read) (next-used 0 was n i h fits)
-
-    later : drop (i + 1) s ≡ drop (i + 1) was
-    later = sym (drop-drop 1 i s) ∙ ap (drop 1) (k .rest) ∙ drop-drop 1 i was
-
-    pub join-on : i < n → getD s i 0 / 65536 ≤ cur % 65536 + 1 → Joining was n s (stretched cur (getD s i 0)) w (i + 1)
-    join-on h t =
-        record {
-          behind = omega (arith, k .behind);
-          inside = omega arith;
-          long = k .long;
-          rest = later;
-          whole = k .whole ∙ rw (next-is h) (simp (le-leb (getD s i 0 / 65536) (cur % 65536 + 1) t));
-        }
-
-    pub join-new : i < n → cur % 65536 + 1 < getD s i 0 / 65536 → Joining was n (set s w cur) (getD s i 0) (w + 1) (i + 1)
-    join-new h t =
-        record {
-          behind = omega (arith, k .behind);
-          inside = omega arith;
-          long = length-set s w cur ∙ k .long;
-          rest = drop-set-lt (i + 1) s w cur (omega (arith, k .behind)) ∙ later;
-          whole = k .whole
-              ∙ rw (next-is h, stored s w cur (omega (arith, k .behind, k .inside, k .long)))
-              (simp (lt-leb (getD s i 0 / 65536) (cur % 65536 + 1) t) (sym (append-assoc (take w s) (cur ∷ []) (joinFrom (getD s i 0) (drop (i + 1) (take n was))))));
-        }
-
-    pub join-end : n ≤ i → take (w + 1) (set s w cur) ≡ joinAll (take n was)
-    join-end h = stored s w cur (omega (arith, k .behind, k .inside, k .long)) ∙ sym (k .whole ∙ rw (used-up was n i h))
+-- What is not written stays: further on, what is the same from a place on is the same.
+pub same-later : (a b : List ℕ) (w r : ℕ) → w ≤ r → drop w a ≡ drop w b → drop r a ≡ drop r b
+same-later a b w r h e =
+    let z : w + (r - w) ≡ r = omega arith in
+    ap (λ (k : ℕ). drop k a) (sym z) ∙ sym (drop-drop (r - w) w a) ∙ ap (drop (r - w)) e ∙ drop-drop (r - w) w b ∙ ap (λ (k : ℕ). drop k b) z

@@ -1,4 +1,5 @@
 pub mod Sets
 pub mod Renumber
-pub mod Keys
+pub mod Carry
+pub mod Stages
 pub mod Theorems

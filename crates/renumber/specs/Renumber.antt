@@ -24,9 +24,13 @@ refusal n = record { number = n; label = zeroLabel }
 abbrev pub done : Label → Renumbered
 done l = record { number = 0; label = l }
 
--- the numbers of the label's categories, the whole set: it may have more runs than a label holds
+-- the numbers of the runs' categories, the whole set: it may have more runs than a label holds
+abbrev pub imageOf : Table → List Run → List Run
+imageOf t rs = runsOf (inImage (usedRows t) rs)
+
+-- those of a label's categories
 abbrev pub imageRuns : Label → Table → List Run
-imageRuns l t = runsOf (inImage (usedRows t) (used l))
+imageRuns l t = imageOf t (used l)
 
 -- 18 over 120 runs, else the label of the far domain and level
 abbrev pub fitted : ℕ → ℕ → List Run → Renumbered
@@ -52,7 +56,3 @@ unfoldable pub carriedOf : Label → Table → List (List ℕ) → Label → Lab
 carriedOf l t ls lowest highest =
     whenNumbered (partnerOf (take (t .pairs) ls) (l .level)) (numbered (usedRows t) (used l))
     (λ v. cond (setInRange lowest highest v (imageRuns l t)) (fitted (t .to) v (imageRuns l t)) (refusal 17))
-
--- what carrying answers of a label, a table and a range that are known to be sound
-pub record Carries (l : Label) (t : Table) (ls : List (List ℕ)) (lowest highest : Label) (r : Renumbered) : Type 0 where
-  pub carries : wellFormed l ≡ true → tableSound t ls ≡ true → wellFormed lowest ≡ true → wellFormed highest ≡ true → r ≡ carriedOf l t ls lowest highest

@@ -1,22 +1,23 @@
 // A label carried to the far domain: its level's partner, and the numbers that the rows of a table give to its categories.
 ghost use mathlib.Core.Path.{_≡_};
-ghost use Prim.Native.Nat.{_≤_, max};
-ghost use lib.ListN.{length, take};
+ghost use mathlib.Core.Bool.{true};
+ghost use Prim.Native.Nat.{_+_, _≤_, _<_, min, max};
+ghost use lib.ListN.{length, take, drop};
+ghost use Rattle.label.specs.Runs.{spaced};
 ghost use Rattle.label.specs.Keys.{keyRuns};
-ghost use Rattle.label.specs.Range.{answered, lookOf, runsBetween};
-ghost use Rattle.renumber.specs.Renumber.{refusal, fitted, renumberedOf, Carries};
-ghost use Rattle.renumber.specs.Keys.{stretched, joinAll, PieceOf, CutOf, ImageOf};
+ghost use Rattle.table.specs.Table.{usedRows, targetEnd, rowsSound};
+ghost use Rattle.table.specs.Numbers.{partnerOf, numbered};
+ghost use Rattle.renumber.specs.Renumber.{refusal, fitted, imageOf, renumberedOf};
+ghost use Rattle.renumber.specs.Carry.{labelRuns, notCarried, carriedTo, carriedKeys, carryOf};
+ghost use Rattle.renumber.specs.Stages.{stretched, pushKey, joinOnto, pieceKey, rowPieces, Ready, Starts, Gathered};
 use label::Label;
-use label::Look;
-use label::look_between;
-use label::runs_between;
+use label::label_keys;
 use label::to_label;
-use order::sort_keys;
 use table::Partner;
 use table::Row;
 use table::Table;
 use table::partner_of;
-use table::table_sound;
+use table::table_order;
 
 // A refusal's number with an all-zero label, or 0 and the label.
 pub struct Renumbered {
@@ -24,17 +25,22 @@ pub struct Renumbered {
     pub label: Label,
 }
 
-// Whether every category has a number, and how many ranges were written down.
-pub struct Cut {
-    pub whole: bool,
+// A refusal's number, or 0 with the level's partner and how many runs were written down.
+pub struct Carried {
+    pub number: u8,
+    pub level: u8,
     pub count: usize,
 }
+
+// The most runs that a label's categories have in the far domain: its 120 runs, cut by 64 rows.
+pub const MOST_RUNS: usize = 184;
 
 // The label renumbered by the table, or the first refusal of 2, 16 and 18.
 pub fn renumber(label: Label, table: Table, levels: [[u8; 2]; 16]) -> Renumbered
     ensures { λ r. ⌜ r ≡ renumberedOf label table levels ⌝ }
 {
-    if !table_sound(table, levels) {
+    let mut order = [0u32; 64];
+    if !table_order(table, levels, &mut order) {
         return refused(2);
     }
     if !label.well_formed() {
@@ -43,54 +49,88 @@ pub fn renumber(label: Label, table: Table, levels: [[u8; 2]; 16]) -> Renumbered
     if label.domain != table.from {
         return refused(16);
     }
-    let pairs = table.pairs;
-    let level = label.level;
-    let partner = partner_of(levels, pairs, level);
-    let Partner::Level(far) = partner else {
-        return refused(16);
-    };
-    let mut keys = [0u32; 184];
-    let image = image_keys(label, table, &mut keys);
-    if !image.whole {
+    let mut own = [0u32; 120];
+    label_keys(label, &mut own);
+    let mut far = [0u32; MOST_RUNS];
+    let carried = carry_checked(
+        &own,
+        label.count,
+        label.level,
+        table,
+        levels,
+        &order,
+        &mut far,
+    );
+    if carried.number != 0 {
         return refused(16);
     }
-    let n = image.count;
-    to_answer(&keys, n, table.to, far)
+    let n = carried.count;
+    to_answer(&far, n, table.to, carried.level)
 }
 
-// The same for a label and a table that the caller knows to be sound and to fit each other, held against a range of the far domain before
-// the runs are counted: the first refusal of 16, 17 and 18. Of others nothing is said.
+// A level and the runs of a label, the first n keys or all where there are fewer, carried to the far domain: the level's partner, how many runs the
+// categories' numbers have, and these runs as keys at the head of the lent list. 2 for an unsound table, keys that are not the runs of a well-formed
+// label, or a list of under 184 places; 16 where the level or a category has no number; then the list stays as it was.
 pub fn carry(
-    label: Label,
+    keys: &[u32],
+    n: usize,
+    level: u8,
     table: Table,
     levels: [[u8; 2]; 16],
-    lowest: Label,
-    highest: Label,
-) -> Renumbered
-    ensures { λ r. ⌜ Carries label table levels lowest highest r ⌝ }
+    far: &mut [u32],
+) -> Carried
+    ensures { λ r. ⌜ (r ≡ carryOf (keyRuns (take n (now (keys .entry)))) level table levels (length (now (far .entry)))) × (now (far .exit) ≡ carriedKeys r (imageOf table (keyRuns (take n (now (keys .entry))))) (now (far .entry))) ⌝ }
 {
-    if Label::MAX_RUNS < label.count {
-        return refused(16);
+    let mut order = [0u32; 64];
+    let sound = table_order(table, levels, &mut order);
+    let formed = keys_formed(keys, n);
+    if !(sound & formed & (MOST_RUNS <= far.len())) {
+        return not_carried(2);
     }
-    if 64 < table.count {
-        return refused(16);
+    let m = fewer(n, keys.len());
+    carry_checked(keys, m, level, table, levels, &order, far)
+}
+
+fn not_carried(number: u8) -> Carried
+    ensures { λ r. ⌜ r ≡ notCarried number ⌝ }
+{
+    Carried {
+        number: number,
+        level: 0,
+        count: 0,
     }
-    let pairs = table.pairs;
-    let level = label.level;
-    let partner = partner_of(levels, pairs, level);
-    let Partner::Level(far) = partner else {
-        return refused(16);
-    };
-    let mut keys = [0u32; 184];
-    let image = image_keys(label, table, &mut keys);
-    if !image.whole {
-        return refused(16);
+}
+
+// Whether the first n keys, all where there are fewer, are the runs of a well-formed label. The pass does not end early; the ends ascend, so the last
+// alone is held against the highest category.
+fn keys_formed(keys: &[u32], n: usize) -> bool
+    ensures { λ r. ⌜ r ≡ labelRuns (keyRuns (take n (now (keys .entry)))) ⌝ }
+{
+    let m = fewer(n, keys.len());
+    if Label::MAX_RUNS < m {
+        return false;
     }
-    let count = image.count;
-    if !keys_between(&keys, count, far, lowest, highest) {
-        return refused(17);
+    let mut good = true;
+    let mut floor: u32 = 0;
+    let mut i: usize = 0;
+    while i < m {
+        let key = keys[i];
+        let low = key / 65536;
+        let high = key % 65536;
+        good = good & (floor <= low) & (low <= high);
+        floor = high + 2;
+        i += 1;
     }
-    to_answer(&keys, count, table.to, far)
+    good & (floor <= 65536)
+}
+
+fn fewer(a: usize, b: usize) -> usize
+    ensures { λ r. ⌜ r ≡ min a b ⌝ }
+{
+    if b < a {
+        return b;
+    }
+    a
 }
 
 fn refused(number: u8) -> Renumbered
@@ -118,70 +158,85 @@ fn to_answer(keys: &[u32], n: usize, domain: u32, level: u8) -> Renumbered
     }
 }
 
-// The numbers of the label's categories, as ranges in order that do not touch: the pieces that the rows cut, sorted, joined.
-fn image_keys(label: Label, table: Table, keys: &mut [u32]) -> Cut
-    requires { ⌜ (label .count ≤ 120) × (table .count ≤ 64) × (184 ≤ length (now keys)) ⌝ }
-    ensures { λ r. ⌜ ImageOf label table (r .whole) (r .count) (now (keys .exit)) ⌝ }
+// The same for what was checked, with the rows in order: gathered row by row in the order of their targets, nothing is sorted.
+fn carry_checked(
+    own: &[u32],
+    n: usize,
+    level: u8,
+    table: Table,
+    levels: [[u8; 2]; 16],
+    order: &[u32],
+    far: &mut [u32],
+) -> Carried
+    requires { ⌜ (n ≤ length (now own)) × (184 ≤ length (now far)) × Ready table (now order) (keyRuns (take n (now own))) ⌝ }
+    ensures { λ r. ⌜ (r ≡ carriedTo (partnerOf (take (table .pairs) levels) level) (numbered (usedRows table) (keyRuns (take n (now (own .entry))))) (imageOf table (keyRuns (take n (now (own .entry)))))) × (now (far .exit) ≡ carriedKeys r (imageOf table (keyRuns (take n (now (own .entry))))) (now (far .entry))) ⌝ }
 {
-    let pieces = cut_runs(label, table, keys);
-    let n = pieces.count;
-    sort_keys(keys, n);
-    let m = join_keys(keys, n);
-    Cut {
-        whole: pieces.whole,
-        count: m,
+    let partner = partner_of(levels, table.pairs, level);
+    let Partner::Level(to) = partner else {
+        return not_carried(16);
+    };
+    if n == 0 {
+        // no run: no row is looked at
+        return Carried {
+            number: 0,
+            level: to,
+            count: 0,
+        };
+    }
+    let mut start = [0u32; 65];
+    if !find_starts(own, n, table, &mut start) {
+        return not_carried(16);
+    }
+    let count = gather_rows(own, n, table, order, &start, far);
+    Carried {
+        number: 0,
+        level: to,
+        count: count,
     }
 }
 
-// One pass over both: the label's categories are cut into pieces that each lie in one row, and the numbers of each piece are written down.
-fn cut_runs(label: Label, table: Table, keys: &mut [u32]) -> Cut
-    requires { ⌜ (label .count ≤ 120) × (table .count ≤ 64) × (184 ≤ length (now keys)) ⌝ }
-    ensures { λ r. ⌜ CutOf label table (r .whole) (r .count) (now (keys .exit)) ⌝ }
+// One pass over rows and ranges: whether every category lies in a row, and for each row the first range that may reach into it.
+fn find_starts(own: &[u32], n: usize, table: Table, start: &mut [u32]) -> bool
+    requires { ⌜ (n ≤ length (now own)) × (n ≤ 120) × (length (now start) ≡ 65) × (table .count ≤ 64) × (rowsSound table ≡ true) × (spaced 0 (keyRuns (take n (now own))) ≡ true) ⌝ }
+    ensures { λ r. ⌜ Starts (usedRows table) (keyRuns (take n (now (own .entry)))) r (now (start .exit)) ⌝ }
 {
-    let n = label.count;
     let m = table.count;
-    let mut from: u16 = 0;
+    let mut from: u32 = 0;
     let mut i: usize = 0;
     let mut j: usize = 0;
-    let mut k: usize = 0;
-    while i < n {
-        if m <= j {
-            return Cut {
-                whole: false,
-                count: k,
-            };
-        }
-        let run = label.runs[i];
-        let row = table.rows[j];
-        let low = larger(run.low, from);
-        if row.high < low {
+    start[0] = 0;
+    while j < m {
+        if n <= i {
             j += 1;
+            start[j] = i as u32;
         } else {
-            if low < row.low {
-                return Cut {
-                    whole: false,
-                    count: k,
-                };
-            }
-            if run.high <= row.high {
-                keys[k] = piece_key(row, low, run.high);
-                k += 1;
-                i += 1;
-            } else {
-                keys[k] = piece_key(row, low, row.high);
-                k += 1;
-                from = row.high + 1;
+            let run = own[i];
+            let row = table.rows[j];
+            let low = larger(run / 65536, from);
+            let high = run % 65536;
+            let base = row.low as u32;
+            let top = row.high as u32;
+            if top < low {
                 j += 1;
+                start[j] = i as u32;
+            } else {
+                if low < base {
+                    return false;
+                }
+                if high <= top {
+                    i += 1;
+                } else {
+                    from = top + 1;
+                    j += 1;
+                    start[j] = i as u32;
+                }
             }
         }
     }
-    Cut {
-        whole: true,
-        count: k,
-    }
+    n <= i
 }
 
-fn larger(a: u16, b: u16) -> u16
+fn larger(a: u32, b: u32) -> u32
     ensures { λ r. ⌜ r ≡ max a b ⌝ }
 {
     if a < b {
@@ -190,23 +245,95 @@ fn larger(a: u16, b: u16) -> u16
     a
 }
 
+fn smaller(a: u32, b: u32) -> u32
+    ensures { λ r. ⌜ r ≡ min a b ⌝ }
+{
+    if a < b {
+        return a;
+    }
+    b
+}
+
+// The pieces that the rows cut out of the ranges, in the order of the rows' targets, joined where they touch.
+fn gather_rows(
+    own: &[u32],
+    n: usize,
+    table: Table,
+    order: &[u32],
+    start: &[u32],
+    keys: &mut [u32],
+) -> usize
+    requires { ⌜ (n ≤ length (now own)) × (184 ≤ length (now keys)) × (length (now start) ≡ 65) × Ready table (now order) (keyRuns (take n (now own))) × Starts (usedRows table) (keyRuns (take n (now own))) true (now start) ⌝ }
+    ensures { λ r. ⌜ Gathered (usedRows table) (keyRuns (take n (now (own .entry)))) (now (keys .entry)) r (now (keys .exit)) ⌝ }
+{
+    let m = table.count;
+    let mut w: usize = 0;
+    let mut k: usize = 0;
+    while k < m {
+        let x = order[k];
+        let j = (x % 65536) as usize;
+        let row = table.rows[j];
+        let y = start[j];
+        let at = y as usize;
+        w = gather_row(own, n, at, row, keys, w);
+        k += 1;
+    }
+    w
+}
+
+// The pieces of one row are put behind the first w keys.
+fn gather_row(own: &[u32], n: usize, at: usize, row: Row, keys: &mut [u32], w: usize) -> usize
+    requires { ⌜ (n ≤ length (now own)) × (row .low ≤ row .high) × (targetEnd row ≤ 65534) × (spaced 0 (keyRuns (take n (now own))) ≡ true) × (w + length (rowPieces row (drop at (keyRuns (take n (now own))))) ≤ length (now keys)) ⌝ }
+    ensures { λ r. ⌜ (w ≤ r) × (r ≤ w + length (rowPieces row (drop at (keyRuns (take n (now (own .entry))))))) × (drop r (now (keys .exit)) ≡ drop r (now (keys .entry))) × (take r (now (keys .exit)) ≡ joinOnto (take w (now (keys .entry))) (rowPieces row (drop at (keyRuns (take n (now (own .entry))))))) ⌝ }
+{
+    let base = row.low as u32;
+    let top = row.high as u32;
+    let mut k = w;
+    let mut i = at;
+    while i < n {
+        let run = own[i];
+        if top < run / 65536 {
+            return k;
+        }
+        let low = larger(run / 65536, base);
+        let high = smaller(run % 65536, top);
+        if low <= high {
+            let x = piece_key(row, low, high);
+            k = push_key(keys, k, x);
+            i += 1;
+        } else {
+            i += 1;
+        }
+    }
+    k
+}
+
 // The numbers of the categories low to high of a row, as one key.
-fn piece_key(row: Row, low: u16, high: u16) -> u32
-    ensures { λ r. ⌜ PieceOf row low high r ⌝ }
+fn piece_key(row: Row, low: u32, high: u32) -> u32
+    requires { ⌜ (row .low ≤ low) × (low ≤ high) × (high ≤ row .high) × (targetEnd row ≤ 65534) ⌝ }
+    ensures { λ r. ⌜ r ≡ pieceKey row low high ⌝ }
 {
     let target = row.target as u32;
     let base = row.low as u32;
-    let start = low as u32;
-    let end = high as u32;
-    if start < base {
-        return 0;
+    (target + (low - base)) * 65536 + (target + (high - base))
+}
+
+// The range is put behind the first w, or joined to the last where they touch.
+fn push_key(keys: &mut [u32], w: usize, x: u32) -> usize
+    requires { ⌜ w < length (now keys) ⌝ }
+    ensures { λ r. ⌜ (w ≤ r) × (r ≤ w + 1) × (drop r (now (keys .exit)) ≡ drop r (now (keys .entry))) × (take r (now (keys .exit)) ≡ pushKey (take w (now (keys .entry))) x) ⌝ }
+{
+    if w == 0 {
+        keys[0] = x;
+        return 1;
     }
-    if end < base {
-        return 0;
+    let last = keys[w - 1];
+    if x / 65536 <= last % 65536 + 1 {
+        keys[w - 1] = stretch(last, x);
+        return w;
     }
-    let first = target + (start - base);
-    let last = target + (end - base);
-    first % 65536 * 65536 + last % 65536
+    keys[w] = x;
+    w + 1
 }
 
 // The key's range goes on to the end of the other, where that is higher.
@@ -219,42 +346,4 @@ fn stretch(k: u32, x: u32) -> u32
         return k - hi + end;
     }
     k
-}
-
-// The first n ranges, which are in order, are joined where they touch; the number of those that are left.
-fn join_keys(s: &mut [u32], n: usize) -> usize
-    requires { ⌜ n ≤ length (now s) ⌝ }
-    ensures { λ r. ⌜ (r ≤ n) × (take r (now (s .exit)) ≡ joinAll (take n (now (s .entry)))) ⌝ }
-{
-    if n == 0 {
-        return 0;
-    }
-    let mut cur = s[0];
-    let mut w: usize = 0;
-    let mut i: usize = 1;
-    while i < n {
-        let x = s[i];
-        if x / 65536 <= cur % 65536 + 1 {
-            cur = stretch(cur, x);
-            i += 1;
-        } else {
-            s[w] = cur;
-            w += 1;
-            cur = x;
-            i += 1;
-        }
-    }
-    s[w] = cur;
-    w + 1
-}
-
-// Whether the level and the categories of the ranges lie between those of the two labels: a first look, and a pass where it leaves the answer open.
-fn keys_between(keys: &[u32], n: usize, level: u8, lowest: Label, highest: Label) -> bool
-    ensures { λ r. ⌜ r ≡ answered (lookOf lowest highest level (keyRuns (take n (now (keys .entry))))) (runsBetween lowest highest (keyRuns (take n (now (keys .entry))))) ⌝ }
-{
-    match look_between(keys, n, level, lowest, highest) {
-        Look::Within => true,
-        Look::Outside => false,
-        Look::Open => runs_between(keys, n, lowest, highest),
-    }
 }

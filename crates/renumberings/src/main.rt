@@ -1,5 +1,6 @@
 // Labels renumbered by tables that scatter them: each line has the number, then the domain, the level, the count of runs and the runs.
 use label::Label;
+use label::Look;
 use label::Run;
 use renumber::Renumbered;
 use table::Row;
@@ -114,6 +115,52 @@ fn pairs() -> [[u8; 2]; 16] {
     ]
 }
 
+fn refused(number: u8) -> Renumbered {
+    let none = Label::empty(0, 0);
+    Renumbered {
+        number: number,
+        label: none,
+    }
+}
+
+// Whether a level and the runs of the first n keys lie between two labels.
+fn between(keys: &[u32], n: usize, level: u8, lowest: Label, highest: Label) -> bool {
+    match label::look_between(keys, n, level, lowest, highest) {
+        Look::Within => true,
+        Look::Outside => false,
+        Look::Open => label::runs_between(keys, n, lowest, highest),
+    }
+}
+
+// The label carried toward a range of the far domain: 17 outside it, also with more runs than a label holds, and then 18.
+fn toward(
+    label: Label,
+    table: Table,
+    levels: [[u8; 2]; 16],
+    lowest: Label,
+    highest: Label,
+) -> Renumbered {
+    let mut own = [0u32; 120];
+    label::label_keys(label, &mut own);
+    let mut far = [0u32; 184];
+    let carried = renumber::carry(&own, label.count, label.level, table, levels, &mut far);
+    if carried.number != 0 {
+        return refused(carried.number);
+    }
+    let n = carried.count;
+    if !between(&far, n, carried.level, lowest, highest) {
+        return refused(17);
+    }
+    if Label::MAX_RUNS < n {
+        return refused(18);
+    }
+    let there = label::to_label(&far, n, table.to, carried.level);
+    Renumbered {
+        number: 0,
+        label: there,
+    }
+}
+
 fn main() {
     let levels = pairs();
     // 120 runs through 64 rows; then runs that the rows cut and that do not all join again: over 120
@@ -149,14 +196,14 @@ fn main() {
     // toward a range: in it, outside it, and over-large sets outside and inside
     let lowest = Label::empty(9, 0);
     let mut highest = Label::empty(9, 255);
-    show(renumber::carry(paired(3), narrow, levels, lowest, highest));
+    show(toward(paired(3), narrow, levels, lowest, highest));
     highest.runs[0] = Run {
         low: 0,
         high: 65534,
     };
     highest.count = 1;
-    show(renumber::carry(paired(3), narrow, levels, lowest, highest));
-    show(renumber::carry(single(1000, 3100), wide, levels, lowest, highest));
+    show(toward(paired(3), narrow, levels, lowest, highest));
+    show(toward(single(1000, 3100), wide, levels, lowest, highest));
     highest.level = 3;
-    show(renumber::carry(single(1000, 3100), wide, levels, lowest, highest));
+    show(toward(single(1000, 3100), wide, levels, lowest, highest));
 }

@@ -1,4 +1,5 @@
 pub mod Rows
+pub mod Order
 pub mod Levels
 pub mod Sound
 pub mod Numbers

@@ -1,21 +1,22 @@
--- Laws of rows: disjoint targets, by their keys in order, and the parts of a sound table.
-use mathlib.Core.Path.{_≡_, refl, sym, _∙_}
+-- Laws of rows: disjoint targets by their order, and the parts of rows that rise.
+use mathlib.Core.Path.{_≡_, refl, sym, _∙_, ap}
 use mathlib.Core.Bool.{Bool, true, false, cond, _&&_, _||_}
 use mathlib.Core.List.{List, [], _∷_, _++_, map}
-use lib.ListN.{length, take, drop, length-map}
-use lib.Seq.{take-at, length-take-le}
-use Prim.Native.Nat.{ℕ, _+_, _-_, _/_, _%_, _≤_}
+use lib.ListN.{length, take, drop, getD}
+use lib.Seq.{getD-drop, drop-drop}
+use Prim.Native.Nat.{ℕ, zero, suc, _+_, _-_, _*_, _/_, _%_, _≤_, _<_}
 use native.Mathlib.Omega.{arith}
-use lib.Dec.{leb, ltb}
-use borrow.Author.Tests.{le-leb, lt-leb, leb-true, lt-ltb, le-ltb}
-use Rattle.order.specs.Order.{Sorted, all, insertKey, sortOnto, sortKeys}
 use native.Mathlib.Decide.{decLe}
-use Rattle.order.proofs.Laws.{insert-all, sort-sorted, sort-all, sort-length}
-use Rattle.table.specs.declared.Row.{Row}
-use Rattle.table.specs.declared.Table.{Table}
+use lib.Dec.{leb, ltb, eqb}
+use borrow.Author.Tests.{le-leb, lt-leb, leb-true, ltb-true, lt-ltb, le-ltb, eqb-true, eq-eqb}
 use Rattle.label.proofs.Bools.{and-left, and-right}
-use Rattle.table.specs.Table.{usedRows, unusedRows, rowsSound, targetEnd, rising, apartFrom, targetsApart}
-use Rattle.table.specs.Keys.{chain, targetKey}
+use Rattle.order.specs.Order.{Sorted, all, insertKey, sortOnto, sortKeys}
+use Rattle.order.proofs.Laws.{insert-all, sort-sorted, sort-all, sort-length}
+use Rattle.order.proofs.Merge.{sorted-self}
+use Rattle.table.specs.declared.Row.{Row}
+use Rattle.table.specs.Table.{noRow, targetEnd, rising, apart, apartFrom, targetsApart}
+use Rattle.table.specs.Order.{orderKeys, rowOrder, rowAt, inOrder}
+use Rattle.table.specs.Stages.{chain}
 
 or-comm : (a b : Bool) → (a || b) ≡ (b || a)
 or-comm true true = refl
@@ -29,34 +30,14 @@ and-pair true false true d = refl
 and-pair true false false d = refl
 and-pair false b c d = refl
 
--- Over keys: a range's lowest is the key by 65536, its highest the rest.
-abbrev pub apartKey : ℕ → ℕ → Bool
-apartKey a b = ltb (a % 65536) (b / 65536) || ltb (b % 65536) (a / 65536)
+-- What holds of every two numbers of a list holds in whatever order.
+abbrev pub pairs : (ℕ → ℕ → Bool) → List ℕ → Bool
+pairs p [] = true
+pairs p (x ∷ xs) = all (p x) xs && pairs p xs
 
-abbrev pub disjointKeys : List ℕ → Bool
-disjointKeys [] = true
-disjointKeys (k ∷ ks) = all (apartKey k) ks && disjointKeys ks
-
-abbrev pub cross : List ℕ → List ℕ → Bool
-cross ys [] = true
-cross ys (x ∷ xs) = all (apartKey x) ys && cross ys xs
-
-insert-disjoint : (k : ℕ) (xs : List ℕ) → disjointKeys (insertKey k xs) ≡ (all (apartKey k) xs && disjointKeys xs)
-insert-disjoint k [] = refl
-insert-disjoint k (x ∷ xs) = go (leb x k) (insert-disjoint k xs)
-  where
-    go : (b : Bool) → disjointKeys (insertKey k xs) ≡ (all (apartKey k) xs && disjointKeys xs)
-        → disjointKeys (cond b (x ∷ insertKey k xs) (k ∷ x ∷ xs)) ≡ ((apartKey k x && all (apartKey k) xs) && (all (apartKey x) xs && disjointKeys xs))
-    go true ih =
-        rw (insert-all (apartKey x) k xs, ih, or-comm (ltb (x % 65536) (k / 65536)) (ltb (k % 65536) (x / 65536)))
-        (and-pair (apartKey k x) (all (apartKey x) xs) (all (apartKey k) xs) (disjointKeys xs))
-    go false ih = refl
-
-cross-insert : (x : ℕ) (ys xs : List ℕ) → cross (insertKey x ys) xs ≡ (all (apartKey x) xs && cross ys xs)
-cross-insert x ys [] = refl
-cross-insert x ys (z ∷ xs) =
-    rw (insert-all (apartKey z) x ys, cross-insert x ys xs, or-comm (ltb (z % 65536) (x / 65536)) (ltb (x % 65536) (z / 65536)))
-    (and-pair (apartKey x z) (all (apartKey z) ys) (all (apartKey x) xs) (cross ys xs))
+abbrev cross : (ℕ → ℕ → Bool) → List ℕ → List ℕ → Bool
+cross p ys [] = true
+cross p ys (x ∷ xs) = all (p x) ys && cross p ys xs
 
 shuffle : (a y b c x : Bool) → ((a && y) && ((b && c) && x)) ≡ (y && ((a && c) && (b && x)))
 shuffle true true true true e = refl
@@ -76,62 +57,150 @@ shuffle false false true false e = refl
 shuffle false false false true e = refl
 shuffle false false false false e = refl
 
-pub sort-disjoint : (ys xs : List ℕ) → disjointKeys (sortOnto ys xs) ≡ (disjointKeys ys && (cross ys xs && disjointKeys xs))
-sort-disjoint ys [] = go (disjointKeys ys)
+module _ (p : ℕ → ℕ → Bool) (either : (a b : ℕ) → p a b ≡ p b a) where
+  insert-pairs : (k : ℕ) (xs : List ℕ) → pairs p (insertKey k xs) ≡ (all (p k) xs && pairs p xs)
+  insert-pairs k [] = refl
+  insert-pairs k (x ∷ xs) = go (leb x k) (insert-pairs k xs)
+    where
+      go : (b : Bool) → pairs p (insertKey k xs) ≡ (all (p k) xs && pairs p xs)
+          → pairs p (cond b (x ∷ insertKey k xs) (k ∷ x ∷ xs)) ≡ ((p k x && all (p k) xs) && (all (p x) xs && pairs p xs))
+      go true ih = rw (insert-all (p x) k xs, ih, either x k) (and-pair (p k x) (all (p x) xs) (all (p k) xs) (pairs p xs))
+      go false ih = refl
+
+  cross-insert : (x : ℕ) (ys xs : List ℕ) → cross p (insertKey x ys) xs ≡ (all (p x) xs && cross p ys xs)
+  cross-insert x ys [] = refl
+  cross-insert x ys (z ∷ xs) =
+      rw (insert-all (p z) x ys, cross-insert x ys xs, either z x) (and-pair (p x z) (all (p z) ys) (all (p x) xs) (cross p ys xs))
+
+  sort-pairs : (ys xs : List ℕ) → pairs p (sortOnto ys xs) ≡ (pairs p ys && (cross p ys xs && pairs p xs))
+  sort-pairs ys [] = go (pairs p ys)
+    where
+      go : (b : Bool) → b ≡ (b && true)
+      go true = refl
+      go false = refl
+  sort-pairs ys (x ∷ xs) =
+      sort-pairs (insertKey x ys) xs
+      ∙ rw (insert-pairs x ys, cross-insert x ys xs) (shuffle (all (p x) ys) (pairs p ys) (all (p x) xs) (cross p ys xs) (pairs p xs))
+
+  cross-nil : (xs : List ℕ) → cross p [] xs ≡ true
+  cross-nil [] = refl
+  cross-nil (x ∷ xs) = cross-nil xs
+
+  pub sorted-pairs : (xs : List ℕ) → pairs p (sortKeys xs) ≡ pairs p xs
+  sorted-pairs xs = sort-pairs [] xs ∙ rw (cross-nil xs)
+
+-- Rows that numbers name.
+all-apart : (f : ℕ → Row) (r : Row) (ks : List ℕ) → apartFrom r (map f ks) ≡ all (λ k. apart r (f k)) ks
+all-apart f r [] = refl
+all-apart f r (k ∷ ks) = rw (all-apart f r ks)
+
+pairs-apart : (f : ℕ → Row) (ks : List ℕ) → targetsApart (map f ks) ≡ pairs (λ a b. apart (f a) (f b)) ks
+pairs-apart f [] = refl
+pairs-apart f (k ∷ ks) = rw (all-apart f (f k) ks, pairs-apart f ks)
+
+-- disjoint targets are so in whatever order
+apart-sorted : (f : ℕ → Row) (ks : List ℕ) → targetsApart (map f (sortKeys ks)) ≡ targetsApart (map f ks)
+apart-sorted f ks =
+    pairs-apart f (sortKeys ks)
+    ∙ sorted-pairs (λ a b. apart (f a) (f b)) (λ a b. or-comm (ltb (targetEnd (f a)) (f b .target)) (ltb (targetEnd (f b)) (f a .target))) ks
+    ∙ sym (pairs-apart f ks)
+
+-- the row at its number
+at-place : (rs ss : List Row) (r : Row) (i : ℕ) → drop i rs ≡ r ∷ ss → i < 65536 → rowAt rs (r .target * 65536 + i) ≡ r
+at-place rs ss r i e h =
+    let z : (r .target * 65536 + i) % 65536 ≡ i = omega arith in
+    let y : i + 0 ≡ i = omega arith in
+    ap (λ (k : ℕ). getD rs k noRow) z ∙ sym (rw y at (getD-drop i rs 0 noRow)) ∙ ap (λ (l : List Row). getD l 0 noRow) e
+
+later : (rs ss : List Row) (r : Row) (i : ℕ) → drop i rs ≡ r ∷ ss → drop (i + 1) rs ≡ ss
+later rs ss r i e = sym (drop-drop 1 i rs) ∙ ap (drop 1) e
+
+keys-rows : (rs ss : List Row) (i : ℕ) → drop i rs ≡ ss → i + length ss ≤ 65536 → map (rowAt rs) (orderKeys i ss) ≡ ss
+keys-rows rs [] i e h = refl
+keys-rows rs (r ∷ ss) i e h =
+    rw (at-place rs ss r i e (omega arith), keys-rows rs ss (i + 1) (later rs ss r i e) (omega arith))
+
+pub order-rows : (rs : List Row) → length rs ≤ 65536 → map (rowAt rs) (orderKeys 0 rs) ≡ rs
+order-rows rs h = keys-rows rs rs 0 refl (omega arith)
+
+-- A test that every row passes, at its number, is passed by the rows in order.
+pub keys-all : (p : ℕ → Row → Bool) (rs ss : List Row) (i : ℕ) → drop i rs ≡ ss → i + length ss ≤ 65536
+    → ((j : ℕ) (r : Row) (ts : List Row) → j < 65536 → drop j rs ≡ r ∷ ts → p (r .target * 65536 + j) r ≡ true)
+    → all (λ k. p k (rowAt rs k)) (orderKeys i ss) ≡ true
+keys-all p rs [] i e h g = refl
+keys-all p rs (r ∷ ss) i e h g =
+    rw (at-place rs ss r i e (omega arith), g i r ss (omega arith) e) (keys-all p rs ss (i + 1) (later rs ss r i e) (omega arith) g)
+
+pub order-all : (p : ℕ → Row → Bool) (rs : List Row) → length rs ≤ 65536
+    → ((j : ℕ) (r : Row) (ts : List Row) → j < 65536 → drop j rs ≡ r ∷ ts → p (r .target * 65536 + j) r ≡ true)
+    → all (λ k. p k (rowAt rs k)) (rowOrder rs) ≡ true
+order-all p rs h g = sort-all (λ k. p k (rowAt rs k)) [] (orderKeys 0 rs) ∙ keys-all p rs rs 0 refl (omega arith) g
+
+-- Targets that ascend, equal ones too.
+abbrev pub Ascend : ℕ → List Row → Type 0
+Ascend lo [] = Unit {0}
+Ascend lo (r ∷ rs) = (lo ≤ r .target) × Ascend (r .target) rs
+
+sorted-ascend : (f : ℕ → Row) (lo : ℕ) (ks : List ℕ) → Sorted lo ks → all (λ k. eqb (f k .target) (k / 65536)) ks ≡ true → Ascend (lo / 65536) (map f ks)
+sorted-ascend f lo [] s e = tt
+sorted-ascend f lo (k ∷ ks) s e =
+    let q : f k .target ≡ k / 65536 = eqb-true _ _ (and-left (eqb (f k .target) (k / 65536)) _ e) in
+    (omega (arith, s .0), rw q (sorted-ascend f k ks (s .1) (and-right (eqb (f k .target) (k / 65536)) _ e)))
+
+pub order-ascends : (rs : List Row) → length rs ≤ 65536 → Ascend 0 (inOrder rs)
+order-ascends rs h =
+    sorted-ascend (rowAt rs) 0 (rowOrder rs) (sort-sorted [] (orderKeys 0 rs) tt)
+    (order-all (λ k r. eqb (r .target) (k / 65536)) rs h (λ j r ts l e. eq-eqb (r .target) ((r .target * 65536 + j) / 65536) (omega arith)))
+
+-- every target is at `f` or above
+abbrev allFrom : ℕ → List Row → Bool
+allFrom f [] = true
+allFrom f (r ∷ rs) = leb f (r .target) && allFrom f rs
+
+ascend-from : (lo f : ℕ) (rs : List Row) → Ascend lo rs → f ≤ lo → allFrom f rs ≡ true
+ascend-from lo f [] a h = refl
+ascend-from lo f (r ∷ rs) a h =
+    let g : f ≤ r .target = omega (arith, a .0) in
+    simp (le-leb f (r .target) g) (ascend-from (r .target) f rs (a .1) g)
+
+-- In order, a row is apart from all that follow exactly when they begin above its end.
+apart-from : (r : Row) (lo : ℕ) (rs : List Row) → Ascend lo rs → r .target ≤ lo → apartFrom r rs ≡ allFrom (targetEnd r + 1) rs
+apart-from r lo [] a h = refl
+apart-from r lo (s ∷ rs) a h = rw (apart-from r (s .target) rs (a .1) (omega (arith, a .0))) (go (a .0))
   where
-    go : (b : Bool) → b ≡ (b && true)
-    go true = refl
-    go false = refl
-sort-disjoint ys (x ∷ xs) =
-    sort-disjoint (insertKey x ys) xs
-    ∙ rw (insert-disjoint x ys, cross-insert x ys xs)
-    (shuffle (all (apartKey x) ys) (disjointKeys ys) (all (apartKey x) xs) (cross ys xs) (disjointKeys xs))
+    go : lo ≤ s .target → (apart r s && allFrom (targetEnd r + 1) rs) ≡ (leb (targetEnd r + 1) (s .target) && allFrom (targetEnd r + 1) rs)
+    go o = elim (decLe (targetEnd r + 1) (s .target)) [ yes u ↦ simp (lt-ltb (targetEnd r) (s .target) (omega arith), le-leb (targetEnd r + 1) (s .target) u) | no u ↦ simp (le-ltb (targetEnd r) (s .target) (omega arith), le-ltb (targetEnd s) (r .target) (omega arith), lt-leb (targetEnd r + 1) (s .target) (omega arith)) ]
 
-cross-nil : (xs : List ℕ) → cross [] xs ≡ true
-cross-nil [] = refl
-cross-nil (x ∷ xs) = cross-nil xs
-
-pub sorted-disjoint : (xs : List ℕ) → disjointKeys (sortKeys xs) ≡ disjointKeys xs
-sorted-disjoint xs = sort-disjoint [] xs ∙ rw (cross-nil xs)
-
--- every range has an order
-abbrev pub Ranges : List ℕ → Bool
-Ranges ks = all (λ k. leb (k / 65536) (k % 65536)) ks
-
--- every range begins at `f` or above
-abbrev pub from : ℕ → List ℕ → Bool
-from f ks = all (λ k. leb f (k / 65536)) ks
-
-pub sorted-from : (lo f : ℕ) (ks : List ℕ) → Sorted lo ks → f ≤ lo / 65536 → from f ks ≡ true
-sorted-from lo f [] s h = refl
-sorted-from lo f (k ∷ ks) s h =
-    let g : f ≤ k / 65536 = omega (arith, s .0) in
-    simp (le-leb f (k / 65536) g) (sorted-from k f ks (s .1) g)
-
--- In order, a range is apart from all that follow exactly when they begin above its end.
-pub apart-from : (k lo : ℕ) (ks : List ℕ) → Sorted lo ks → k ≤ lo → Ranges ks ≡ true → all (apartKey k) ks ≡ from (k % 65536 + 1) ks
-apart-from k lo [] s h g = refl
-apart-from k lo (x ∷ xs) s h g =
-    let o : x / 65536 ≤ x % 65536 = leb-true _ _ (and-left (leb (x / 65536) (x % 65536)) _ g) in
-    let ih = apart-from k x xs (s .1) (omega (arith, s .0)) (and-right (leb (x / 65536) (x % 65536)) _ g) in
-    rw ih (go o)
+chain-is : (lo f : ℕ) (rs : List Row) → Ascend lo rs → chain f rs ≡ (allFrom f rs && targetsApart rs)
+chain-is lo f [] a = refl
+chain-is lo f (r ∷ rs) a =
+    rw (chain-is (r .target) (targetEnd r + 1) rs (a .1), apart-from r (r .target) rs (a .1) (omega arith)) (go (leb f (r .target)) refl)
   where
-    go : x / 65536 ≤ x % 65536 → (apartKey k x && from (k % 65536 + 1) xs) ≡ (leb (k % 65536 + 1) (x / 65536) && from (k % 65536 + 1) xs)
-    go o = elim (decLe (k % 65536 + 1) (x / 65536)) [ yes u ↦ simp (lt-ltb (k % 65536) (x / 65536) (omega arith), le-leb (k % 65536 + 1) (x / 65536) u) | no u ↦ simp (le-ltb (k % 65536) (x / 65536) (omega arith), le-ltb (x % 65536) (k / 65536) (omega (arith, s .0)), lt-leb (k % 65536 + 1) (x / 65536) (omega arith)) ]
-
-pub chain-is : (lo f : ℕ) (ks : List ℕ) → Sorted lo ks → Ranges ks ≡ true → chain f ks ≡ (from f ks && disjointKeys ks)
-chain-is lo f [] s g = refl
-chain-is lo f (k ∷ ks) s g =
-    let gs = and-right (leb (k / 65536) (k % 65536)) _ g in
-    let ih = chain-is k (k % 65536 + 1) ks (s .1) gs in
-    rw (ih, apart-from k k ks (s .1) (omega arith) gs) (go (leb f (k / 65536)) refl)
-  where
-    go : (b : Bool) → leb f (k / 65536) ≡ b
-        → (b && (from (k % 65536 + 1) ks && disjointKeys ks)) ≡ ((b && from f ks) && (from (k % 65536 + 1) ks && disjointKeys ks))
-    go true e = rw (sorted-from k f ks (s .1) (leb-true _ _ e))
+    go : (b : Bool) → leb f (r .target) ≡ b
+        → (b && (allFrom (targetEnd r + 1) rs && targetsApart rs)) ≡ ((b && allFrom f rs) && (allFrom (targetEnd r + 1) rs && targetsApart rs))
+    go true e = rw (ascend-from (r .target) f rs (a .1) (leb-true _ _ e))
     go false e = refl
 
--- The rows and their keys.
+-- Disjoint targets are those that, in order, each begin above the end of the one before.
+pub targets-chain : (rs : List Row) → length rs ≤ 65536 → chain 0 (inOrder rs) ≡ targetsApart rs
+targets-chain rs h =
+    chain-is 0 0 (inOrder rs) (order-ascends rs h)
+    ∙ rw (ascend-from 0 0 (inOrder rs) (order-ascends rs h) (omega arith)) (apart-sorted (rowAt rs) (orderKeys 0 rs) ∙ ap targetsApart (order-rows rs h))
+
+-- Rows whose targets rise as they stand are in order.
+chain-sorted : (f i lo : ℕ) (rs : List Row) → chain f rs ≡ true → lo ≤ f * 65536 + i → Sorted lo (orderKeys i rs)
+chain-sorted f i lo [] e h = tt
+chain-sorted f i lo (r ∷ rs) e h =
+    let g : f ≤ r .target = leb-true _ _ (and-left (leb f (r .target)) _ e) in
+    (omega arith, chain-sorted (targetEnd r + 1) (i + 1) (r .target * 65536 + i) rs (and-right (leb f (r .target)) _ e) (omega arith))
+
+pub chain-order : (rs : List Row) → chain 0 rs ≡ true → rowOrder rs ≡ orderKeys 0 rs
+chain-order rs e = sorted-self 0 (orderKeys 0 rs) (chain-sorted 0 0 0 rs e (omega arith))
+
+pub chain-apart : (rs : List Row) → length rs ≤ 65536 → chain 0 rs ≡ true → targetsApart rs ≡ true
+chain-apart rs h e = sym (targets-chain rs h) ∙ rw (chain-order rs e, order-rows rs h) e
+
+-- The parts of a row that rises.
 pub record Good (f : ℕ) (r : Row) (rs : List Row) : Type 0 where
   pub floor : f ≤ r .low
   pub ordered : r .low ≤ r .high
@@ -151,50 +220,6 @@ good f r rs e =
       end = leb-true _ _ (and-left (leb (targetEnd r) 65534) _ e3);
       rest = and-right (leb (targetEnd r) 65534) _ e3;
     }
-
-key-low : (r : Row) → targetEnd r ≤ 65534 → targetKey r / 65536 ≡ r .target
-key-low r h = omega arith
-
-key-high : (r : Row) → targetEnd r ≤ 65534 → targetKey r % 65536 ≡ targetEnd r
-key-high r h = omega arith
-
-keys-ranges : (f : ℕ) (rs : List Row) → rising f rs ≡ true → Ranges (map targetKey rs) ≡ true
-keys-ranges f [] e = refl
-keys-ranges f (r ∷ rs) e =
-    let g = good f r rs e in
-    rw (key-low r (g .end), key-high r (g .end), le-leb (r .target) (targetEnd r) (omega arith)) (keys-ranges (r .high + 1) rs (g .rest))
-
-apart-keys : (r : Row) (f : ℕ) (rs : List Row) → targetEnd r ≤ 65534 → rising f rs ≡ true → apartFrom r rs ≡ all (apartKey (targetKey r)) (map targetKey rs)
-apart-keys r f [] h e = refl
-apart-keys r f (s ∷ rs) h e =
-    let g = good f s rs e in
-    rw (apart-keys r (s .high + 1) rs h (g .rest), key-low r h, key-high r h, key-low s (g .end), key-high s (g .end))
-
-targets-keys : (f : ℕ) (rs : List Row) → rising f rs ≡ true → targetsApart rs ≡ disjointKeys (map targetKey rs)
-targets-keys f [] e = refl
-targets-keys f (r ∷ rs) e =
-    let g = good f r rs e in
-    rw (apart-keys r (r .high + 1) rs (g .end) (g .rest), targets-keys (r .high + 1) rs (g .rest))
-
--- Disjoint targets are those whose keys, put in order, each begin above the end of the one before.
-pub targets-chain : (rs : List Row) → rising 0 rs ≡ true → targetsApart rs ≡ chain 0 (sortKeys (map targetKey rs))
-targets-chain rs e =
-    let ks : List ℕ = map targetKey rs in
-    let s : Sorted 0 (sortKeys ks) = sort-sorted [] ks tt in
-    let g : Ranges (sortKeys ks) ≡ true = sort-all (λ k. leb (k / 65536) (k % 65536)) [] ks ∙ keys-ranges 0 rs e in
-    targets-keys 0 rs e ∙ sym (chain-is 0 0 (sortKeys ks) s g ∙ rw (sorted-from 0 0 (sortKeys ks) s (omega arith)) (sorted-disjoint ks))
-
--- The sorted keys decide.
-pub sound-chain : (t : Table) (ks s : List ℕ) → length (t .rows) ≡ 64 → t .count ≤ 64 → rising 0 (usedRows t) ≡ true → unusedRows (drop (t .count) (t .rows)) ≡ true
-    → take (t .count) ks ≡ map targetKey (usedRows t) → s ≡ sortKeys (take (t .count) ks) ++ drop (t .count) ks → chain 0 (take (t .count) s) ≡ rowsSound t
-unfolding rowsSound
-sound-chain t ks s sized h rise rest keys e =
-    let u : length (usedRows t) ≡ t .count = length-take-le (t .count) (t .rows) (omega arith) in
-    let m : length (sortKeys (map targetKey (usedRows t))) ≡ t .count =
-    sort-length [] (map targetKey (usedRows t)) ∙ rw (length-map, u) (omega arith) in
-    let q : take (t .count) s ≡ sortKeys (map targetKey (usedRows t)) =
-    rw (e, keys) (take-at (sortKeys (map targetKey (usedRows t))) (drop (t .count) ks) (t .count) m) in
-    rw (q, ← targets-chain (usedRows t) rise) (simp (rise, rest))
 
 -- A lower floor will do.
 pub rise-lower : (f g : ℕ) (rs : List Row) → g ≤ f → rising f rs ≡ true → rising g rs ≡ true

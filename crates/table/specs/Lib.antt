@@ -1,4 +1,5 @@
 pub mod Table
 pub mod Numbers
-pub mod Keys
+pub mod Order
+pub mod Stages
 pub mod Theorems

@@ -1,12 +1,12 @@
 // Renumbering tables: rows of categories and pairs of levels, and what makes them sound (document 01, "Records").
 ghost use mathlib.Core.Path.{_≡_};
 ghost use mathlib.Core.Bool.{true};
-ghost use mathlib.Core.List.{map};
-ghost use Prim.Native.Nat.{_≤_};
-ghost use lib.ListN.{length, take, drop};
-ghost use Rattle.table.specs.Table.{usedRows, rising, unusedRows, rowsSound, levelsRise, unusedPairs, levelsSound, levelNumbers, tableSound};
+ghost use Prim.Native.Nat.{_+_, _*_, _≤_};
+ghost use lib.ListN.{length, take, drop, replicate};
+ghost use Rattle.table.specs.Table.{usedRows, rising, unusedRows, targetsApart, rowsSound, levelsRise, unusedPairs, levelsSound, levelNumbers, tableSound};
 ghost use Rattle.table.specs.Numbers.{partnerOf};
-ghost use Rattle.table.specs.Keys.{chain, targetKey};
+ghost use Rattle.table.specs.Order.{rowOrder, orderOf};
+ghost use Rattle.table.specs.Stages.{fieldsSound, RowsRise, RowsOrder};
 use order::sort_keys;
 
 // The categories from low to high go to those from target on.
@@ -35,6 +35,41 @@ pub enum Partner {
 pub fn table_sound(table: Table, levels: [[u8; 2]; 16]) -> bool
     ensures { λ r. ⌜ r ≡ tableSound table levels ⌝ }
 {
+    let mut order = [0u32; 64];
+    table_order(table, levels, &mut order)
+}
+
+// The same, for a caller that goes on to renumber: the list is given the rows in the order of their targets, each as its target and its
+// number, and zeros behind them; of an unsound table zeros alone. What it held before is not read.
+pub fn table_order(table: Table, levels: [[u8; 2]; 16], order: &mut [u32; 64]) -> bool
+    ensures { λ r. ⌜ (r ≡ tableSound table levels) × (now (order .exit) ≡ orderOf table levels) ⌝ }
+{
+    clear(order);
+    if !fields_sound(table, levels) {
+        return false;
+    }
+    if rows_sound(table, order) {
+        return true;
+    }
+    clear(order);
+    false
+}
+
+fn clear(order: &mut [u32])
+    requires { ⌜ length (now order) ≡ 64 ⌝ }
+    ensures { λ _. ⌜ now (order .exit) ≡ replicate 64 0 ⌝ }
+{
+    let mut i: usize = 0;
+    while i < 64 {
+        order[i] = 0;
+        i += 1;
+    }
+}
+
+// All but the rows.
+fn fields_sound(table: Table, levels: [[u8; 2]; 16]) -> bool
+    ensures { λ r. ⌜ r ≡ fieldsSound table levels ⌝ }
+{
     if table.from == 0 {
         return false;
     }
@@ -48,10 +83,7 @@ pub fn table_sound(table: Table, levels: [[u8; 2]; 16]) -> bool
     if 64 < table.count {
         return false;
     }
-    if !levels_sound(levels, pairs) {
-        return false;
-    }
-    rows_sound(table)
+    levels_sound(levels, pairs)
 }
 
 // The partner of a level among the first `pairs` pairs.
@@ -131,30 +163,41 @@ fn pairs_unused(levels: [[u8; 2]; 16], count: usize) -> bool
     true
 }
 
-// Whether the rows are sound: the targets, put in order, are each above the one before.
-fn rows_sound(t: Table) -> bool
-    requires { ⌜ t .count ≤ 64 ⌝ }
-    ensures { λ r. ⌜ r ≡ rowsSound t ⌝ }
+// Whether the sources rise and every end keeps to the highest category, and whether the targets rise as they stand.
+struct Rise {
+    sources: bool,
+    targets: bool,
+}
+
+// Whether the rows are sound, which the order of their targets shows; they are put in order only where they do not stand so.
+fn rows_sound(t: Table, order: &mut [u32]) -> bool
+    requires { ⌜ (t .count ≤ 64) × (length (now order) ≡ 64) ⌝ }
+    ensures { λ r. ⌜ RowsOrder t (now (order .entry)) r (now (order .exit)) ⌝ }
 {
     let n = t.count;
-    let mut keys = [0u32; 64];
-    if !rows_rise(t, &mut keys) {
+    let rise = rows_rise(t, order);
+    if !rise.sources {
         return false;
     }
     if !rows_unused(t) {
         return false;
     }
-    sort_keys(&mut keys, n);
-    keys_apart(&keys, n)
+    if rise.targets {
+        return true;
+    }
+    sort_keys(order, n);
+    targets_apart(t, order)
 }
 
-// Whether the sources rise and every end keeps to the highest category; the targets are written down.
-fn rows_rise(t: Table, keys: &mut [u32]) -> bool
-    requires { ⌜ (t .count ≤ 64) × (t .count ≤ length (now keys)) ⌝ }
-    ensures { λ r. ⌜ (r ≡ rising 0 (usedRows t)) × (r ≡ true → take (t .count) (now (keys .exit)) ≡ map targetKey (usedRows t)) ⌝ }
+// One pass over the rows in use; the targets are written down with the rows' numbers.
+fn rows_rise(t: Table, order: &mut [u32]) -> Rise
+    requires { ⌜ (t .count ≤ 64) × (length (now order) ≡ 64) ⌝ }
+    ensures { λ r. ⌜ RowsRise (usedRows t) (now (order .entry)) (r .sources) (r .targets) (now (order .exit)) ⌝ }
 {
     let n = t.count;
+    let mut targets = true;
     let mut floor: u32 = 0;
+    let mut past: u32 = 0;
     let mut i: usize = 0;
     while i < n {
         let row = t.rows[i];
@@ -162,61 +205,85 @@ fn rows_rise(t: Table, keys: &mut [u32]) -> bool
         let high = row.high as u32;
         let target = row.target as u32;
         if low < floor {
-            return false;
+            return Rise {
+                sources: false,
+                targets: false,
+            };
         }
         if high < low {
-            return false;
+            return Rise {
+                sources: false,
+                targets: false,
+            };
         }
         if 65534 < high {
-            return false;
+            return Rise {
+                sources: false,
+                targets: false,
+            };
         }
         let end = target + (high - low);
         if 65534 < end {
-            return false;
+            return Rise {
+                sources: false,
+                targets: false,
+            };
         }
-        keys[i] = target * 65536 + end;
+        targets = targets & (past <= target);
+        past = end + 1;
+        order[i] = target * 65536 + (i as u32);
         floor = high + 1;
         i += 1;
     }
-    true
+    Rise {
+        sources: true,
+        targets: targets,
+    }
 }
 
-// Whether every place past the rows in use is zero.
+// Whether every place past the rows in use is zero: all are read, for a test at each costs more.
 fn rows_unused(t: Table) -> bool
     requires { ⌜ t .count ≤ 64 ⌝ }
     ensures { λ r. ⌜ r ≡ unusedRows (drop (t .count) (t .rows)) ⌝ }
 {
+    let mut sources: u32 = 0;
+    let mut targets: u16 = 0;
     let mut i = t.count;
     while i < 64 {
         let row = t.rows[i];
-        if row.low != 0 {
-            return false;
-        }
-        if row.high != 0 {
-            return false;
-        }
-        if row.target != 0 {
-            return false;
-        }
+        sources = sources | source_word(row.low, row.high);
+        targets = targets | row.target;
         i += 1;
     }
-    true
+    (sources == 0) & (targets == 0)
 }
 
-// Whether each range begins above the end of the one before it.
-fn keys_apart(keys: &[u32], n: usize) -> bool
-    requires { ⌜ n ≤ length (now keys) ⌝ }
-    ensures { λ r. ⌜ r ≡ chain 0 (take n (now (keys .entry))) ⌝ }
+// Both ends as they lie in memory.
+fn source_word(low: u16, high: u16) -> u32
+    ensures { λ r. ⌜ r ≡ low + high * 65536 ⌝ }
 {
-    let mut floor: u32 = 0;
+    low as u32 + (high as u32) * 65536
+}
+
+// Whether each row's targets, in their order, begin above the end of those before.
+fn targets_apart(t: Table, order: &[u32]) -> bool
+    requires { ⌜ (t .count ≤ 64) × (length (now order) ≡ 64) × (rising 0 (usedRows t) ≡ true) × (take (t .count) (now order) ≡ rowOrder (usedRows t)) ⌝ }
+    ensures { λ r. ⌜ r ≡ targetsApart (usedRows t) ⌝ }
+{
+    let n = t.count;
+    let mut apart = true;
+    let mut past: u32 = 0;
     let mut i: usize = 0;
     while i < n {
-        let k = keys[i];
-        if k / 65536 < floor {
-            return false;
-        }
-        floor = k % 65536 + 1;
+        let k = order[i];
+        let j = (k % 65536) as usize;
+        let row = t.rows[j];
+        let low = row.low as u32;
+        let high = row.high as u32;
+        let target = row.target as u32;
+        apart = apart & (past <= target);
+        past = target + (high - low) + 1;
         i += 1;
     }
-    true
+    apart
 }

@@ -1,29 +1,32 @@
 -- `table::rows_rise` meets its contract.
 use borrow.Author.Needs.{needs}
-use borrow.Author.Tests.{le-leb, lt-leb}
 use native.Mathlib.Omega.{arith}
-use Prim.Native.Nat.{_≤_, _-_, _+_}
-use mathlib.Core.Path.{_≡_, refl, sym, _∙_}
-use mathlib.Core.Bool.{true, false, true≢false}
-use mathlib.Core.List.{_∷_, map}
-use lib.ListN.{take, drop, getD, length, length-set}
-use lib.Seq.{length-take-le, take-all, getD-take}
+use borrow.Author.Tests.{le-leb, lt-leb}
+use Prim.Native.Nat.{ℕ, _≤_, _-_, _+_, _*_}
+use mathlib.Core.Path.{_≡_, refl, sym, _∙_, ap}
+use mathlib.Core.Bool.{_&&_, and-assoc, and-true}
+use mathlib.Core.List.{List, _∷_, _++_}
+use lib.Dec.{leb}
+use lib.ListN.{take, drop, getD, set, length, length-set}
+use lib.Seq.{length-take-le, take-length, getD-take}
 use Rattle.label.proofs.Steps.{next-used, used-up, length-mapped}
-use Rattle.table.specs.Table.{usedRows, rising, noRow}
-use Rattle.table.specs.Keys.{targetKey}
-use Rattle.order.proofs.Laws.{keys-next}
+use Rattle.table.specs.Table.{usedRows, rising, noRow, targetEnd}
+use Rattle.table.specs.Order.{orderKeys}
+use Rattle.table.specs.Stages.{chain}
+use Rattle.table.proofs.Order.{order-step, refused}
 use Rattle.table.proofs.rows_rise.Statement.{statement}
 use Rattle.table.proofs.rows_rise.Tie as tie
 
 abbrev Inv-loop : tie.InvT-loop
-Inv-loop keys₀ t n floor₀ i₀ keys floor i =
+Inv-loop order₀ t n targets₀ floor₀ past₀ i₀ order targets floor past i =
     (i ≤ n)
-    × (length keys ≡ length keys₀)
-    × (take i keys ≡ map targetKey (take i (usedRows t)))
+    × (length order ≡ length order₀)
     × (rising 0 (usedRows t) ≡ rising floor (drop i (usedRows t)))
+    × (chain 0 (usedRows t) ≡ (targets && chain past (drop i (usedRows t))))
+    × (order ≡ orderKeys 0 (take i (usedRows t)) ++ drop i order₀)
 
 abbrev μ-loop : tie.MeasureT-loop
-μ-loop keys₀ t n floor₀ i₀ keys floor i = n - i
+μ-loop order₀ t n targets₀ floor₀ past₀ i₀ order targets floor past i = n - i
 
 sized : (c : tie.Start Inv-loop μ-loop) → length (c .args .t1 .rows) ≡ 64
 sized c = search (length-mapped, needs)
@@ -41,7 +44,7 @@ seen c =
     (omega (arith, sized (c .before .before), c .before .before .pre .0))
 
 loop-holds : tie.Need-loop-holds Inv-loop μ-loop
-loop-holds c = (omega arith, refl, refl, refl)
+loop-holds c = (omega arith, refl, refl, refl, refl)
 
 mul-row : tie.Need-mul-row Inv-loop μ-loop
 mul-row c = search needs
@@ -65,7 +68,7 @@ returns : tie.Need-returns Inv-loop μ-loop
 returns c =
     let e1 = c in
     let d = e1 .before .before .before .before .before in
-    (sym (d .before .loop .inv .3 ∙ rw (seen d) (simp (lt-leb _ _ (e1 .if1 .taken)))), λ w. absurd (true≢false (sym w)))
+    refused (sym (d .before .loop .inv .2 ∙ rw (seen d) (simp (lt-leb _ _ (e1 .if1 .taken)))))
 
 same-length-2 : tie.Need-same-length-2 Inv-loop μ-loop
 same-length-2 c = c .before .before .before .before .before .before .before .loop .inv .1
@@ -75,7 +78,7 @@ returns-2 c =
     let e2 = c in
     let e1 = e2 .before in
     let d = e1 .before .before .before .before .before in
-    (sym (d .before .loop .inv .3 ∙ rw (seen d) (simp (le-leb _ _ (e1 .if1 .left), lt-leb _ _ (e2 .if2 .taken)))), λ w. absurd (true≢false (sym w)))
+    refused (sym (d .before .loop .inv .2 ∙ rw (seen d) (simp (le-leb _ _ (e1 .if1 .left), lt-leb _ _ (e2 .if2 .taken)))))
 
 same-length-3 : tie.Need-same-length-3 Inv-loop μ-loop
 same-length-3 c = c .before .before .before .before .before .before .before .before .loop .inv .1
@@ -86,7 +89,7 @@ returns-3 c =
     let e2 = e3 .before in
     let e1 = e2 .before in
     let d = e1 .before .before .before .before .before in
-    (sym (d .before .loop .inv .3 ∙ rw (seen d) (simp (le-leb _ _ (e1 .if1 .left), le-leb _ _ (e2 .if2 .left), lt-leb _ _ (e3 .if3 .taken)))), λ w. absurd (true≢false (sym w)))
+    refused (sym (d .before .loop .inv .2 ∙ rw (seen d) (simp (le-leb _ _ (e1 .if1 .left), le-leb _ _ (e2 .if2 .left), lt-leb _ _ (e3 .if3 .taken)))))
 
 add-end : tie.Need-add-end Inv-loop μ-loop
 add-end c = search needs
@@ -101,19 +104,25 @@ returns-4 c =
     let e2 = e3 .before in
     let e1 = e2 .before in
     let d = e1 .before .before .before .before .before in
-    (sym (d .before .loop .inv .3 ∙ rw (seen d) (simp (le-leb _ _ (e1 .if1 .left), le-leb _ _ (e2 .if2 .left), le-leb _ _ (e3 .if3 .left), lt-leb _ _ (e4 .if4 .taken)))), λ w. absurd (true≢false (sym w)))
+    refused (sym (d .before .loop .inv .2 ∙ rw (seen d) (simp (le-leb _ _ (e1 .if1 .left), le-leb _ _ (e2 .if2 .left), le-leb _ _ (e3 .if3 .left), lt-leb _ _ (e4 .if4 .taken)))))
 
-mul-keys : tie.Need-mul-keys Inv-loop μ-loop
-mul-keys c = search needs
+add-past : tie.Need-add-past Inv-loop μ-loop
+add-past c = search needs
 
-add-keys : tie.Need-add-keys Inv-loop μ-loop
-add-keys c = search needs
+mul-order : tie.Need-mul-order Inv-loop μ-loop
+mul-order c = search needs
 
-mul-keys-2 : tie.Need-mul-keys-2 Inv-loop μ-loop
-mul-keys-2 c = search needs
+cast-order : tie.Need-cast-order Inv-loop μ-loop
+cast-order c = search needs
 
-slice-write-keys : tie.Need-slice-write-keys Inv-loop μ-loop
-slice-write-keys c = search needs
+add-order : tie.Need-add-order Inv-loop μ-loop
+add-order c = search needs
+
+mul-order-2 : tie.Need-mul-order-2 Inv-loop μ-loop
+mul-order-2 c = search needs
+
+slice-write-order : tie.Need-slice-write-order Inv-loop μ-loop
+slice-write-order c = search needs
 
 add-floor : tie.Need-add-floor Inv-loop μ-loop
 add-floor c = search needs
@@ -132,12 +141,14 @@ loop-again c =
     let e1 = e2 .before in
     let d = e1 .before .before .before .before .before in
     let l = d .before .before .args .t1 in
-    let i = d .before .loop .i in (
+    let v = d .before .loop in
+    let r = getD (l .rows) (v .i) noRow in (
       omega arith,
-      simp length-set (d .before .loop .inv .1),
-      rw (← getD-take (l .count) (l .rows) i noRow (d .loop-test .taken))
-          (keys-next targetKey (usedRows l) (d .before .loop .keys) i noRow (omega (arith, used-sized (d .before .before))) (omega (arith, d .before .before .pre .1)) (d .before .loop .inv .2)),
-      d .before .loop .inv .3 ∙ rw (seen d) (simp (le-leb _ _ (e1 .if1 .left), le-leb _ _ (e2 .if2 .left), le-leb _ _ (e3 .if3 .left), le-leb _ _ (e4 .if4 .left))),
+      simp length-set (v .inv .1),
+      v .inv .2 ∙ rw (seen d) (simp (le-leb _ _ (e1 .if1 .left), le-leb _ _ (e2 .if2 .left), le-leb _ _ (e3 .if3 .left), le-leb _ _ (e4 .if4 .left))),
+      v .inv .3 ∙ rw (seen d) (sym (and-assoc (v .targets) (leb (v .past) (r .target)) (chain (targetEnd r + 1) (drop (v .i + 1) (usedRows l))))),
+      ap (λ (z : List ℕ). set z (v .i) (r .target * 65536 + v .i)) (v .inv .4)
+          ∙ rw (getD-take (l .count) (l .rows) (v .i) noRow (d .loop-test .taken)) at (order-step (usedRows l) (d .before .before .args .order .now) (v .i) (omega (arith, used-sized (d .before .before))) (omega (arith, d .before .before .pre .1))),
     )
 
 same-length-5 : tie.Need-same-length-5 Inv-loop μ-loop
@@ -145,11 +156,16 @@ same-length-5 c = c .before .loop .inv .1
 
 returns-5 : tie.Need-returns-5 Inv-loop μ-loop
 returns-5 c =
-    let l = c .before .before .args .t1 in
-    let e : c .before .loop .i ≡ l .count = omega arith in (
-      sym (c .before .loop .inv .3 ∙ rw (used-up (l .rows) (l .count) (c .before .loop .i) (c .loop-test .left))),
-      λ w. rw (e, take-all (l .count) (usedRows l) (omega (arith, used-sized (c .before .before)))) at (c .before .loop .inv .2),
-    )
+    let s = c .before .before in
+    let l = s .args .t1 in
+    let v = c .before .loop in
+    let done = used-up (l .rows) (l .count) (v .i) (c .loop-test .left) in
+    let e : v .i ≡ length (usedRows l) = omega (arith, used-sized s) in
+    record {
+      rise = sym (v .inv .2 ∙ rw done);
+      ordered = λ w. sym (v .inv .3 ∙ rw done (and-true (v .targets)));
+      written = λ w. v .inv .4 ∙ rw (e, take-length (usedRows l));
+    }
 
 pub rows-rise-spec : {M : Type 1} → statement M
 rows-rise-spec =
@@ -172,10 +188,12 @@ rows-rise-spec =
     add-end
     same-length-4
     returns-4
-    mul-keys
-    add-keys
-    mul-keys-2
-    slice-write-keys
+    add-past
+    mul-order
+    cast-order
+    add-order
+    mul-order-2
+    slice-write-order
     add-floor
     add-i
     loop-less

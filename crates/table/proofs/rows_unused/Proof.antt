@@ -1,21 +1,23 @@
 -- `table::rows_unused` meets its contract.
 use borrow.Author.Needs.{needs}
-use borrow.Author.Tests.{eq-eqb, ne-eqb}
 use native.Mathlib.Omega.{arith}
 use Prim.Native.Nat.{_≤_, _-_, _+_}
-use mathlib.Core.Path.{_≡_, sym, _∙_}
+use mathlib.Core.Path.{_≡_, sym, _∙_, ap}
+use mathlib.Core.Bool.{Bool, _&&_, and-true}
 use mathlib.Core.List.{_∷_}
+use lib.Dec.{eqb}
 use lib.ListN.{drop, getD, length, drop-of-length-le}
 use Rattle.label.proofs.Steps.{next, length-mapped}
 use Rattle.table.specs.Table.{unusedRows, noRow}
+use Rattle.table.proofs.Order.{unused-step}
 use Rattle.table.proofs.rows_unused.Statement.{statement}
 use Rattle.table.proofs.rows_unused.Tie as tie
 
 abbrev Inv-loop : tie.InvT-loop
-Inv-loop t i₀ i = (i ≤ 64) × (unusedRows (drop (t .count) (t .rows)) ≡ unusedRows (drop i (t .rows)))
+Inv-loop t sources₀ targets₀ i₀ sources targets i = (i ≤ 64) × (unusedRows (drop (t .count) (t .rows)) ≡ (eqb sources 0 && (eqb targets 0 && unusedRows (drop i (t .rows)))))
 
 abbrev μ-loop : tie.MeasureT-loop
-μ-loop t i₀ i = 64 - i
+μ-loop t sources₀ targets₀ i₀ sources targets i = 64 - i
 
 sized : (c : tie.Start Inv-loop μ-loop) → length (c .args .t1 .rows) ≡ 64
 sized c = search (length-mapped, needs)
@@ -35,23 +37,8 @@ mul-row c = search needs
 element-copy-out-row : tie.Need-element-copy-out-row Inv-loop μ-loop
 element-copy-out-row c = search needs
 
-returns : tie.Need-returns Inv-loop μ-loop
-returns c =
-    let d = c .before .before .before in
-    sym (d .before .loop .inv .1 ∙ rw (seen d) (simp (ne-eqb _ _ (c .if1 .taken))))
-
-returns-2 : tie.Need-returns-2 Inv-loop μ-loop
-returns-2 c =
-    let e1 = c .before .before in
-    let d = e1 .before .before .before in
-    sym (d .before .loop .inv .1 ∙ rw (seen d) (simp (eq-eqb _ _ (e1 .if1 .left), ne-eqb _ _ (c .if2 .taken))))
-
-returns-3 : tie.Need-returns-3 Inv-loop μ-loop
-returns-3 c =
-    let e2 = c .before .before in
-    let e1 = e2 .before .before in
-    let d = e1 .before .before .before in
-    sym (d .before .loop .inv .1 ∙ rw (seen d) (simp (eq-eqb _ _ (e1 .if1 .left), eq-eqb _ _ (e2 .if2 .left), ne-eqb _ _ (c .if3 .taken))))
+source-word-requires : tie.Need-source-word-requires Inv-loop μ-loop
+source-word-requires c κs = search needs
 
 add-i : tie.Need-add-i Inv-loop μ-loop
 add-i c = search needs
@@ -61,16 +48,17 @@ loop-less c = search needs
 
 loop-again : tie.Need-loop-again Inv-loop μ-loop
 loop-again c =
-    let e2 = c .before .before in
-    let e1 = e2 .before .before in
-    let d = e1 .before .before .before in
-    (omega arith, d .before .loop .inv .1 ∙ rw (seen d) (simp (eq-eqb _ _ (e1 .if1 .left), eq-eqb _ _ (e2 .if2 .left), eq-eqb _ _ (c .if3 .left))))
+    let d = c .before .before .before in
+    let v = d .before .loop in
+    let l = d .before .before .args .t1 in
+    (omega arith, v .inv .1 ∙ rw (seen d, c .before .source-word .ensures) (unused-step (v .sources) (v .targets) (getD (l .rows) (v .i) noRow) (unusedRows (drop (v .i + 1) (l .rows)))))
 
-returns-4 : tie.Need-returns-4 Inv-loop μ-loop
-returns-4 c =
-    sym
-    (c .before .loop .inv .1
-    ∙ rw (drop-of-length-le (c .before .before .args .t1 .rows) {i = c .before .loop .i} (omega (arith, sized (c .before .before)))))
+returns : tie.Need-returns Inv-loop μ-loop
+returns c =
+    let v = c .before .loop in
+    let s = c .before .before in
+    let none = drop-of-length-le (s .args .t1 .rows) {i = v .i} (omega (arith, sized s)) in
+    sym (v .inv .1 ∙ rw none (ap (λ (b : Bool). eqb (v .sources) 0 && b) (and-true (eqb (v .targets) 0))))
 
 pub rows-unused-spec : {M : Type 1} → statement M
 rows-unused-spec =
@@ -81,10 +69,8 @@ rows-unused-spec =
     loop-holds
     mul-row
     element-copy-out-row
-    returns
-    returns-2
-    returns-3
+    source-word-requires
     add-i
     loop-less
     loop-again
-    returns-4)
+    returns)

@@ -1,0 +1,192 @@
+-- Laws of the loops over rows: one row more is written down, read along the order, or found unused.
+use mathlib.Core.Path.{_≡_, refl, sym, _∙_, ap}
+use mathlib.Core.Bool.{Bool, true, false, true≢false, not, _&&_, and-false}
+use mathlib.Core.List.{List, [], _∷_, _++_, map, append-assoc}
+use Prim.Native.Nat.{ℕ, zero, suc, _+_, _-_, _*_, _%_, _≤_, _<_}
+use native.Mathlib.Omega.{arith}
+use native.Mathlib.Numerals.{add-one}
+use lib.Bits.{bitOr, bitAnd, or-add-and, and-le-l, and-le-r}
+use lib.Dec.{leb, ltb, eqb}
+use lib.ListN.{length, take, drop, getD, set, replicate, length-drop, length-map, length-append, replicate-append-replicate, List·getD-map}
+use lib.Seq.{take-suc, set-at, take-at, drop-at, length-take-le, getD-take}
+use borrow.Author.Tests.{le-leb, leb-true, ltb-true, lt-ltb, eqb-true, eq-eqb}
+use Rattle.label.proofs.Bools.{and-left, and-right, same-yes, and-both}
+use Rattle.label.proofs.Steps.{next}
+use Rattle.order.specs.Order.{all, sortKeys}
+use Rattle.order.proofs.Laws.{sort-length}
+use Rattle.order.proofs.Merge.{put}
+use Rattle.table.specs.declared.Row.{Row}
+use Rattle.table.specs.declared.Table.{Table}
+use Rattle.table.specs.Table.{noRow, usedRows, rising, rowsSound, levelsSound, typed, tableSound}
+use Rattle.table.specs.Order.{orderKeys, rowOrder, orderOf, rowAt, inOrder}
+use Rattle.table.specs.Stages.{fieldsSound, RowsRise}
+use Rattle.table.proofs.Rows.{good, order-all}
+
+-- Zeros written one by one.
+pub cleared : (s : List ℕ) (i : ℕ) → i < length s → take i s ≡ replicate i 0 → take (i + 1) (set s i 0) ≡ replicate (i + 1) 0
+cleared s i h e = put s i 0 h ∙ ap (λ (z : List ℕ). z ++ (0 ∷ [])) e ∙ replicate-append-replicate i 1 0
+
+pub drop-zeros : (n m : ℕ) → drop n (replicate {A = ℕ} (n + m) 0) ≡ replicate {A = ℕ} m 0
+drop-zeros zero m = let e : 0 + m ≡ m = omega arith in rw e
+drop-zeros (suc n) m = let e : suc n + m ≡ suc (n + m) = omega arith in rw e (drop-zeros n m)
+
+-- A refusal writes nothing that is told.
+pub refused : {rs : List Row} {was order : List ℕ} → false ≡ rising 0 rs → RowsRise rs was false false order
+refused e = record { rise = e; ordered = λ w. absurd (true≢false (sym w)); written = λ w. absurd (true≢false (sym w)) }
+
+-- One row more is written down.
+pub keys-length : (i : ℕ) (rs : List Row) → length (orderKeys i rs) ≡ length rs
+keys-length i [] = refl
+keys-length i (r ∷ rs) = ap suc (keys-length (i + 1) rs)
+
+keys-snoc : (i : ℕ) (rs : List Row) (r : Row) → orderKeys i (rs ++ (r ∷ [])) ≡ orderKeys i rs ++ ((r .target * 65536 + (i + length rs)) ∷ [])
+keys-snoc i [] r = let e : i + 0 ≡ i = omega arith in rw e
+keys-snoc i (s ∷ rs) r =
+    let e : i + suc (length rs) ≡ i + 1 + length rs = omega arith in
+    rw (keys-snoc (i + 1) rs r, e)
+
+pub order-step : (rs : List Row) (was : List ℕ) (i : ℕ) → i < length rs → i < length was
+    → set (orderKeys 0 (take i rs) ++ drop i was) i (getD rs i noRow .target * 65536 + i) ≡ orderKeys 0 (take (i + 1) rs) ++ drop (i + 1) was
+order-step rs was i h l =
+    let k : ℕ = getD rs i noRow .target * 65536 + i in
+    let n : length (take i rs) ≡ i = length-take-le i rs (omega arith) in
+    let m : length (orderKeys 0 (take i rs)) ≡ i = keys-length 0 (take i rs) ∙ n in
+    let z : 0 + length (take i rs) ≡ i = omega arith in
+    rw (next 0 was i l)
+    (set-at (orderKeys 0 (take i rs)) (getD was i 0) (drop (i + 1) was) k i m
+    ∙ sym (rw (add-one i, take-suc rs i noRow h, keys-snoc 0 (take i rs) (getD rs i noRow), z) (append-assoc (orderKeys 0 (take i rs)) (k ∷ []) (drop (suc i) was))))
+
+-- A turn along the order: the row that is read is there and has an order, and it is the next.
+pub record Turn (rs : List Row) (i k : ℕ) : Type 0 where
+  pub place : k % 65536 < length rs
+  pub ordered : rowAt rs k .low ≤ rowAt rs k .high
+  pub next : drop i (inOrder rs) ≡ rowAt rs k ∷ drop (i + 1) (inOrder rs)
+
+row-ordered : (f : ℕ) (rs : List Row) (j : ℕ) (r : Row) (ts : List Row) → rising f rs ≡ true → drop j rs ≡ r ∷ ts → r .low ≤ r .high
+row-ordered f [] zero r ts e q = absurd (let z : _≡_ {A = ℕ} 0 (suc (length ts)) = ap length q in omega arith)
+row-ordered f [] (suc j) r ts e q = absurd (let z : _≡_ {A = ℕ} 0 (suc (length ts)) = ap length q in omega arith)
+row-ordered f (s ∷ rs) zero r ts e q = let p : s ≡ r = cc in rw (← p) (good f s rs e .ordered)
+row-ordered f (s ∷ rs) (suc j) r ts e q = row-ordered (s .high + 1) rs j r ts (good f s rs e .rest) q
+
+all-at : (p : ℕ → Bool) (xs : List ℕ) (i : ℕ) → all p xs ≡ true → i < length xs → p (getD xs i 0) ≡ true
+all-at p [] i e h = absurd (omega arith)
+all-at p (x ∷ xs) zero e h = and-left (p x) _ e
+all-at p (x ∷ xs) (suc i) e h = all-at p xs i (and-right (p x) _ e) (omega arith)
+
+pub order-length : (rs : List Row) → length (rowOrder rs) ≡ length rs
+order-length rs = sort-length [] (orderKeys 0 rs) ∙ omega (arith, keys-length 0 rs)
+
+pub order-turn : (rs : List Row) (n : ℕ) (order : List ℕ) (i : ℕ) → length rs ≤ 65536 → rising 0 rs ≡ true → take n order ≡ rowOrder rs → n ≡ length rs → i < n
+    → Turn rs i (getD order i 0)
+order-turn rs n order i h e w q l =
+    let t : ℕ → Row → Bool = λ k r. ltb (k % 65536) (length rs) && leb (r .low) (r .high) in
+    let g : all (λ k. t k (rowAt rs k)) (rowOrder rs) ≡ true = order-all t rs h (λ j r ts b d.
+    let s : length (drop j rs) ≡ suc (length ts) = ap length d in
+    let m : j < length rs = omega (arith, length-drop j rs) in
+    and-both (lt-ltb ((r .target * 65536 + j) % 65536) (length rs) (omega arith)) (le-leb (r .low) (r .high) (row-ordered 0 rs j r ts e d))) in
+    let k : ℕ = getD (rowOrder rs) i 0 in
+    let same : getD order i 0 ≡ k = sym (getD-take n order i 0 l) ∙ ap (λ (z : List ℕ). getD z i 0) w in
+    let long : i < length (rowOrder rs) = omega (arith, order-length rs) in
+    let p : t k (rowAt rs k) ≡ true = all-at (λ k. t k (rowAt rs k)) (rowOrder rs) i g long in
+    let there : i < length (inOrder rs) = rw length-map long in
+    rw same
+    (record {
+      place = ltb-true _ _ (and-left (ltb (k % 65536) (length rs)) _ p);
+      ordered = leb-true _ _ (and-right (ltb (k % 65536) (length rs)) _ p);
+      next = next (rowAt rs 0) (inOrder rs) i there ∙ ap (λ (z : Row). z ∷ drop (i + 1) (inOrder rs)) (List·getD-map (rowAt rs) (rowOrder rs) i 0);
+    })
+
+-- One row more is unused.
+or-zero : (a b : ℕ) → eqb (bitOr a b) 0 ≡ (eqb a 0 && eqb b 0)
+or-zero a b =
+    same-yes _ _
+    (λ e. let z : bitOr a b ≡ 0 = eqb-true _ _ e in
+    and-both (eq-eqb a 0 (omega (arith, or-add-and a b, and-le-l a b, and-le-r a b))) (eq-eqb b 0 (omega (arith, or-add-and a b, and-le-l a b, and-le-r a b))))
+    (λ e. let x : a ≡ 0 = eqb-true _ _ (and-left (eqb a 0) _ e) in
+    let y : b ≡ 0 = eqb-true _ _ (and-right (eqb a 0) _ e) in
+    eq-eqb (bitOr a b) 0 (omega (arith, or-add-and a b)))
+
+word-zero : (a b : ℕ) → eqb (a + b * 65536) 0 ≡ (eqb a 0 && eqb b 0)
+word-zero a b =
+    same-yes _ _
+    (λ e. let z : a + b * 65536 ≡ 0 = eqb-true _ _ e in and-both (eq-eqb a 0 (omega arith)) (eq-eqb b 0 (omega arith)))
+    (λ e. let x : a ≡ 0 = eqb-true _ _ (and-left (eqb a 0) _ e) in
+    let y : b ≡ 0 = eqb-true _ _ (and-right (eqb a 0) _ e) in
+    eq-eqb (a + b * 65536) 0 (omega arith))
+
+pub unused-step : (s t : ℕ) (r : Row) (u : Bool)
+    → (eqb s 0 && (eqb t 0 && (eqb (r .low) 0 && (eqb (r .high) 0 && (eqb (r .target) 0 && u)))))
+    ≡ (eqb (bitOr s (r .low + r .high * 65536)) 0 && (eqb (bitOr t (r .target)) 0 && u))
+unused-step s t r u = rw (or-zero s (r .low + r .high * 65536), or-zero t (r .target), word-zero (r .low) (r .high)) (go (eqb s 0) (eqb t 0) (eqb (r .low) 0) (eqb (r .high) 0) (eqb (r .target) 0) u)
+  where
+    go : (a b c d e f : Bool) → (a && (b && (c && (d && (e && f))))) ≡ ((a && (c && d)) && ((b && e) && f))
+    go false b c d e f = refl
+    go true true true true e f = refl
+    go true true true false e f = refl
+    go true true false d e f = refl
+    go true false true true e f = refl
+    go true false true false e f = refl
+    go true false false d e f = refl
+
+-- The rows written down, and put in order.
+module _ (rs : List Row) (n : ℕ) (was order : List ℕ) (q : length rs ≡ n) (w : order ≡ orderKeys 0 rs ++ drop (length rs) was) where
+  pub rows-placed : rowOrder rs ≡ orderKeys 0 rs → order ≡ rowOrder rs ++ drop n was
+  rows-placed e = w ∙ rw (e, q)
+
+  module _ (s : List ℕ) (o : s ≡ sortKeys (take n order) ++ drop n order) where
+    pub rows-sorted : s ≡ rowOrder rs ++ drop n was
+    rows-sorted =
+        let m : length (orderKeys 0 rs) ≡ n = keys-length 0 rs ∙ q in
+        let d : order ≡ orderKeys 0 rs ++ drop n was = w ∙ rw q in
+        o ∙ rw (d, take-at (orderKeys 0 rs) (drop n was) n m, drop-at (orderKeys 0 rs) (drop n was) n m)
+
+    pub rows-front : take n s ≡ rowOrder rs
+    rows-front = rw rows-sorted (take-at (rowOrder rs) (drop n was) n (order-length rs ∙ q))
+
+-- The whole of a table's soundness, and the list that goes with it.
+module _ (t : Table) (ls : List (List ℕ)) where
+  pub sound-parts : tableSound t ls ≡ (fieldsSound t ls && rowsSound t)
+  unfolding tableSound fieldsSound
+  sound-parts = go (not (eqb (t .from) 0)) (not (eqb (t .to) 0)) (leb (t .pairs) 16) (leb (t .count) 64) (levelsSound ls (t .pairs)) (rowsSound t) (typed t ls)
+    where
+      swap : (a b c : Bool) → (a && (b && c)) ≡ ((a && c) && b)
+      swap false b c = refl
+      swap true true true = refl
+      swap true true false = refl
+      swap true false true = refl
+      swap true false false = refl
+
+      go : (a b c d e f g : Bool) → (a && (b && (c && (d && (e && (f && g)))))) ≡ ((a && (b && (c && (d && (e && g))))) && f)
+      go false b c d e f g = refl
+      go true false c d e f g = refl
+      go true true false d e f g = refl
+      go true true true false e f g = refl
+      go true true true true e f g = swap e f g
+
+  pub order-unsound : (order : List ℕ) → order ≡ replicate 64 0 → tableSound t ls ≡ false → order ≡ orderOf t ls
+  unfolding orderOf
+  order-unsound order e h = rw h e
+
+  pub order-sound : (was order : List ℕ) → was ≡ replicate 64 0 → tableSound t ls ≡ true → order ≡ rowOrder (usedRows t) ++ drop (t .count) was → t .count ≤ 64 → order ≡ orderOf t ls
+  unfolding orderOf
+  order-sound was order e h w l =
+      let z : t .count + (64 - t .count) ≡ 64 = omega arith in
+      let d : drop (t .count) was ≡ replicate (64 - t .count) 0 = rw e (ap (λ (k : ℕ). drop (t .count) (replicate {A = ℕ} k 0)) (sym z) ∙ drop-zeros (t .count) (64 - t .count)) in
+      rw (h, ← d) w
+
+  pub fields-held : fieldsSound t ls ≡ true → t .count ≤ 64
+  unfolding fieldsSound
+  fields-held e =
+      let e1 = and-right (not (eqb (t .from) 0)) _ e in
+      let e2 = and-right (not (eqb (t .to) 0)) _ e1 in
+      let e3 = and-right (leb (t .pairs) 16) _ e2 in
+      leb-true _ _ (and-left (leb (t .count) 64) _ e3)
+
+  pub fields-unsound : fieldsSound t ls ≡ false → tableSound t ls ≡ false
+  fields-unsound e = sound-parts ∙ rw e
+
+  pub rows-unsound : rowsSound t ≡ false → tableSound t ls ≡ false
+  rows-unsound e = sound-parts ∙ rw e (and-false (fieldsSound t ls))
+
+  pub both-sound : fieldsSound t ls ≡ true → rowsSound t ≡ true → tableSound t ls ≡ true
+  both-sound e f = sound-parts ∙ rw (e, f)
