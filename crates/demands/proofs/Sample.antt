@@ -18,8 +18,8 @@ use Rattle.option.specs.Spelling.{tagFor, bodyFor, spelledBy, spellingOf, spell
 use Rattle.option.proofs.Spellings.{one-spelling}
 use Rattle.reading.specs.Reading.{readingOf, readingFor, readingBy, tagChecks, labelIn}
 use Rattle.reading.proofs.Theorems.{reads}
-use Rattle.area.specs.Area.{walkFrom, walkOf}
-use Rattle.leaving.specs.Kept.{keptFrom, keptOf}
+use Rattle.area.specs.Area.{metFrom, metOf, walkOf}
+use Rattle.leaving.specs.Kept.{keptOf}
 use Rattle.port.specs.Port.{rangeSound, assignedSound, portSound}
 use Rattle.table.specs.Table as tables
 use Rattle.table.specs.Table.{usedRows, rowsSound, levelsSound, tableSound}
@@ -99,7 +99,7 @@ apart : (_≡_ {A = ℕ} 5 9) → ⊥
 apart e = omega arith
 
 conditions : Forwards (sample first) near far spelling
-unfolding subset allBelow wellFormed typed atMost leq inRange isZero rangeSound assignedSound portSound walkFrom walkOf keptFrom keptOf tables.typed rowsSound levelsSound tableSound
+unfolding subset allBelow wellFormed typed atMost leq inRange isZero rangeSound assignedSound portSound metFrom metOf walkOf keptOf tables.typed rowsSound levelsSound tableSound
 conditions =
     record {
       area = record { few = omega arith; fourfold = refl };
@@ -119,11 +119,11 @@ conditions =
     }
 
 nothing-kept : keptOf first ≡ []
-unfolding keptFrom keptOf
+unfolding metFrom metOf keptOf
 nothing-kept = refl
 
 pub sample-lines : SampleLines
-unfolding subset allBelow wellFormed typed atMost leq inRange isZero pieces readingFor readingBy tagChecks labelIn walkFrom walkOf keptFrom keptOf rangeSound assignedSound portSound tables.typed rowsSound levelsSound tableSound walkCheck requiredCheck optionCheck arrivingLabel rangeCheck sizes records numberCheck forwardOf
+unfolding subset allBelow wellFormed typed atMost leq inRange isZero pieces readingFor readingBy tagChecks labelIn metFrom metOf walkOf keptOf rangeSound assignedSound portSound tables.typed rowsSound levelsSound tableSound walkCheck requiredCheck optionCheck arrivingLabel rangeCheck sizes records numberCheck forwardOf
 sample-lines =
     record {
       forward = demand2 .always (sample first) near far spelling [] conditions .0;

@@ -3,3 +3,4 @@ pub mod Worked
 pub mod Sample
 pub mod Guards
 pub mod Alone
+pub mod Rules

@@ -17,6 +17,7 @@ use Rattle.option.specs.Spelling.{spellingOf, spelledOf}
 use Rattle.spelling.specs.Spelling.{lacking, lengthOf, Writes}
 use Rattle.spelling.proofs.Answers.{Spelled, length-none, length-some}
 use Rattle.leaving.specs.Kept.{keptOf, roundUp, leavingOf, restCount, restOf}
+use Rattle.leaving.proofs.Laws.{rest-counted, rest-whole}
 use Rattle.port.specs.declared.Port.{Port}
 use Rattle.port.specs.Port.{portSound}
 use Rattle.table.specs.declared.Table.{Table}
@@ -126,13 +127,15 @@ module _ (s kept out : List ℕ) (fits : length s + length kept ≤ 40) (long : 
       ∙ drop-drop k (length s) out
       ∙ ap (λ (i : ℕ). drop i out) (sym e)
 
-  pub rest-is : restOf (length s) kept (s ++ drop (length s) out) ≡ leavingOf s kept out
-  unfolding restOf
-  rest-is = rw (front-length, le-leb 40 (length out) long, le-leb (length s + length kept) 40 fits, take-append-seam s (drop (length s) out), beyond)
+  pub rest-is : restOf (length s) (length kept) kept (s ++ drop (length s) out) ≡ leavingOf s kept out
+  rest-is =
+      rest-whole (length s) (length kept) kept refl (s ++ drop (length s) out)
+      ∙ rw (front-length, le-leb 40 (length out) long, le-leb (length s + length kept) 40 fits, take-append-seam s (drop (length s) out), beyond)
 
-  pub count-is : restCount (length s) kept (length (s ++ drop (length s) out)) ≡ roundUp (length s + length kept)
-  unfolding restCount
-  count-is = rw (front-length, le-leb 40 (length out) long, le-leb (length s + length kept) 40 fits)
+  pub count-is : restCount (length s) (length kept) kept (length (s ++ drop (length s) out)) ≡ roundUp (length s + length kept)
+  count-is =
+      rest-counted (length s) (length kept) kept refl (length (s ++ drop (length s) out))
+      ∙ rw (front-length, le-leb 40 (length out) long, le-leb (length s + length kept) 40 fits)
 
 pub forward-done : (f : Forwarding) (s out : List ℕ) → firstOf (forwardChecks f) ≡ none → leavingOption (crossing f) ≡ some s
     → (forwardOf f ≡ done (leavingLabel (crossing f)) (roundUp (length s + length (keptOf (f .area))))) × (outputOf f out ≡ leavingOf s (keptOf (f .area)) out)
@@ -214,15 +217,16 @@ forward-real f =
     (real-else (firstOf (crossingChecks (crossing f))) _ (crossing-real (crossing f)) (real-when (noRoom (leavingOption (crossing f)) (keptOf (f .area))) (barred 18 9) eighteen))))))
 
 -- The option and then the rest are written: what is answered, and what the output holds.
-pub forward-written : (f : Forwarding) (l : Label) (n count : ℕ) (out front back : List ℕ)
+pub forward-written : (f : Forwarding) (l : Label) (n kept count : ℕ) (out front back : List ℕ)
     → f .room ≡ length out
     → firstOf (forwardChecks f) ≡ none
     → l ≡ leavingLabel (crossing f)
     → Writes l out front n
-    → count ≡ restCount n (keptOf (f .area)) (length front)
-    → back ≡ restOf n (keptOf (f .area)) front
+    → kept ≡ length (keptOf (f .area))
+    → count ≡ restCount n kept (keptOf (f .area)) (length front)
+    → back ≡ restOf n kept (keptOf (f .area)) front
     → (done l count ≡ forwardOf f) × (back ≡ outputOf f out)
-forward-written f l n count out front back er e el w ec eb =
+forward-written f l n kept count out front back er e el w ek ec eb =
     let p = forward-passed f e in
     let s = p .fits .octets in
     let wl : wellFormed l ≡ true = rw el (passed-formed f p) in
@@ -231,7 +235,7 @@ forward-written f l n count out front back er e el w ec eb =
     let q = w .spelled wl long s sp in
     let d = forward-done f s out e (p .fits .spelled) in
     let c : count ≡ roundUp (length s + length (keptOf (f .area))) =
-    ec ∙ ap (λ (k : ℕ). restCount k (keptOf (f .area)) (length front)) (q .0) ∙ ap (λ (z : List ℕ). restCount (length s) (keptOf (f .area)) (length z)) (q .1) ∙ count-is s (keptOf (f .area)) out (p .fits .room) long in
+    ec ∙ (λ i. restCount (q .0 i) (ek i) (keptOf (f .area)) (length (q .1 i))) ∙ count-is s (keptOf (f .area)) out (p .fits .room) long in
     let b : back ≡ leavingOf s (keptOf (f .area)) out =
-    eb ∙ ap (λ (k : ℕ). restOf k (keptOf (f .area)) front) (q .0) ∙ ap (restOf (length s) (keptOf (f .area))) (q .1) ∙ rest-is s (keptOf (f .area)) out (p .fits .room) long in
+    eb ∙ (λ i. restOf (q .0 i) (ek i) (keptOf (f .area)) (q .1 i)) ∙ rest-is s (keptOf (f .area)) out (p .fits .room) long in
     ((λ i. done (el i) (c i)) ∙ sym (d .0), b ∙ sym (d .1))

@@ -51,7 +51,8 @@ pub fn forward(
     }
     let label = d.label;
     let n = write_option(label, &mut out[..]);
-    let count = write_rest(area, n, &mut out[..]);
+    let kept = count_kept(area);
+    let count = write_rest(area, n, kept, &mut out[..]);
     Decision {
         number: 0,
         kind: 0,

@@ -42,6 +42,9 @@ returns c =
 write-option-requires : tie.Need-write-option-requires
 write-option-requires c κs = search needs
 
+count-kept-requires : tie.Need-count-kept-requires
+count-kept-requires c κs = search needs
+
 write-rest-requires : tie.Need-write-rest-requires
 write-rest-requires c κs = search needs
 
@@ -51,13 +54,14 @@ same-length c = search needs
 returns-2 : tie.Need-returns-2
 returns-2 c =
     let r = c .before .before in
-    let w = r .before .before .before .before in
+    let k = r .before .before in
+    let w = k .before .before .before in
     let e = w .before .before .before in
     let d = e .before .before in
     let s = d .before .before .before in
     let p = passed _ _ 0 (d .decide .result) (forward-real (asked s false)) (d .decide .ensures) (e .if1 .left) in
-    forward-written (asked s (s .args .icmp)) (d .decide .result .label) (w .write-option .result) (r .write-rest .result) (s .args .out .now) (w .write-option .last .1 .0) (r .write-rest .last .1 .1 .0)
-    refl (unmarked s ∙ p .0) (ap (λ (x : Decision). x .label) (p .1)) (w .write-option .ensures) (r .write-rest .ensures .0) (r .write-rest .ensures .1)
+    forward-written (asked s (s .args .icmp)) (d .decide .result .label) (w .write-option .result) (k .count-kept .result) (r .write-rest .result) (s .args .out .now) (w .write-option .last .1 .0) (r .write-rest .last .1 .1 .1 .0)
+    refl (unmarked s ∙ p .0) (ap (λ (x : Decision). x .label) (p .1)) (w .write-option .ensures) (k .count-kept .ensures .0) (r .write-rest .ensures .0) (r .write-rest .ensures .1)
 
 pub forward-spec : {M : Type 1} → statement M
 forward-spec =
@@ -67,6 +71,7 @@ forward-spec =
     report-requires
     returns
     write-option-requires
+    count-kept-requires
     write-rest-requires
     same-length
     returns-2)
