@@ -17,10 +17,9 @@ use Rattle.spelling.specs.Spelling.{lacking, spellingAnswer, spellingOut}
 use Rattle.table.specs.declared.Table.{Table}
 use Rattle.table.specs.declared.Partner.the-variants.{Level}
 use Rattle.table.specs.Table.{usedRows, tableSound}
-use Rattle.table.specs.Numbers.{partnerOf, hasNumber, numbered}
+use Rattle.table.specs.Numbers.{partnerOf, known, hasNumber, numbered}
 use Rattle.renumber.specs.Renumber.{imageRuns, renumberedOf}
 use Rattle.renumber.specs.Theorems.{Far}
-use Rattle.gateway.specs.Crossing.{known}
 
 -- "One option read alone must begin with 134 and fill its buffer, else 3; then 7 to 13, .. 8 for domain 0 only"
 abbrev pub readChecks : List ℕ → List Check
