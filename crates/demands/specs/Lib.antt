@@ -1,3 +1,4 @@
+pub mod First
 pub mod Demands
 pub mod Worked
 pub mod Sample

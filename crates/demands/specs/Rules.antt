@@ -28,6 +28,7 @@ use Rattle.arrival.specs.Checks.{Refusal, badArea, placeIn, optionAt, arrivingL
 use Rattle.arrival.specs.Decision.{refused, deliverOf}
 use Rattle.gateway.specs.Crossing.{Forwarding, sameDomain, crossing, stays, hasNumbers, leavingLevel, leavingRuns, leavingOption, noRoom}
 use Rattle.gateway.specs.Forward.{forwardOf}
+use Rattle.demands.specs.First.{NoneOf, FirstOf}
 
 -- a line of the table, held against an input
 pub record Rule : Type 0 where
@@ -179,13 +180,13 @@ order =
     one 1 ∷ one 2 ∷ each (3 ∷ 4 ∷ 5 ∷ []) ∷ one 6 ∷ one 7 ∷ one 8 ∷ one 9 ∷ one 10 ∷ one 11 ∷ one 12 ∷ one 13 ∷ one 14 ∷ one 15 ∷ one 16 ∷ one 17 ∷ one 18 ∷ []
 
 -- the lines of a table that have the number
-abbrev pub numbered : ℕ → List Rule → List Rule
-numbered n [] = []
-numbered n (r ∷ rs) = cond (eqb (r .number) n) (r ∷ numbered n rs) (numbered n rs)
+abbrev pub withNumber : ℕ → List Rule → List Rule
+withNumber n [] = []
+withNumber n (r ∷ rs) = cond (eqb (r .number) n) (r ∷ withNumber n rs) (withNumber n rs)
 
 abbrev pub inOrder : List ℕ → List Rule → List Rule
 inOrder [] table = []
-inOrder (n ∷ ns) table = numbered n table ++ inOrder ns table
+inOrder (n ∷ ns) table = withNumber n table ++ inOrder ns table
 
 -- option by option
 abbrev pub byOption : List ℕ → Bool → List Met → List Rule
@@ -195,7 +196,7 @@ byOption ns again (m ∷ ms) = inOrder ns (optionRules again m) ++ byOption ns (
 -- all lines in the order in which they are tested
 abbrev pub tested : List Test → List Rule → List Met → List Rule
 tested [] table met = []
-tested (one n ∷ ts) table met = numbered n table ++ tested ts table met
+tested (one n ∷ ts) table met = withNumber n table ++ tested ts table met
 tested (each ns ∷ ts) table met = byOption ns false met ++ tested ts table met
 
 abbrev pub forwardTests : Forwarding → List Rule
@@ -206,16 +207,11 @@ deliverTests d = tested order (deliverTable d) (metOf (d .area))
 
 -- no line of the list applies
 abbrev pub NoRule : List Rule → Type 0
-NoRule [] = Unit {0}
-NoRule (r ∷ rs) = (r .applies ≡ false) × NoRule rs
+NoRule rules = NoneOf (λ (x : Rule). x .applies) rules
 
 -- r is the first line that applies
-pub record FirstRule (rules : List Rule) (r : Rule) : Type 0 where
-  pub before : List Rule
-  pub after : List Rule
-  pub order : rules ≡ before ++ (r ∷ after)
-  pub passed : NoRule before
-  pub applies : r .applies ≡ true
+abbrev pub FirstRule : List Rule → Rule → Type 0
+FirstRule rules r = FirstOf (λ (x : Rule). x .applies) rules r
 
 -- a line's number, type, code and pointer
 abbrev pub reportOf : Rule → Refusal
