@@ -100,6 +100,35 @@ module _ (x y : Run) (xs ys : List Run) where
   pub rounds-in : x .low ≤ y .high → y .low ≤ x .low → x .high ≤ y .high → rounds (x ∷ xs) (y ∷ ys) ≡ 1 + rounds xs (y ∷ ys)
   rounds-in h k l = simp (le-leb (x .low) (y .high) h, le-leb (y .low) (x .low) k, le-leb (x .high) (y .high) l)
 
+  pub rounds-before : x .low ≤ y .high → x .low < y .low → rounds (x ∷ xs) (y ∷ ys) ≡ 1
+  rounds-before h k = simp (le-leb (x .low) (y .high) h, lt-leb (y .low) (x .low) k)
+
+  pub rounds-past : x .low ≤ y .high → y .low ≤ x .low → y .high < x .high → rounds (x ∷ xs) (y ∷ ys) ≡ 1
+  rounds-past h k l = simp (le-leb (x .low) (y .high) h, le-leb (y .low) (x .low) k, lt-leb (x .high) (y .high) l)
+
+-- Where a pass that counts its rounds stands: those gone and those left are all.
+pub record Counts (xs ys as′ bs′ : List Run) (k : ℕ) : Type 0 where
+  pub all : k + rounds as′ bs′ ≡ rounds xs ys
+
+pub counts-none : {xs ys : List Run} {x : Run} {as′ : List Run} {k : ℕ} → Counts xs ys (x ∷ as′) [] k → k + 1 ≡ rounds xs ys
+counts-none c = c .all
+
+pub counts-done : {xs ys bs′ : List Run} {k : ℕ} → Counts xs ys [] bs′ k → k ≡ rounds xs ys
+counts-done c = omega (arith, c .all)
+
+module _ {xs ys : List Run} {x : Run} {as′ : List Run} {y : Run} {bs′ : List Run} {k : ℕ} (c : Counts xs ys (x ∷ as′) (y ∷ bs′) k) where
+  pub counts-over : y .high < x .low → Counts xs ys (x ∷ as′) bs′ (k + 1)
+  counts-over h = record { all = omega (arith, c .all, rounds-over x y as′ bs′ h) }
+
+  pub counts-in : x .low ≤ y .high → y .low ≤ x .low → x .high ≤ y .high → Counts xs ys as′ (y ∷ bs′) (k + 1)
+  counts-in h l m = record { all = omega (arith, c .all, rounds-in x y as′ bs′ h l m) }
+
+  pub counts-before : x .low ≤ y .high → x .low < y .low → k + 1 ≡ rounds xs ys
+  counts-before h l = omega (arith, c .all, rounds-before x y as′ bs′ h l)
+
+  pub counts-past : x .low ≤ y .high → y .low ≤ x .low → y .high < x .high → k + 1 ≡ rounds xs ys
+  counts-past h l m = omega (arith, c .all, rounds-past x y as′ bs′ h l m)
+
 module _ {x y : Run} {xs ys as′ bs′ : List Run} (a : as′ ≡ x ∷ xs) (b : bs′ ≡ y ∷ ys) where
   pub fewer-over : y .high < x .low → rounds as′ ys < rounds as′ bs′
   fewer-over h = rw (a, b) (omega (arith, rounds-over x y xs ys h))

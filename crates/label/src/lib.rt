@@ -5,7 +5,7 @@ ghost use mathlib.Core.List.{map, _++_};
 ghost use Prim.Native.Nat.{_+_, _*_, _≤_, min};
 ghost use lib.Dec.{leb, eqb};
 ghost use lib.ListN.{length, take, drop};
-ghost use Rattle.label.specs.Runs.{spaced, unused, covers, passes};
+ghost use Rattle.label.specs.Runs.{spaced, unused, covers, passes, rounds};
 ghost use Rattle.label.specs.Label.{used, labelOf, wellFormed, emptyOf, member, isZero, leq, inRange, compared};
 ghost use Rattle.label.specs.Keys.{runKey, keyRuns, labelFrom, keysFit, withKeys};
 ghost use Rattle.label.specs.Range.{lookOf, runsBetween};
@@ -138,7 +138,8 @@ impl Label {
         if self.count == 0 {
             return true;
         }
-        runs_within(self, other)
+        let passed = runs_within(self, other);
+        passed.within
     }
 
     // Whether the label lies in the range from the lowest to the highest.
@@ -152,35 +153,57 @@ impl Label {
     }
 }
 
-// Whether the runs of the first label pass in those of the second: one pass over both, at most as many turns as they have runs together.
-fn runs_within(a: Label, b: Label) -> bool
+// What one pass over two lists of runs says, and how many rounds it took. The rounds are there for the contract alone: the caller drops them,
+// and with the call inlined the compiler drops their counting.
+struct Passed {
+    within: bool,
+    rounds: usize,
+}
+
+// Whether the runs of the first label pass in those of the second: one loop over both, with no loop inside or called. Its rounds are counted,
+// and `rounds` is at most as many as both labels have runs together.
+fn runs_within(a: Label, b: Label) -> Passed
     requires { ⌜ a .count ≤ 120 ⌝ }
     requires { ⌜ b .count ≤ 120 ⌝ }
-    ensures { λ r. ⌜ r ≡ passes (used a) (used b) ⌝ }
+    ensures { λ r. ⌜ (r .within ≡ passes (used a) (used b)) × (r .rounds ≡ rounds (used a) (used b)) × (r .rounds ≤ a .count + b .count) ⌝ }
 {
     let n = a.count;
     let m = b.count;
     let mut i: usize = 0;
     let mut j: usize = 0;
+    let mut k: usize = 0;
     while i < n {
+        k += 1; // one round more
         if m <= j {
-            return false;
+            return Passed {
+                within: false, // no run of the second label is left
+                rounds: k,
+            };
         }
         let run = a.runs[i];
         let over = b.runs[j];
         if over.high < run.low {
-            j += 1;
+            j += 1; // the run of the second label ends before the first's begins
         } else {
             if run.low < over.low {
-                return false;
+                return Passed {
+                    within: false,
+                    rounds: k,
+                };
             }
             if over.high < run.high {
-                return false;
+                return Passed {
+                    within: false,
+                    rounds: k,
+                };
             }
-            i += 1;
+            i += 1; // the run of the first label lies in the second's
         }
     }
-    true
+    Passed {
+        within: true,
+        rounds: k,
+    }
 }
 
 // Whether the used runs are ascending, within the highest category, with a gap between each two, and every other place is zero.

@@ -1,22 +1,25 @@
--- `label::runs_within` meets its contract. The loop's invariant: what is left of the two lists passes exactly when the whole lists do.
--- The measure is the turns that are left, at most as many as both lists have runs. Assumes nothing.
+-- `label::runs_within` meets its contract. The loop's invariant: what is left of the two lists passes exactly when the whole lists do, and
+-- the rounds gone and those left are all. The measure is the rounds that are left. Assumes nothing.
 use native.Mathlib.Omega.{arith}
-use Prim.Native.Nat.{_≤_, _+_}
+use Prim.Native.Nat.{ℕ, _≤_, _+_}
 use mathlib.Core.Path.{_≡_, refl, sym}
+use mathlib.Core.Bool.{Bool}
 use mathlib.Core.List.{_∷_}
-use Rattle.label.specs.Runs.{rounds}
-use lib.ListN.{drop, getD, length, length-map}
+use Rattle.label.specs.declared.Label.{Label}
+use Rattle.label.specs.Runs.{passes, rounds}
+use lib.ListN.{drop, getD, length, length-map, length-take}
 use Rattle.label.specs.Label.{used, noRun}
 use Rattle.label.proofs.Steps.{next-used, used-up}
-use Rattle.label.proofs.Pass.{Stands, stands-none, stands-done, stands-over, stands-in, stands-before, stands-past, fewer-over, fewer-in}
+use Rattle.label.proofs.Pass.{Stands, stands-none, stands-done, stands-over, stands-in, stands-before, stands-past, Counts, counts-none, counts-done, counts-over, counts-in, counts-before, counts-past, rounds-most, fewer-over, fewer-in}
 use Rattle.label.proofs.runs_within.Statement.{statement}
 use Rattle.label.proofs.runs_within.Tie as tie
 
 abbrev Inv-loop : tie.InvT-loop
-Inv-loop a b n m i₀ j₀ i j = (i ≤ n) × (j ≤ m) × Stands (used a) (used b) (drop i (used a)) (drop j (used b))
+Inv-loop a b n m i₀ j₀ k₀ i j k =
+    (i ≤ n) × (j ≤ m) × Stands (used a) (used b) (drop i (used a)) (drop j (used b)) × Counts (used a) (used b) (drop i (used a)) (drop j (used b)) k
 
 abbrev μ-loop : tie.MeasureT-loop
-μ-loop a b n m i₀ j₀ i j = rounds (drop i (used a)) (drop j (used b))
+μ-loop a b n m i₀ j₀ k₀ i j k = rounds (drop i (used a)) (drop j (used b))
 
 sized-a : (c : tie.Start Inv-loop μ-loop) → c .args .t1 .count ≤ length (c .args .t1 .runs)
 sized-a c =
@@ -53,13 +56,41 @@ standing : (c : tie.Else1 Inv-loop μ-loop) →
     Stands (used a) (used b) (getD (a .runs) i noRun ∷ drop (i + 1) (used a)) (getD (b .runs) j noRun ∷ drop (j + 1) (used b))
 standing c = rw (run-a (c .before), run-b c) at (c .before .before .loop .inv .2)
 
+-- the same of the rounds
+counting : (c : tie.Else1 Inv-loop μ-loop) →
+    let a = c .before .before .before .args .t1 in
+    let b = c .before .before .before .args .t2 in
+    let i = c .before .before .loop .i in
+    let j = c .before .before .loop .j in
+    Counts (used a) (used b) (getD (a .runs) i noRun ∷ drop (i + 1) (used a)) (getD (b .runs) j noRun ∷ drop (j + 1) (used b)) (c .before .before .loop .k)
+counting c = rw (run-a (c .before), run-b c) at (c .before .before .loop .inv .3)
+
+-- at most as many rounds as both labels have runs
+bounded : (l r : Label) (k : ℕ) → l .count ≤ 120 → r .count ≤ 120 → k ≡ rounds (used l) (used r) → k ≤ l .count + r .count
+bounded l r k h g e =
+    omega (arith, e, rounds-most (used l) (used r), length-take (l .count) (l .runs), length-take (r .count) (r .runs))
+
 loop-holds : tie.Need-loop-holds Inv-loop μ-loop
-loop-holds c = (omega arith, omega arith, record { same = refl })
+loop-holds c = (omega arith, omega arith, record { same = refl }, record { all = omega arith })
+
+add-k : tie.Need-add-k Inv-loop μ-loop
+add-k c =
+    let a = c .before .before .args in
+    omega (arith, c .before .loop .inv .3 .all, rounds-most (used (a .t1)) (used (a .t2)), length-take (a .t1 .count) (a .t1 .runs), length-take (a .t2 .count) (a .t2 .runs))
+
+-- what the pass says, with the rounds that it took and their bound
+told : {v : Bool} {k : ℕ} (l r : Label) → l .count ≤ 120 → r .count ≤ 120 → passes (used l) (used r) ≡ v → k ≡ rounds (used l) (used r)
+    → (v ≡ passes (used l) (used r)) × (k ≡ rounds (used l) (used r)) × (k ≤ l .count + r .count)
+told l r h g p e = (sym p, e, bounded l r _ h g e)
 
 returns : tie.Need-returns Inv-loop μ-loop
 returns c =
-    let b = c .before .before .before .args .t2 in
-    sym (stands-none (rw (run-a (c .before), used-up (b .runs) (b .count) (c .before .before .loop .j) (c .if1 .taken)) at (c .before .before .loop .inv .2)))
+    let s = c .before .before .before in
+    let b = s .args .t2 in
+    let up = used-up (b .runs) (b .count) (c .before .before .loop .j) (c .if1 .taken) in
+    told (s .args .t1) b (s .pre .0) (s .pre .1)
+    (stands-none (rw (run-a (c .before), up) at (c .before .before .loop .inv .2)))
+    (counts-none (rw (run-a (c .before), up) at (c .before .before .loop .inv .3)))
 
 mul-run : tie.Need-mul-run Inv-loop μ-loop
 mul-run c = omega arith
@@ -83,21 +114,31 @@ loop-less c =
 
 loop-again : tie.Need-loop-again Inv-loop μ-loop
 loop-again c =
-    let e = c .before .before .before .before .before in
-    (omega arith, omega arith, rw (run-a (e .before)) (stands-over (standing e) (c .if2 .taken)))
+    let e = c .before .before .before .before .before in (
+      omega arith,
+      omega arith,
+      rw (run-a (e .before)) (stands-over (standing e) (c .if2 .taken)),
+      rw (run-a (e .before)) (counts-over (counting e) (c .if2 .taken)),
+    )
 
 returns-2 : tie.Need-returns-2 Inv-loop μ-loop
 returns-2 c =
     let e2 = c .before .before .before in
     let e = e2 .before .before .before .before .before in
-    sym (stands-before (standing e) (e2 .if2 .left) (c .if3 .taken))
+    let s = e .before .before .before in
+    told (s .args .t1) (s .args .t2) (s .pre .0) (s .pre .1)
+    (stands-before (standing e) (e2 .if2 .left) (c .if3 .taken))
+    (counts-before (counting e) (e2 .if2 .left) (c .if3 .taken))
 
 returns-3 : tie.Need-returns-3 Inv-loop μ-loop
 returns-3 c =
     let e3 = c .before .before .before in
     let e2 = e3 .before .before .before in
     let e = e2 .before .before .before .before .before in
-    sym (stands-past (standing e) (e2 .if2 .left) (e3 .if3 .left) (c .if4 .taken))
+    let s = e .before .before .before in
+    told (s .args .t1) (s .args .t2) (s .pre .0) (s .pre .1)
+    (stands-past (standing e) (e2 .if2 .left) (e3 .if3 .left) (c .if4 .taken))
+    (counts-past (counting e) (e2 .if2 .left) (e3 .if3 .left) (c .if4 .taken))
 
 add-i : tie.Need-add-i Inv-loop μ-loop
 add-i c = omega arith
@@ -113,13 +154,21 @@ loop-again-2 : tie.Need-loop-again-2 Inv-loop μ-loop
 loop-again-2 c =
     let e3 = c .before .before .before in
     let e2 = e3 .before .before .before in
-    let e = e2 .before .before .before .before .before in
-    (omega arith, omega arith, rw (run-b e) (stands-in (standing e) (e2 .if2 .left) (e3 .if3 .left) (c .if4 .left)))
+    let e = e2 .before .before .before .before .before in (
+      omega arith,
+      omega arith,
+      rw (run-b e) (stands-in (standing e) (e2 .if2 .left) (e3 .if3 .left) (c .if4 .left)),
+      rw (run-b e) (counts-in (counting e) (e2 .if2 .left) (e3 .if3 .left) (c .if4 .left)),
+    )
 
 returns-4 : tie.Need-returns-4 Inv-loop μ-loop
 returns-4 c =
-    let a = c .before .before .args .t1 in
-    sym (stands-done (rw (used-up (a .runs) (a .count) (c .before .loop .i) (c .loop-test .left)) at (c .before .loop .inv .2)))
+    let s = c .before .before in
+    let a = s .args .t1 in
+    let up = used-up (a .runs) (a .count) (c .before .loop .i) (c .loop-test .left) in
+    told a (s .args .t2) (s .pre .0) (s .pre .1)
+    (stands-done (rw up at (c .before .loop .inv .2)))
+    (counts-done (rw up at (c .before .loop .inv .3)))
 
 pub runs-within-spec : {M : Type 1} → statement M
 runs-within-spec =
@@ -128,6 +177,7 @@ runs-within-spec =
     Inv-loop
     μ-loop
     loop-holds
+    add-k
     returns
     mul-run
     element-copy-out-run

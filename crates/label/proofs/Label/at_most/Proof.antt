@@ -45,7 +45,7 @@ returns-6 c =
     let e3 = e4 .before .before in
     let e2 = e3 .before .before in
     let e1 = e2 .before .before .before in
-    c .runs-within .ensures
+    c .runs-within .ensures .0
     ∙ simp
     (eq-eqb _ _ (e1 .if1 .left), le-leb _ _ (e2 .if2 .left), le-leb _ _ (e3 .if3 .left), le-leb _ _ (e4 .if4 .left))
 
