@@ -1,3 +1,4 @@
 pub mod Apart
 pub mod Rows
 pub mod Octets
+pub mod Soundness
