@@ -1,40 +1,57 @@
--- The house file, version 1, with ports alone (tables follow in the same way). The layout's row: length of the whole file (2), version (1), port count (1), ports.
-use mathlib.Core.Bool.{Bool, cond}
+-- docs/FILE.md, the file, version 1. The layout's row: length of the whole file (2), version (1), port count (1), the ports, table count (1), the tables.
+use mathlib.Core.Bool.{Bool, true, false, cond, not, _&&_}
 use mathlib.Core.List.{List}
 use mathlib.Core.Path.{_≡_}
-use Prim.Native.Nat.{ℕ, _+_, _<_}
-use lib.Dec.{leb, eqb}
+use Prim.Native.Nat.{ℕ, _+_}
+use lib.Dec.{leb, ltb, eqb}
 use lib.ListN.{length}
-use Rattle.port.specs.declared.Port.{Port}
-use Rattle.format.specs.Format.{Format, Found, got, bad, after, one, two, number, _then_, _such_, octets, readAt, Sound}
-use Rattle.format.specs.Laws.{Octets}
-use Rattle.file.specs.PortsFormat.{portsFormat}
+use Rattle.format.specs.Format.{Format, Found, got, bad, one, two, number, _then_, _such_, octets, readAt, paint}
+use Rattle.fileset.specs.declared.Set.{Set}
+use Rattle.fileset.specs.Set.{emptySet, setSound}
+use Rattle.file.specs.declared.FileRead.{FileRead}
+use Rattle.file.specs.declared.Written.{Written}
+use Rattle.file.specs.SetFormat.{setFormat}
 
 -- a file of `total` octets. Its size is a rule over the two fields of its head, and so blames octet 0 when the version has passed
-unfoldable pub fileFormat : ℕ → Format ((ℕ × ℕ) × List Port)
+unfoldable pub fileFormat : ℕ → Format ((ℕ × ℕ) × Set)
 fileFormat total =
     (number two total total then λ length. number one 1 1) such (λ head. leb total 32768)
-    then λ head. portsFormat
+    then λ head. setFormat
 
--- what reading a file finds; octets after the last record are blamed at the first of them
-unfoldable pub fileAnswer : List ℕ → Found (List Port)
-fileAnswer s = after (readAt (fileFormat (length s)) s 0) (λ v n. cond (eqb n (length s)) (got (v .1) n) (bad n))
+-- 1. The reader's answers.
 
--- the one file of a set
-abbrev pub totalOf : List Port → ℕ
-totalOf ps = 3 + length (octets portsFormat ps)
+-- 0: accepted, with the set
+abbrev pub accepted : Set → FileRead
+accepted s = record { verdict = 0; at = 0; set = s }
 
-unfoldable pub fileOctets : List Port → List ℕ
-fileOctets ps = octets (fileFormat (totalOf ps)) ((totalOf ps, 1), ps)
+-- 1: the place of the first octet of the first bad field
+abbrev pub refused : ℕ → FileRead
+refused n = record { verdict = 1; at = n; set = emptySet }
 
--- what the writer wrote the reader gives back
-abbrev pub GivenBack : Type 0
-GivenBack = (ps : List Port) → Sound portsFormat ps → totalOf ps < 32769 → fileAnswer (fileOctets ps) ≡ got ps (totalOf ps)
+-- 2: a version that is not known, refused by name
+abbrev pub unknown : FileRead
+unknown = record { verdict = 2; at = 2; set = emptySet }
 
--- a set has one file, and nothing but the file of a sound set is accepted
-pub record Accepted (s : List ℕ) (ps : List Port) : Type 0 where
-  pub file : s ≡ fileOctets ps
-  pub sound : Sound portsFormat ps
+-- octets after the last table are blamed at the first of them; the version is the field at place 2, and where it is there and bad it is not known
+unfoldable pub answered : ℕ → Found ((ℕ × ℕ) × Set) → FileRead
+answered total (got v n) = cond (eqb n total) (accepted (v .1)) (refused n)
+answered total (bad n) = cond (eqb n 2 && ltb 2 total) unknown (refused n)
 
-abbrev pub OneFile : Type 0
-OneFile = (s : List ℕ) → Octets s → (ps : List Port) (n : ℕ) → fileAnswer s ≡ got ps n → Accepted s ps
+unfoldable pub fileReading : List ℕ → FileRead
+fileReading s = answered (length s) (readAt (fileFormat (length s)) s 0)
+
+-- 2. The one file of a set, and what the writer does: 2 for an unsound set, then 1 for an output that is too short, else the file.
+
+abbrev pub totalOf : Set → ℕ
+totalOf s = 3 + length (octets setFormat s)
+
+unfoldable pub fileOctets : Set → List ℕ
+fileOctets s = octets (fileFormat (totalOf s)) ((totalOf s, 1), s)
+
+unfoldable pub writtenOf : Set → ℕ → Written
+writtenOf s room =
+    cond (setSound s) (cond (leb (totalOf s) room) (record { number = 0; count = totalOf s }) (record { number = 1; count = 0 })) (record { number = 2; count = 0 })
+
+-- the output at the end: nothing is written on a refusal, and octets past the file are kept
+unfoldable pub outputOf : Set → List ℕ → List ℕ
+outputOf s out = cond (setSound s && leb (totalOf s) (length out)) (paint 0 (fileOctets s) out) out

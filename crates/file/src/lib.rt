@@ -1,43 +1,68 @@
-// The house file: ports and tables.
+// The house file: a set of ports and tables in octets, read and written (docs/FILE.md).
 ghost use mathlib.Core.Path.{_≡_};
-ghost use mathlib.Core.List.{_++_};
-ghost use Prim.Native.Nat.{_+_, _-_, _≤_, _<_};
-ghost use lib.ListN.{length, take, drop, replicate};
-ghost use Rattle.format.specs.Format.{told, Reads, many, octets, Writes};
+ghost use Prim.Native.Nat.{_+_, _≤_, _<_};
+ghost use lib.ListN.{length, take};
+ghost use Rattle.format.specs.Format.{bad, Reads, many, octets, Writes};
+ghost use Rattle.format.specs.Laws.{flat};
+ghost use Rattle.format.specs.Places.{Filled};
 ghost use Rattle.fileport.specs.PortFormat.{portFormat};
-ghost use Rattle.file.specs.PortsFormat.{alike, same, portsFormat, noPort};
-ghost use Rattle.file.specs.File.{fileAnswer};
+ghost use Rattle.filetable.specs.TableFormat.{tableFormat, noTable};
+ghost use Rattle.fileset.specs.Set.{noPort};
+ghost use Rattle.file.specs.SetFormat.{alike, same, portsFormat, tablesFormat, setFormat};
+ghost use Rattle.file.specs.File.{refused, answered, fileReading, writtenOf, outputOf};
+use fileport::port_size;
+use fileport::read_port;
+use fileport::write_port;
+use fileset::empty_port;
+use fileset::empty_set;
+use fileset::empty_table;
+use fileset::set_sound;
+use fileset::Set;
+use filetable::read_table;
+use filetable::table_size;
+use filetable::write_table;
+use filetable::Renumbering;
+use format::count_used;
 use format::judge;
 use format::read_octet;
 use format::read_two;
-use label::Label;
+use format::write_octet;
+use format::write_two;
 use port::Port;
-use fileport::read_port;
 
 // What reading the ports finds: the first `count` are used.
-pub struct PortsRead {
-    pub ok: bool,
+struct PortsRead {
+    ok: bool,
+    at: usize,
+    count: usize,
+    ports: [Port; 16],
+}
+
+// What reading the tables finds: the first `count` are used.
+struct TablesRead {
+    ok: bool,
+    at: usize,
+    count: usize,
+    tables: [Renumbering; 8],
+}
+
+// What reading a file finds. The verdict is 0: accepted, with the set; 1: refused, with the place of the first octet of the first bad field; 2: a version that is not known, at
+// place 2. In both of the last the set is empty.
+pub struct FileRead {
+    pub verdict: u8,
     pub at: usize,
+    pub set: Set,
+}
+
+// What writing a file came to: the number is 0, 1 (too short an output) or 2 (an unsound set).
+pub struct Written {
+    pub number: u8,
     pub count: usize,
-    pub ports: [Port; 16],
 }
 
-fn empty_port() -> Port
-    ensures { λ r. ⌜ r ≡ noPort ⌝ }
-{
-    let none = Label::empty(0, 0);
-    Port {
-        domain: 0,
-        lowest: none,
-        highest: none,
-        required: false,
-        assigned: none,
-    }
-}
-
-fn read_each(octets: &[u8], ok: bool, at: usize, count: usize) -> PortsRead
+fn read_each_port(octets: &[u8], ok: bool, at: usize, count: usize) -> PortsRead
     requires { ⌜ count ≤ 16 ⌝ }
-    ensures { λ r. ⌜ (Reads (many (alike portFormat) same count 0) (now (octets .entry)) ok at (r .ok) (take (r .count) (r .ports)) (r .at)) × (drop (r .count) (r .ports) ≡ replicate (16 - r .count) noPort) ⌝ }
+    ensures { λ r. ⌜ (Reads (many (alike portFormat) same count 0) (now (octets .entry)) ok at (r .ok) (take (r .count) (r .ports)) (r .at)) × Filled 16 noPort (r .count) (r .ports) ⌝ }
 {
     let none = empty_port();
     let mut read = PortsRead {
@@ -66,34 +91,109 @@ fn read_each(octets: &[u8], ok: bool, at: usize, count: usize) -> PortsRead
     read
 }
 
-pub fn read_ports(octets: &[u8], ok: bool, at: usize) -> PortsRead
-    ensures { λ r. ⌜ (Reads portsFormat (now (octets .entry)) ok at (r .ok) (take (r .count) (r .ports)) (r .at)) × (drop (r .count) (r .ports) ≡ replicate (16 - r .count) noPort) ⌝ }
+fn read_ports(octets: &[u8], ok: bool, at: usize) -> PortsRead
+    ensures { λ r. ⌜ (Reads portsFormat (now (octets .entry)) ok at (r .ok) (take (r .count) (r .ports)) (r .at)) × Filled 16 noPort (r .count) (r .ports) ⌝ }
 {
     let count = read_octet(octets, ok, at, 0, 16);
-    read_each(octets, count.ok, count.at, count.value as usize)
+    read_each_port(octets, count.ok, count.at, count.value as usize)
 }
 
-// Reads a whole file: the ports, or the place of the first octet of the first bad field.
-pub fn read_file(octets: &[u8]) -> PortsRead
-    ensures { λ r. ⌜ (fileAnswer (now (octets .entry)) ≡ told (r .ok) (take (r .count) (r .ports)) (r .at)) × (drop (r .count) (r .ports) ≡ replicate (16 - r .count) noPort) ⌝ }
+fn read_each_table(octets: &[u8], ok: bool, at: usize, count: usize) -> TablesRead
+    requires { ⌜ count ≤ 8 ⌝ }
+    ensures { λ r. ⌜ (Reads (many (alike tableFormat) same count 0) (now (octets .entry)) ok at (r .ok) (take (r .count) (r .tables)) (r .at)) × Filled 8 noTable (r .count) (r .tables) ⌝ }
+{
+    let none = empty_table();
+    let mut read = TablesRead {
+        ok: ok,
+        at: at,
+        count: 0,
+        tables: [none; 8],
+    };
+    if !ok {
+        return read;
+    }
+    let mut i: usize = 0;
+    while i < count {
+        let next = read_table(octets, true, read.at);
+        if !next.ok {
+            read.ok = false;
+            read.at = next.at;
+            return read;
+        }
+        let renumbering = next.renumbering;
+        read.tables[i] = renumbering;
+        read.at = next.at;
+        i += 1;
+        read.count = i;
+    }
+    read
+}
+
+fn read_tables(octets: &[u8], ok: bool, at: usize) -> TablesRead
+    ensures { λ r. ⌜ (Reads tablesFormat (now (octets .entry)) ok at (r .ok) (take (r .count) (r .tables)) (r .at)) × Filled 8 noTable (r .count) (r .tables) ⌝ }
+{
+    let count = read_octet(octets, ok, at, 0, 8);
+    read_each_table(octets, count.ok, count.at, count.value as usize)
+}
+
+// The answer for a bad field.
+fn refuse(at: usize) -> FileRead
+    ensures { λ r. ⌜ r ≡ refused at ⌝ }
+{
+    let none = empty_set();
+    FileRead {
+        verdict: 1,
+        at: at,
+        set: none,
+    }
+}
+
+// The same, where a bad field at place 2 that is there is a version that is not known.
+fn refuse_field(at: usize, total: usize) -> FileRead
+    ensures { λ r. ⌜ r ≡ answered total (bad at) ⌝ }
+{
+    let named = (at == 2) & (2 < total);
+    if !named {
+        return refuse(at);
+    }
+    let none = empty_set();
+    FileRead {
+        verdict: 2,
+        at: 2,
+        set: none,
+    }
+}
+
+// Reads a whole file.
+pub fn read_file(octets: &[u8]) -> FileRead
+    ensures { λ r. ⌜ r ≡ fileReading (now (octets .entry)) ⌝ }
 {
     let n = octets.len();
-    let none = empty_port();
     if 65535 < n {
-        return PortsRead {
-            ok: false,
-            at: 0,
-            count: 0,
-            ports: [none; 16],
-        };
+        return refuse(0);
     }
     let total = n as u32;
     let length = read_two(octets, true, 0, total, total);
     let version = read_octet(octets, length.ok, length.at, 1, 1);
     let head = judge(version.ok, version.at, 0, total <= 32768);
-    let mut read = read_ports(octets, head.ok, head.at);
-    let end = judge(read.ok, read.at, read.at, read.at == n);
-    read.ok = end.ok;
-    read.at = end.at;
-    read
+    let ports = read_ports(octets, head.ok, head.at);
+    let tables = read_tables(octets, ports.ok, ports.at);
+    if !tables.ok {
+        return refuse_field(tables.at, n);
+    }
+    if tables.at != n {
+        return refuse(tables.at);
+    }
+    let held = ports.ports;
+    let kept = tables.tables;
+    FileRead {
+        verdict: 0,
+        at: 0,
+        set: Set {
+            portcount: ports.count,
+            ports: held,
+            tablecount: tables.count,
+            tables: kept,
+        },
+    }
 }

@@ -1,0 +1,24 @@
+-- `file::refuse_field` meets its contract.
+use borrow.Author.Needs.{needs}
+use borrow.Author.Tests.{not-true, not-false}
+use mathlib.Core.Path.{refl, _∙_}
+use Rattle.file.specs.File.{answered}
+use Rattle.file.proofs.refuse_field.Statement.{statement}
+use Rattle.file.proofs.refuse_field.Tie as tie
+
+refuse-requires : tie.Need-refuse-requires
+refuse-requires c κs = search needs
+
+returns : tie.Need-returns
+unfolding answered
+returns c = c .refuse .ensures ∙ rw (not-true _ (c .before .if1 .taken)) refl
+
+empty-set-requires : tie.Need-empty-set-requires
+empty-set-requires c κs = search needs
+
+returns-2 : tie.Need-returns-2
+unfolding answered
+returns-2 c = rw (c .empty-set .ensures, not-false _ (c .before .if1 .left)) refl
+
+pub refuse-field-spec : {M : Type 1} → statement M
+refuse-field-spec = tie.close (tie.spec refuse-requires returns empty-set-requires returns-2)
