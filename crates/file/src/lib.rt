@@ -1,15 +1,17 @@
 // The house file: a set of ports and tables in octets, read and written (docs/FILE.md).
 ghost use mathlib.Core.Path.{_≡_};
-ghost use Prim.Native.Nat.{_+_, _≤_, _<_};
+ghost use mathlib.Core.Bool.{true};
+ghost use Prim.Native.Nat.{_+_, _*_, _≤_, _<_};
 ghost use lib.ListN.{length, take};
-ghost use Rattle.format.specs.Format.{bad, Reads, many, octets, Writes};
+ghost use Rattle.format.specs.Format.{bad, Reads, many, Writes, paint};
 ghost use Rattle.format.specs.Laws.{flat};
 ghost use Rattle.format.specs.Places.{Filled};
 ghost use Rattle.fileport.specs.PortFormat.{portFormat};
 ghost use Rattle.filetable.specs.TableFormat.{tableFormat, noTable};
-ghost use Rattle.fileset.specs.Set.{noPort};
-ghost use Rattle.file.specs.SetFormat.{alike, same, portsFormat, tablesFormat, setFormat};
-ghost use Rattle.file.specs.File.{refused, answered, fileReading, writtenOf, outputOf};
+ghost use Rattle.fileset.specs.Set.{noPort, setSound};
+ghost use Rattle.file.specs.SetFormat.{alike, same, portsFormat, tablesFormat};
+ghost use Rattle.file.specs.Stages.{portOctets, tableOctets};
+ghost use Rattle.file.specs.File.{refused, answered, fileReading, totalOf, fileOctets, writtenOf, outputOf};
 use fileport::port_size;
 use fileport::read_port;
 use fileport::write_port;
@@ -22,7 +24,6 @@ use filetable::read_table;
 use filetable::table_size;
 use filetable::write_table;
 use filetable::Renumbering;
-use format::count_used;
 use format::judge;
 use format::read_octet;
 use format::read_two;
@@ -195,5 +196,110 @@ pub fn read_file(octets: &[u8]) -> FileRead
             tablecount: tables.count,
             tables: kept,
         },
+    }
+}
+
+// How many octets the first n ports have.
+fn ports_size(ports: [Port; 16], n: usize) -> usize
+    requires { ⌜ n ≤ 16 ⌝ }
+    ensures { λ r. ⌜ (r ≡ length (flat portOctets (take n ports))) × (r ≤ n * 1463) ⌝ }
+{
+    let mut size: usize = 0;
+    let mut i: usize = 0;
+    while i < n {
+        let port = ports[i];
+        size += port_size(port);
+        i += 1;
+    }
+    size
+}
+
+// How many octets the first n tables have.
+fn tables_size(tables: [Renumbering; 8], n: usize) -> usize
+    requires { ⌜ n ≤ 8 ⌝ }
+    ensures { λ r. ⌜ (r ≡ length (flat tableOctets (take n tables))) × (r ≤ n * 428) ⌝ }
+{
+    let mut size: usize = 0;
+    let mut i: usize = 0;
+    while i < n {
+        let renumbering = tables[i];
+        size += table_size(renumbering);
+        i += 1;
+    }
+    size
+}
+
+// The first n ports.
+fn write_ports(ports: [Port; 16], n: usize, out: &mut [u8], at: usize) -> usize
+    requires { ⌜ n ≤ 16 ⌝ }
+    ensures { λ r. ⌜ Writes at (flat portOctets (take n ports)) (now (out .entry)) (now (out .exit)) r ⌝ }
+{
+    let mut place = at;
+    let mut i: usize = 0;
+    while i < n {
+        let port = ports[i];
+        place = write_port(port, &mut out[..], place);
+        i += 1;
+    }
+    place
+}
+
+// The first n tables.
+fn write_tables(tables: [Renumbering; 8], n: usize, out: &mut [u8], at: usize) -> usize
+    requires { ⌜ n ≤ 8 ⌝ }
+    ensures { λ r. ⌜ Writes at (flat tableOctets (take n tables)) (now (out .entry)) (now (out .exit)) r ⌝ }
+{
+    let mut place = at;
+    let mut i: usize = 0;
+    while i < n {
+        let renumbering = tables[i];
+        place = write_table(renumbering, &mut out[..], place);
+        i += 1;
+    }
+    place
+}
+
+// The fields of a file whose set is sound and for which there is room.
+fn write_fields(set: Set, total: usize, out: &mut [u8])
+    requires { ⌜ (setSound set ≡ true) × (total ≡ totalOf set) × (total ≤ length (now out)) ⌝ }
+    ensures { λ _. ⌜ now (out .exit) ≡ paint 0 (fileOctets set) (now (out .entry)) ⌝ }
+{
+    let held = set.ports;
+    let kept = set.tables;
+    let n = set.portcount;
+    let m = set.tablecount;
+    let version = write_two(&mut out[..], 0, total as u32);
+    let count = write_octet(&mut out[..], version, 1);
+    let first = write_octet(&mut out[..], count, n as u32);
+    let ports = write_ports(held, n, &mut out[..], first);
+    let tables = write_octet(&mut out[..], ports, m as u32);
+    write_tables(kept, m, &mut out[..], tables);
+}
+
+// How many octets the file of a sound set has.
+fn file_size(set: Set) -> usize
+    requires { ⌜ setSound set ≡ true ⌝ }
+    ensures { λ r. ⌜ (r ≡ totalOf set) × (r ≤ 26837) ⌝ }
+{
+    let held = set.ports;
+    let kept = set.tables;
+    5 + ports_size(held, set.portcount) + tables_size(kept, set.tablecount)
+}
+
+// Writes the file of a set: 2 for an unsound set, then 1 for an output that is too short, else 0 and the count. A refusal writes nothing, and octets past the file are kept.
+pub fn write_file(set: Set, out: &mut [u8]) -> Written
+    ensures { λ r. ⌜ (r ≡ writtenOf set (length (now (out .entry)))) × (now (out .exit) ≡ outputOf set (now (out .entry))) ⌝ }
+{
+    if !set_sound(set) {
+        return Written { number: 2, count: 0 };
+    }
+    let total = file_size(set);
+    if out.len() < total {
+        return Written { number: 1, count: 0 };
+    }
+    write_fields(set, total, out);
+    Written {
+        number: 0,
+        count: total,
     }
 }

@@ -1,0 +1,1 @@
+-- A set has octets exactly when it is sound.
