@@ -1,7 +1,7 @@
 -- The octets of a sound set, as its writer goes through them, and how many there are.
 use mathlib.Core.Bool.{Bool, true, _&&_}
 use mathlib.Core.List.{List, [], _∷_, _++_}
-use mathlib.Core.Path.{_≡_, refl, sym, ap, _∙_}
+use mathlib.Core.Path.{_≡_, refl, sym, ap, subst, _∙_}
 use Prim.Native.Nat.{ℕ, _+_, _*_, _≤_, _<_}
 use native.Mathlib.Omega.{arith}
 use native.Mathlib.Numerals.{add-one}
@@ -11,7 +11,7 @@ use lib.Seq.{take-suc, length-take-le}
 use borrow.Author.Tests.{leb-true, eqb-true}
 use Rattle.label.proofs.Bools.{and-left, and-right}
 use Rattle.port.specs.declared.Port.{Port}
-use Rattle.format.specs.Format.{digits, inTurn, octets}
+use Rattle.format.specs.Format.{digits, inTurn, octets, paint, Writes}
 use Rattle.format.specs.Laws.{flat}
 use Rattle.format.specs.Places.{placesFit}
 use Rattle.format.proofs.Writing.{flat-turn}
@@ -95,3 +95,15 @@ file-octets s = refl
 
 pub file-length : (s : Set) → length (fileOctets s) ≡ totalOf s
 file-length s = rw file-octets (omega arith)
+
+-- all fields written one after the other are the file
+pub fields-written : (s : Set) → Parts s → {out out′ : List ℕ} {next : ℕ}
+    → Writes 0
+      ((digits 2 (totalOf s) ++ digits 1 1)
+      ++ ((digits 1 (s .portcount) ++ flat portOctets (take (s .portcount) (s .ports))) ++ (digits 1 (s .tablecount) ++ flat tableOctets (take (s .tablecount) (s .tables)))))
+      out out′ next
+    → totalOf s ≤ length out → out′ ≡ paint 0 (fileOctets s) out
+fields-written s p {out} {out′} {next} w h =
+    let v : Writes 0 (fileOctets s) out out′ next =
+    subst (λ (xs : List ℕ). Writes 0 xs out out′ next) (sym (file-octets s ∙ ap (λ (k : List ℕ). (digits 2 (totalOf s) ++ digits 1 1) ++ k) (set-octets s p))) w in
+    v .wrote (omega (arith, file-length s)) .0

@@ -9,7 +9,7 @@ use Rattle.format.specs.Format.{valueAt}
 use Rattle.format.specs.Laws.{Octets}
 use Rattle.fileset.specs.declared.Set.{Set}
 use Rattle.fileset.specs.Set.{setSound}
-use Rattle.file.specs.File.{accepted, unknown, fileReading, totalOf, fileOctets}
+use Rattle.file.specs.File.{accepted, refused, unknown, fileReading, totalOf, fileOctets}
 
 -- what the writer wrote the reader gives back, for every sound set
 abbrev pub GivenBack : Type 0
@@ -23,14 +23,14 @@ pub record OneFile (o : List ℕ) (s : Set) : Type 0 where
 abbrev pub Accepted : Type 0
 Accepted = (o : List ℕ) → Octets o → (s : Set) → fileReading o ≡ accepted s → OneFile o s
 
--- its length agrees and its version is known
-pub record Headed (o : List ℕ) : Type 0 where
-  pub length-agrees : valueAt o 0 2 ≡ length o
-  pub version-known : getD o 2 0 ≡ 1
+-- a length that does not agree is refused before all else, at octet 0
+abbrev pub LengthFirst : Type 0
+LengthFirst = (o : List ℕ) → (valueAt o 0 2 ≡ length o → ⊥) → fileReading o ≡ refused 0
 
-abbrev pub AcceptedHead : Type 0
-AcceptedHead = (o : List ℕ) → Octets o → (s : Set) → fileReading o ≡ accepted s → Headed o
+-- where the length agrees, a version that is there and is not 1 is refused by name, whatever stands after it
+abbrev pub Named : Type 0
+Named = (o : List ℕ) → valueAt o 0 2 ≡ length o → 2 < length o → (getD o 2 0 ≡ 1 → ⊥) → fileReading o ≡ unknown
 
--- the file of a sound set keeps to 32 KiB
+-- the file of a sound set has at most 26,837 octets, and so keeps to 32 KiB
 abbrev pub Fits : Type 0
 Fits = (s : Set) → setSound s ≡ true → totalOf s ≤ 26837

@@ -261,7 +261,7 @@ fn write_tables(tables: [Renumbering; 8], n: usize, out: &mut [u8], at: usize) -
 
 // The fields of a file whose set is sound and for which there is room.
 fn write_fields(set: Set, total: usize, out: &mut [u8])
-    requires { ⌜ (setSound set ≡ true) × (total ≡ totalOf set) × (total ≤ length (now out)) ⌝ }
+    requires { ⌜ (setSound set ≡ true) × (total ≡ totalOf set) × (total ≤ 26837) × (total ≤ length (now out)) ⌝ }
     ensures { λ _. ⌜ now (out .exit) ≡ paint 0 (fileOctets set) (now (out .entry)) ⌝ }
 {
     let held = set.ports;

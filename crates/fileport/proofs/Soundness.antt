@@ -5,7 +5,7 @@ use mathlib.Core.Path.{_≡_, refl, sym, ap, subst, _∙_}
 use Prim.Native.Nat.{ℕ, zero, suc, _+_, _-_, _≤_, _<_}
 use native.Mathlib.Omega.{arith}
 use lib.Dec.{leb, eqb}
-use lib.ListN.{length, take, replicate}
+use lib.ListN.{length, take, replicate, length-append, length-replicate}
 use borrow.Author.Tests.{le-leb, leb-true, eq-eqb, ne-eqb, eqb-true, not-true}
 use Rattle.label.specs.declared.Run.{Run}
 use Rattle.label.specs.declared.Label.{Label}
@@ -103,7 +103,7 @@ zeros (r ∷ rs) e =
     let t = zeros rs (and-right (eqb (r .high) 0) _ (and-right (eqb (r .low) 0) _ e)) in
     λ i. record { low = low i; high = high i } ∷ t i
 
-is-zero : (l : Label) → length (l .runs) ≡ 120 → isZero l ≡ true → l ≡ zeroLabel
+pub is-zero : (l : Label) → length (l .runs) ≡ 120 → isZero l ≡ true → l ≡ zeroLabel
 unfolding isZero
 is-zero l n e =
     let e1 = and-right (eqb (l .domain) 0) _ e in
@@ -132,6 +132,13 @@ zero-said l h =
     none : (rs : List Run) → length rs ≤ 0 → rs ≡ []
     none [] h = refl
     none (r ∷ rs) h = absurd (omega arith)
+
+-- a label that a format says has its 120 places
+label-places : (d : ℕ) (l : Label) → Sound (labelFormat d) l → length (l .runs) ≡ 120
+label-places d l h =
+    let p = label-parts d l h in
+    let e : labelOf d (l .level) (used l) .runs ≡ l .runs = λ i. p .is i .runs in
+    sym (ap length e) ∙ omega (arith, length-append (used l) (replicate (120 - length (used l)) noRun), length-replicate (120 - length (used l)) noRun, p .count, unless-small d 120)
 
 -- Ports.
 
@@ -181,3 +188,8 @@ port-said p h =
 
 pub ports-said : PortsSaid
 ports-said = record { says = port-says; said = port-said }
+
+pub port-places : (p : Port) → Sound portFormat p → (length (p .lowest .runs) ≡ 120) × (length (p .highest .runs) ≡ 120) × (length (p .assigned .runs) ≡ 120)
+unfolding Sound portFormat
+port-places p h =
+    (label-places (p .domain) (p .lowest) (h .0 .1 .0), label-places (p .domain) (p .highest) (h .0 .1 .1 .0 .0), label-places (cond (p .required) 0 (p .domain)) (p .assigned) (h .0 .1 .1 .1 .1 .0))

@@ -122,7 +122,7 @@ each-rows before (r ∷ rs) h t =
 
 -- Places that are not in use.
 
-unused-rows : (rs : List Row) → unusedRows rs ≡ true → rs ≡ replicate (length rs) noRow
+pub unused-rows : (rs : List Row) → unusedRows rs ≡ true → rs ≡ replicate (length rs) noRow
 unused-rows [] e = refl
 unused-rows (r ∷ rs) e =
     let e1 = and-right (eqb (r .low) 0) _ e in
@@ -133,7 +133,7 @@ unused-rows (r ∷ rs) e =
     let t = unused-rows rs (and-right (eqb (r .target) 0) _ e2) in
     λ i. record { low = a i; high = b i; target = c i } ∷ t i
 
-unused-pairs : (ps : List LevelPair) → unusedPairs (map two ps) ≡ true → twoEach ps ≡ true → ps ≡ replicate (length ps) noPair
+pub unused-pairs : (ps : List LevelPair) → unusedPairs (map two ps) ≡ true → twoEach ps ≡ true → ps ≡ replicate (length ps) noPair
 unused-pairs [] e t = refl
 unused-pairs (p ∷ ps) e t =
     let e1 = and-right (eqb (getD (p .levels) 0 0) 0) _ e in
@@ -230,6 +230,9 @@ parts r e =
       pair-places = eqb-true _ _ (and-left (eqb (length (r .levels)) 16) _ p);
       each = and-right (eqb (length (r .levels)) 16) _ p;
     }
+
+pub renumbering-places : (r : Renumbering) → renumberingSound r ≡ true → (length (r .levels) ≡ 16) × (length (r .table .rows) ≡ 64)
+renumbering-places r e = let p = parts r e in (p .pair-places, p .row-places)
 
 filled-rows : (r : Renumbering) → Parts r → Filled 64 noRow (r .table .count) (r .table .rows)
 filled-rows r p =

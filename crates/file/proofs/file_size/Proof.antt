@@ -1,5 +1,11 @@
 -- `file::file_size` meets its contract.
 use borrow.Author.Needs.{needs}
+use native.Mathlib.Omega.{arith}
+use Prim.Native.Nat.{ℕ, _+_, _≤_, _<_}
+use mathlib.Core.Bool.{Bool, true, false}
+use mathlib.Core.Path.{_≡_, refl, sym, _∙_}
+use lib.ListN.{length}
+use Rattle.file.proofs.Sizes.{parts, total-is}
 use Rattle.file.proofs.file_size.Statement.{statement}
 use Rattle.file.proofs.file_size.Tie as tie
 use Rattle.file.proofs.file_size.Reads as reads
@@ -7,25 +13,27 @@ use Rattle.file.proofs.file_size.Lts as lts
 use Rattle.file.proofs.ports_size.Reads as ports-size-reads
 use Rattle.file.proofs.tables_size.Reads as tables-size-reads
 
--- src/lib.rt:286:9
 ports-size-requires : tie.Need-ports-size-requires
-ports-size-requires c κs = search needs
+ports-size-requires c κs = parts (c .before .before .args .set) (c .before .before .pre) .ports-held
 
--- src/lib.rt:286:5
 add-result : tie.Need-add-result
-add-result c = search needs
+add-result c = omega (arith, c .ports-size .ensures .1, parts (c .before .before .before .args .set) (c .before .before .before .pre) .ports-held)
 
--- src/lib.rt:286:43
 tables-size-requires : tie.Need-tables-size-requires
-tables-size-requires c κs = search needs
+tables-size-requires c κs = parts (c .before .before .before .args .set) (c .before .before .before .pre) .tables-held
 
--- src/lib.rt:286:5
 add-result-2 : tie.Need-add-result-2
-add-result-2 c = search needs
+add-result-2 c = 
+    let p = parts (c .before .before .before .before .args .set) (c .before .before .before .before .pre) in
+    omega (arith, c .before .ports-size .ensures .1, c .tables-size .ensures .1, p .ports-held, p .tables-held)
 
--- src/lib.rt:280:1
 returns : tie.Need-returns
-returns c = search needs
+returns c = 
+    let s = c .before .before .before .before .args .set in
+    let p = parts s (c .before .before .before .before .pre) in
+    let a = c .before .ports-size .ensures in
+    let b = c .tables-size .ensures in
+    (rw (a .0, b .0) (sym (total-is s p)), omega (arith, a .1, b .1, p .ports-held, p .tables-held))
 
 pub file-size-spec : {M : Type 1} → statement M
 file-size-spec =

@@ -1,5 +1,12 @@
 -- `file::write_fields` meets its contract.
 use borrow.Author.Needs.{needs}
+use native.Mathlib.Omega.{arith}
+use Prim.Native.Nat.{ℕ, _+_, _≤_, _<_}
+use mathlib.Core.Bool.{Bool, true, false}
+use mathlib.Core.Path.{_≡_, refl, sym, _∙_}
+use lib.ListN.{length}
+use Rattle.format.proofs.Writing.{writes-then}
+use Rattle.file.proofs.Sizes.{parts, fields-written}
 use Rattle.file.proofs.write_fields.Statement.{statement}
 use Rattle.file.proofs.write_fields.Tie as tie
 use Rattle.file.proofs.write_fields.Reads as reads
@@ -9,49 +16,44 @@ use Rattle.file.proofs.write_tables.Reads as write-tables-reads
 use Rattle.format.proofs.write_octet.Reads as write-octet-reads
 use Rattle.format.proofs.write_two.Reads as write-two-reads
 
--- src/lib.rt:271:46
 cast-write-two : tie.Need-cast-write-two
-cast-write-two c = search needs
+cast-write-two c = omega (arith, c .before .before .before .before .pre .2)
 
--- src/lib.rt:271:9
 write-two-requires : tie.Need-write-two-requires
 write-two-requires c κs = search needs
 
--- src/lib.rt:272:9
 write-octet-requires : tie.Need-write-octet-requires
 write-octet-requires c κs = search needs
 
--- src/lib.rt:273:50
 cast-write-octet : tie.Need-cast-write-octet
-cast-write-octet c = search needs
+cast-write-octet c = omega (arith, parts (c .before .before .before .before .before .before .before .before .before .before .before .before .args .set) (c .before .before .before .before .before .before .before .before .before .before .before .before .pre .0) .ports-held)
 
--- src/lib.rt:273:9
 write-octet-requires-2 : tie.Need-write-octet-requires-2
 write-octet-requires-2 c κs = search needs
 
--- src/lib.rt:274:9
 write-ports-requires : tie.Need-write-ports-requires
-write-ports-requires c κs = search needs
+write-ports-requires c κs = parts (c .before .before .before .before .before .before .before .before .before .before .before .before .before .before .before .before .args .set) (c .before .before .before .before .before .before .before .before .before .before .before .before .before .before .before .before .pre .0) .ports-held
 
--- src/lib.rt:275:51
 cast-write-octet-2 : tie.Need-cast-write-octet-2
-cast-write-octet-2 c = search needs
+cast-write-octet-2 c = omega (arith, parts (c .before .before .before .before .before .before .before .before .before .before .before .before .before .before .before .before .before .before .before .before .args .set) (c .before .before .before .before .before .before .before .before .before .before .before .before .before .before .before .before .before .before .before .before .pre .0) .tables-held)
 
--- src/lib.rt:275:9
 write-octet-requires-3 : tie.Need-write-octet-requires-3
 write-octet-requires-3 c κs = search needs
 
--- src/lib.rt:276:5
 write-tables-requires : tie.Need-write-tables-requires
-write-tables-requires c κs = search needs
+write-tables-requires c κs = parts (c .before .before .before .before .before .before .before .before .before .before .before .before .before .before .before .before .before .before .before .before .before .before .before .before .args .set) (c .before .before .before .before .before .before .before .before .before .before .before .before .before .before .before .before .before .before .before .before .before .before .before .before .pre .0) .tables-held
 
--- src/lib.rt:263:1
 same-length : tie.Need-same-length
 same-length c = search needs
 
--- src/lib.rt:263:1
 returns : tie.Need-returns
-returns c = search needs
+returns c = 
+    let b = c .before .before .before .before .before .before .before .before .before .before .before .before .before .before .before .before .before .before .before .before .before .before .before .before .before .before .before in
+    let s = b .args .set in
+    fields-written s (parts s (b .pre .0))
+    (writes-then (writes-then (rw (b .pre .1) at (c .before .before .before .before .before .before .before .before .before .before .before .before .before .before .before .before .before .before .before .before .before .before .write-two .ensures)) (c .before .before .before .before .before .before .before .before .before .before .before .before .before .before .before .before .before .before .write-octet .ensures))
+    (writes-then (writes-then (c .before .before .before .before .before .before .before .before .before .before .before .before .before .before .write-octet2 .ensures) (c .before .before .before .before .before .before .before .before .before .before .write-ports .ensures)) (writes-then (c .before .before .before .before .before .before .write-octet3 .ensures) (c .before .before .write-tables .ensures))))
+    (omega (arith, b .pre .1, b .pre .3))
 
 pub write-fields-spec : {M : Type 1} → statement M
 write-fields-spec =

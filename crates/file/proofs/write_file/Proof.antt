@@ -1,5 +1,14 @@
 -- `file::write_file` meets its contract.
 use borrow.Author.Needs.{needs}
+use native.Mathlib.Omega.{arith}
+use Prim.Native.Nat.{ℕ, _+_, _≤_, _<_}
+use mathlib.Core.Bool.{Bool, true, false}
+use mathlib.Core.Path.{_≡_, refl, sym, _∙_}
+use lib.ListN.{length}
+use borrow.Author.Tests.{not-true, not-false, le-leb, lt-leb}
+use lib.Dec.{leb}
+use Rattle.fileset.specs.Set.{setSound}
+use Rattle.file.specs.File.{totalOf, writtenOf, outputOf}
 use Rattle.file.proofs.write_file.Statement.{statement}
 use Rattle.file.proofs.write_file.Tie as tie
 use Rattle.file.proofs.write_file.Reads as reads
@@ -8,33 +17,43 @@ use Rattle.file.proofs.file_size.Reads as file-size-reads
 use Rattle.file.proofs.write_fields.Reads as write-fields-reads
 use Rattle.fileset.proofs.set_sound.Reads as set-sound-reads
 
--- src/lib.rt:293:9
 set-sound-requires : tie.Need-set-sound-requires
 set-sound-requires c κs = search needs
 
--- src/lib.rt:294:9
 returns : tie.Need-returns
-returns c = search needs
+unfolding writtenOf outputOf
+returns c = 
+    let e : setSound (c .before .before .before .args .set) ≡ false = sym (c .before .set-sound .ensures) ∙ not-true _ (c .if1 .taken) in
+    rw e (refl, refl)
 
--- src/lib.rt:296:9
 file-size-requires : tie.Need-file-size-requires
-file-size-requires c κs = search needs
+file-size-requires c κs = sym (c .before .set-sound .ensures) ∙ not-false _ (c .if1 .left)
 
--- src/lib.rt:298:9
 returns-2 : tie.Need-returns-2
-returns-2 c = search needs
+unfolding writtenOf outputOf
+returns-2 c = 
+    let s = c .before .before .before .before .before .args .set in
+    let o = c .before .before .before .before .before .args .out .now in
+    let e : setSound s ≡ true = sym (c .before .before .before .set-sound .ensures) ∙ not-false _ (c .before .before .if1 .left) in
+    let h : leb (totalOf s) (length o) ≡ false = lt-leb (totalOf s) (length o) (omega (arith, c .before .file-size .ensures .0)) in
+    rw (e, h) (refl, refl)
 
--- src/lib.rt:300:5
 write-fields-requires : tie.Need-write-fields-requires
-write-fields-requires c κs = search needs
+write-fields-requires c κs = 
+    (sym (c .before .before .before .before .set-sound .ensures) ∙ not-false _ (c .before .before .before .if1 .left), c .before .before .file-size .ensures .0, c .before .before .file-size .ensures .1, omega arith)
 
--- src/lib.rt:290:1
 same-length : tie.Need-same-length
 same-length c = search needs
 
--- src/lib.rt:290:1
 returns-3 : tie.Need-returns-3
-returns-3 c = search needs
+unfolding writtenOf outputOf
+returns-3 c = 
+    let s = c .before .before .before .before .before .before .before .before .before .args .set in
+    let o = c .before .before .before .before .before .before .before .before .before .args .out .now in
+    let e : setSound s ≡ true = sym (c .before .before .before .before .before .before .before .set-sound .ensures) ∙ not-false _ (c .before .before .before .before .before .before .if1 .left) in
+    let t = c .before .before .before .before .before .file-size .ensures .0 in
+    let h : leb (totalOf s) (length o) ≡ true = le-leb (totalOf s) (length o) (omega (arith, t)) in
+    rw (e, h) ((λ i. record { number = 0; count = t i }), c .before .before .write-fields .ensures)
 
 pub write-file-spec : {M : Type 1} → statement M
 write-file-spec =
