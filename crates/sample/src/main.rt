@@ -1,11 +1,14 @@
-// The sample program (document 01, "The sample program"): records of an options area from standard input, each forwarded or dropped in one line.
+// The sample program (document 01, "The sample program"; document 02, wish 1): records of an options area from standard input, each forwarded or dropped in
+// one line by the first two ports and the first table of the file `gateway.bin`.
 ghost use Prim.Native.Nat.{_+_, _≤_};
 ghost use lib.ListN.{length};
 ghost use Rattle.lines.specs.Theorems.{Whole};
 ghost use Rattle.sample.specs.Sample.{areaLine};
+use file::FileRead;
+use file::read_file;
+use fileset::Set;
+use fileset::levels_of;
 use gateway::forward;
-use label::Label;
-use label::Run;
 use lines::put_broken;
 use lines::put_drop;
 use lines::put_forward;
@@ -27,69 +30,35 @@ const OUTPUT: usize = 65536;
 // The most octets of a line (crate `lines`, `Longest`): there is room for so many before one is put.
 const LINE: usize = 110;
 
-// The label with the categories from 0 to the highest.
-fn up_to(domain: u32, level: u8, highest: u16) -> Label {
-    let mut label = Label::empty(domain, level);
-    label.runs[0] = Run {
-        low: 0,
-        high: highest,
-    };
-    label.count = 1;
-    label
-}
+// One octet more than the longest file has: octets past it are noticed.
+const FILE: usize = 32769;
 
-fn arriving() -> Port {
-    Port {
-        domain: 5,
-        lowest: Label::empty(5, 1),
-        highest: up_to(5, 5, 300),
-        required: true,
-        assigned: Label::empty(0, 0),
+// The set of the file `gateway.bin`; an unreadable file is an empty one, and so is refused.
+fn load() -> FileRead {
+    let mut octets = [0u8; FILE];
+    let fd = os::open_read(b"gateway.bin");
+    if fd < 0 {
+        return read_file(&octets[..0]);
     }
+    let n = io::read_full(fd, &mut octets);
+    libc::close(fd);
+    read_file(&octets[..n])
 }
 
-fn leaving() -> Port {
-    Port {
-        domain: 9,
-        lowest: Label::empty(9, 0),
-        highest: up_to(9, 255, Label::MAX_CATEGORY),
-        required: true,
-        assigned: Label::empty(0, 0),
-    }
-}
-
-fn table() -> Table {
+// A table that says nothing of the two domains: with it a label has no number (16) where one is asked for.
+fn no_table(arriving: u32, leaving: u32) -> Table {
     let none = Row {
         low: 0,
         high: 0,
         target: 0,
     };
-    let mut table = Table {
-        from: 5,
-        to: 9,
-        pairs: 3,
-        count: 2,
+    Table {
+        from: leaving,
+        to: arriving,
+        pairs: 0,
+        count: 0,
         rows: [none; 64],
-    };
-    table.rows[0] = Row {
-        low: 0,
-        high: 99,
-        target: 1000,
-    };
-    table.rows[1] = Row {
-        low: 100,
-        high: 300,
-        target: 0,
-    };
-    table
-}
-
-fn levels() -> [[u8; 2]; 16] {
-    let mut levels = [[0u8; 2]; 16];
-    levels[0] = [1, 2];
-    levels[1] = [3, 4];
-    levels[2] = [5, 6];
-    levels
+    }
 }
 
 // The line of one area, behind the octets that wait.
@@ -180,11 +149,8 @@ fn record_size(n: u8) -> usize
     n as usize + 1
 }
 
-fn main() {
-    let arriving = arriving();
-    let leaving = leaving();
-    let table = table();
-    let levels = levels();
+// Answers every record of the input.
+fn run(arriving: Port, leaving: Port, table: Table, levels: [[u8; 2]; 16]) {
     let mut input = [0u8; INPUT];
     let mut out = [0u8; OUTPUT];
     let mut place = begin();
@@ -203,4 +169,42 @@ fn main() {
         turns -= 1;
     }
     flush(&out, place);
+}
+
+// Runs with the first two ports and the first table.
+fn run_set(set: Set) {
+    let arriving = set.ports[0];
+    let leaving = set.ports[1];
+    let first = set.tables[0];
+    if set.tablecount == 0 {
+        run(
+            arriving,
+            leaving,
+            no_table(arriving.domain, leaving.domain),
+            levels_of(first),
+        );
+        return;
+    }
+    let table = first.table;
+    run(arriving, leaving, table, levels_of(first));
+}
+
+fn say_broken() {
+    let mut out = [0u8; 16];
+    let n = put_broken(&mut out, 0);
+    flush(&out, stop(n));
+}
+
+fn main() {
+    let file = load();
+    if file.verdict != 0 {
+        say_broken();
+        return;
+    }
+    let set = file.set;
+    if set.portcount < 2 {
+        say_broken();
+        return;
+    }
+    run_set(set);
 }
