@@ -64,11 +64,16 @@ fn put_written(out: &mut [u8], n: usize, set: Set, room: u16, fill: u8) -> usize
     let w = write_file(set, &mut space[0..size]);
     let k = put_decimal(out, n, w.number as u64);
     let m = put_next(out, k, w.count as u64);
-    let b = put_octet(out, m, b' ');
+    put_space(out, m, &space, size)
+}
+
+// An output of `size` octets: all of them in hex, or `-` where it has none.
+fn put_space(out: &mut [u8], n: usize, space: &[u8; ROOM], size: usize) -> usize {
+    let k = put_octet(out, n, b' ');
     if size == 0 {
-        return put_octet(out, b, b'-');
+        return put_octet(out, k, b'-');
     }
-    put_hex(out, b, octets_of(&space, 0, size))
+    put_hex(out, k, octets_of(space, 0, size))
 }
 
 pub fn ask_read_write(case: &[u8], at: usize, out: &mut [u8], n: usize) -> usize {

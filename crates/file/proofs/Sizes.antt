@@ -72,8 +72,8 @@ tables-octets ts = flat-turn (λ st t. octets (alike tableFormat st) t) same tab
 
 all-octets : (s : Set)
     → octets setFormat s
-      ≡ (digits 1 (length (take (s .portcount) (s .ports))) ++ inTurn (λ st p. octets (alike portFormat st) p) same 0 (take (s .portcount) (s .ports)))
-        ++ (digits 1 (length (take (s .tablecount) (s .tables))) ++ inTurn (λ st t. octets (alike tableFormat st) t) same 0 (take (s .tablecount) (s .tables)))
+    ≡ (digits 1 (length (take (s .portcount) (s .ports))) ++ inTurn (λ st p. octets (alike portFormat st) p) same 0 (take (s .portcount) (s .ports)))
+    ++ (digits 1 (length (take (s .tablecount) (s .tables))) ++ inTurn (λ st t. octets (alike tableFormat st) t) same 0 (take (s .tablecount) (s .tables)))
 unfolding octets setFormat portsFormat tablesFormat
 all-octets s = refl
 
@@ -99,9 +99,9 @@ file-length s = rw file-octets (omega arith)
 -- all fields written one after the other are the file
 pub fields-written : (s : Set) → Parts s → {out out′ : List ℕ} {next : ℕ}
     → Writes 0
-      ((digits 2 (totalOf s) ++ digits 1 1)
-      ++ ((digits 1 (s .portcount) ++ flat portOctets (take (s .portcount) (s .ports))) ++ (digits 1 (s .tablecount) ++ flat tableOctets (take (s .tablecount) (s .tables)))))
-      out out′ next
+    ((digits 2 (totalOf s) ++ digits 1 1)
+    ++ ((digits 1 (s .portcount) ++ flat portOctets (take (s .portcount) (s .ports))) ++ (digits 1 (s .tablecount) ++ flat tableOctets (take (s .tablecount) (s .tables)))))
+    out out′ next
     → totalOf s ≤ length out → out′ ≡ paint 0 (fileOctets s) out
 fields-written s p {out} {out′} {next} w h =
     let v : Writes 0 (fileOctets s) out out′ next =

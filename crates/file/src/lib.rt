@@ -15,15 +15,15 @@ ghost use Rattle.file.specs.File.{refused, answered, fileReading, totalO
 use fileport::port_size;
 use fileport::read_port;
 use fileport::write_port;
+use fileset::Set;
 use fileset::empty_port;
 use fileset::empty_set;
 use fileset::empty_table;
 use fileset::set_sound;
-use fileset::Set;
+use filetable::Renumbering;
 use filetable::read_table;
 use filetable::table_size;
 use filetable::write_table;
-use filetable::Renumbering;
 use format::judge;
 use format::read_octet;
 use format::read_two;
@@ -291,11 +291,17 @@ pub fn write_file(set: Set, out: &mut [u8]) -> Written
     ensures { λ r. ⌜ (r ≡ writtenOf set (length (now (out .entry)))) × (now (out .exit) ≡ outputOf set (now (out .entry))) ⌝ }
 {
     if !set_sound(set) {
-        return Written { number: 2, count: 0 };
+        return Written {
+            number: 2,
+            count: 0,
+        };
     }
     let total = file_size(set);
     if out.len() < total {
-        return Written { number: 1, count: 0 };
+        return Written {
+            number: 1,
+            count: 0,
+        };
     }
     write_fields(set, total, out);
     Written {

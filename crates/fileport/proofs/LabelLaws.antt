@@ -70,8 +70,8 @@ any-domain d e l = refl
 
 pub port-octets : (p : Port)
     → octets portFormat p
-      ≡ digits 4 (p .domain) ++ (octets (labelFormat (p .domain)) (p .lowest) ++ (octets (labelFormat (p .domain)) (p .highest)
-        ++ (digits 1 (bit (p .required)) ++ octets (labelFormat (cond (p .required) 0 (p .domain))) (p .assigned))))
+    ≡ digits 4 (p .domain) ++ (octets (labelFormat (p .domain)) (p .lowest) ++ (octets (labelFormat (p .domain)) (p .highest)
+    ++ (digits 1 (bit (p .required)) ++ octets (labelFormat (cond (p .required) 0 (p .domain))) (p .assigned))))
 unfolding octets portFormat
 port-octets p = refl
 

@@ -11,11 +11,11 @@ ghost use Rattle.fileset.specs.Set.{noPort, emptySet, zeroPort, zeroTabl
 use filetable::LevelPair;
 use filetable::Renumbering;
 use label::Label;
-use port::port_sound;
 use port::Port;
-use table::table_sound;
+use port::port_sound;
 use table::Row;
 use table::Table;
+use table::table_sound;
 
 // The first `portcount` ports and the first `tablecount` tables are used.
 pub struct Set {

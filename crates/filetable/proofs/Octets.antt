@@ -26,9 +26,9 @@ rows-octets st rs = flat-turn (λ st r. octets (rowFormat st) r) withRow rowOcte
 
 all-octets : (r : Renumbering)
     → octets tableFormat r
-      ≡ digits 4 (r .table .from) ++ (digits 4 (r .table .to)
-        ++ ((digits 2 (length (take (r .table .pairs) (r .levels))) ++ inTurn (λ st p. octets (pairFormat st) p) nextLeast (0, 0) (take (r .table .pairs) (r .levels)))
-        ++ (digits 2 (length (take (r .table .count) (r .table .rows))) ++ inTurn (λ st x. octets (rowFormat st) x) withRow [] (take (r .table .count) (r .table .rows)))))
+    ≡ digits 4 (r .table .from) ++ (digits 4 (r .table .to)
+    ++ ((digits 2 (length (take (r .table .pairs) (r .levels))) ++ inTurn (λ st p. octets (pairFormat st) p) nextLeast (0, 0) (take (r .table .pairs) (r .levels)))
+    ++ (digits 2 (length (take (r .table .count) (r .table .rows))) ++ inTurn (λ st x. octets (rowFormat st) x) withRow [] (take (r .table .count) (r .table .rows)))))
 unfolding octets tableFormat
 all-octets r = refl
 

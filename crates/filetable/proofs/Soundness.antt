@@ -47,8 +47,7 @@ pairs-each f g (p ∷ ps) e n t =
     let b : g ≤ getD (p .levels) 1 0 = leb-true _ _ (and-left (leb g (getD (p .levels) 1 0)) _ e1) in
     let c : getD (p .levels) 0 0 ≤ 255 = leb-true _ _ (and-left (leb (getD (p .levels) 0 0) 255) _ n) in
     let d : getD (p .levels) 1 0 ≤ 255 = leb-true _ _ (and-left (leb (getD (p .levels) 1 0) 255) _ n1) in
-    let k : length (p .levels) ≡ 2 = eqb-true _ _ (and-left (eqb (length (p .levels)) 2) _ t) in
-    (
+    let k : length (p .levels) ≡ 2 = eqb-true _ _ (and-left (eqb (length (p .levels)) 2) _ t) in (
       (((a, c, omega arith), (b, d, omega arith)), pair-is p k),
       pairs-each (getD (p .levels) 0 0 + 1) (getD (p .levels) 1 0 + 1) ps (and-right (leb g (getD (p .levels) 1 0)) _ e1) (and-right (leb (getD (p .levels) 1 0) 255) _ n1)
           (and-right (eqb (length (p .levels)) 2) _ t),
@@ -98,8 +97,7 @@ rows-each before (r ∷ rs) e t =
     let u : targetsApart ((before ++ (r ∷ [])) ++ rs) ≡ true = rw s t in
     let v : (targetsApart before && apartFrom r before) ≡ true = sym (apart-last before r) ∙ apart-prefix (before ++ (r ∷ [])) rs u in
     let w : apartFrom r before ≡ true = and-right (targetsApart before) _ v in
-    let f : rising (floorOf 0 (before ++ (r ∷ []))) rs ≡ true = rw (floor-last 0 before r) (and-right (leb (targetEnd r) 65534) _ e3) in
-    (
+    let f : rising (floorOf 0 (before ++ (r ∷ []))) rs ≡ true = rw (floor-last 0 before r) (and-right (leb (targetEnd r) 65534) _ e3) in (
       (((a, omega arith, omega arith), ((b, c, omega arith), ((omega arith, omega arith, omega arith), w))), refl),
       rows-each (before ++ (r ∷ [])) rs f u,
     )
@@ -114,8 +112,7 @@ each-rows before (r ∷ rs) h t =
     let k = each-rows (before ++ (r ∷ [])) rs (h .1) u in
     let f : rising (r .high + 1) rs ≡ true = rw (floor-last 0 before r) at (k .0) in
     let s : (before ++ (r ∷ [])) ++ rs ≡ before ++ (r ∷ rs) = append-assoc before (r ∷ []) rs in
-    let e : targetEnd r ≤ 65534 = omega (arith, h .0 .0 .1 .1 .0 .1, h .0 .0 .1 .0 .0, h .0 .0 .1 .0 .1) in
-    (
+    let e : targetEnd r ≤ 65534 = omega (arith, h .0 .0 .1 .1 .0 .1, h .0 .0 .1 .0 .0, h .0 .0 .1 .0 .1) in (
       rw (le-leb (floorOf 0 before) (r .low) (h .0 .0 .0 .0), le-leb (r .low) (r .high) (h .0 .0 .1 .0 .0), le-leb (r .high) 65534 (h .0 .0 .1 .0 .1), le-leb (targetEnd r) 65534 e) f,
       rw s at (k .1),
     )
@@ -261,8 +258,7 @@ table-says r e =
     let a = filled-pairs r p in
     let b = filled-rows r p in
     let f : 1 ≤ t .from = some (t .from) (p .from) in
-    let g : 1 ≤ t .to = some (t .to) (p .to) in
-    (
+    let g : 1 ≤ t .to = some (t .to) (p .to) in (
       (
         (f, p .from-fits, omega (arith, p .from-fits)),
         (

@@ -17,9 +17,9 @@ use format::read_two;
 use format::write_four;
 use format::write_octet;
 use format::write_two;
-use table::table_sound;
 use table::Row;
 use table::Table;
+use table::table_sound;
 
 // A level and the level that it goes to.
 pub struct LevelPair {

@@ -1,5 +1,6 @@
 -- `cases::main` meets its contract.
 use borrow.Author.Needs.{needs}
+use Prim.Native.Nat.{ℕ}
 use mathlib.Core.Path.{_≡_}
 use lib.ListN.{length, length-replicate}
 use Rattle.cases.proofs.main.Statement.{statement}
@@ -15,7 +16,7 @@ begin-requires : tie.Need-begin-requires Inv-loop μ-loop
 begin-requires c κs = search needs
 
 loop-holds : tie.Need-loop-holds Inv-loop μ-loop
-loop-holds c = (length-replicate 131072 0, length-replicate 262144 0)
+loop-holds c = (length-replicate {A = ℕ} 131072 0, length-replicate {A = ℕ} 262144 0)
 
 slice-aggregate-turn : tie.Need-slice-aggregate-turn Inv-loop μ-loop
 slice-aggregate-turn c = search needs

@@ -1,17 +1,9 @@
 -- `file::file_size` meets its contract.
-use borrow.Author.Needs.{needs}
 use native.Mathlib.Omega.{arith}
-use Prim.Native.Nat.{ℕ, _+_, _≤_, _<_}
-use mathlib.Core.Bool.{Bool, true, false}
-use mathlib.Core.Path.{_≡_, refl, sym, _∙_}
-use lib.ListN.{length}
+use mathlib.Core.Path.{sym}
 use Rattle.file.proofs.Sizes.{parts, total-is}
 use Rattle.file.proofs.file_size.Statement.{statement}
 use Rattle.file.proofs.file_size.Tie as tie
-use Rattle.file.proofs.file_size.Reads as reads
-use Rattle.file.proofs.file_size.Lts as lts
-use Rattle.file.proofs.ports_size.Reads as ports-size-reads
-use Rattle.file.proofs.tables_size.Reads as tables-size-reads
 
 ports-size-requires : tie.Need-ports-size-requires
 ports-size-requires c κs = parts (c .before .before .args .set) (c .before .before .pre) .ports-held
@@ -23,12 +15,12 @@ tables-size-requires : tie.Need-tables-size-requires
 tables-size-requires c κs = parts (c .before .before .before .args .set) (c .before .before .before .pre) .tables-held
 
 add-result-2 : tie.Need-add-result-2
-add-result-2 c = 
+add-result-2 c =
     let p = parts (c .before .before .before .before .args .set) (c .before .before .before .before .pre) in
     omega (arith, c .before .ports-size .ensures .1, c .tables-size .ensures .1, p .ports-held, p .tables-held)
 
 returns : tie.Need-returns
-returns c = 
+returns c =
     let s = c .before .before .before .before .args .set in
     let p = parts s (c .before .before .before .before .pre) in
     let a = c .before .ports-size .ensures in

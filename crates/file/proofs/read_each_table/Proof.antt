@@ -2,12 +2,12 @@
 use borrow.Author.Needs.{needs}
 use native.Mathlib.Omega.{arith}
 use borrow.Author.Tests.{not-false}
-use Prim.Native.Nat.{ℕ, _+_, _-_, _≤_, _<_}
+use Prim.Native.Nat.{ℕ, _+_, _-_, _≤_}
 use mathlib.Core.Bool.{true}
-use mathlib.Core.Path.{_≡_, refl, sym, ap, _∙_}
+use mathlib.Core.Path.{_≡_, refl}
 use mathlib.Core.List.{List, [], _∷_, _++_}
 use Rattle.filetable.specs.declared.Renumbering.{Renumbering}
-use Rattle.format.specs.Format.{Found, got, readAt}
+use Rattle.format.specs.Format.{Found, readAt}
 use Rattle.format.proofs.Places.{Held, held-none, held-more, held-used, held-fills}
 use Rattle.format.proofs.Loops.{Passed, begins, turns, refuses, ends}
 use Rattle.format.proofs.Told.{stopped, went, passed-same, many-refuses, many-reads}

@@ -2,8 +2,8 @@
 use borrow.Author.Needs.{needs}
 use native.Mathlib.Omega.{arith}
 use mathlib.Core.Bool.{true}
-use mathlib.Core.Path.{_≡_, refl, sym, _∙_}
-use lib.ListN.{length, take}
+use mathlib.Core.Path.{refl, sym, _∙_}
+use lib.ListN.{length}
 use Rattle.format.specs.Format.{Reads}
 use Rattle.format.proofs.Told.{then-told, such-told, fields-told}
 use Rattle.file.specs.SetFormat.{setFormat}
@@ -14,17 +14,16 @@ use Rattle.file.proofs.read_file.Tie as tie
 
 -- all fields, as they were read
 whole : (c : tie.After-read-tables)
-    → Reads (fileFormat (length (c .before .before .before .before .before .before .before .args .octets .now))) (c .before .before .before .before .before .before .before .args .octets .now) true 0 (c .read-tables .result .ok)
-      (
-        (c .before .before .before .before .read-two .result .value, c .before .before .before .read-octet .result .value),
-        record {
-          portcount = c .before .read-ports .result .count;
-          ports = c .before .read-ports .result .ports;
-          tablecount = c .read-tables .result .count;
-          tables = c .read-tables .result .tables;
-        },
-      )
-      (c .read-tables .result .at)
+    → Reads (fileFormat (length (c .before .before .before .before .before .before .before .args .octets .now))) (c .before .before .before .before .before .before .before .args .octets .now) true 0 (c .read-tables .result .ok) (
+      (c .before .before .before .before .read-two .result .value, c .before .before .before .read-octet .result .value),
+      record {
+        portcount = c .before .read-ports .result .count;
+        ports = c .before .read-ports .result .ports;
+        tablecount = c .read-tables .result .count;
+        tables = c .read-tables .result .tables;
+      },
+    )
+    (c .read-tables .result .at)
 unfolding fileFormat setFormat
 whole c =
     then-told
@@ -35,7 +34,7 @@ refuse-requires : tie.Need-refuse-requires
 refuse-requires c κs = search needs
 
 returns : tie.Need-returns
-returns c = 
+returns c =
     c .refuse .ensures
     ∙ sym (file-long (c .before .before .before .args .octets .now) (λ i. omega (arith, c .before .before .shared-slice-known .given i)) (omega arith))
 

@@ -1,8 +1,8 @@
 -- `file::tables_size` meets its contract.
 use borrow.Author.Needs.{needs}
 use native.Mathlib.Omega.{arith}
-use Prim.Native.Nat.{_+_, _-_, _*_, _≤_, _<_}
-use mathlib.Core.Path.{_≡_, refl, sym, _∙_}
+use Prim.Native.Nat.{_+_, _-_, _*_, _≤_}
+use mathlib.Core.Path.{_≡_, refl}
 use lib.ListN.{length, take, getD}
 use Rattle.label.proofs.Steps.{length-mapped}
 use Rattle.format.specs.Laws.{flat}
@@ -11,9 +11,6 @@ use Rattle.fileset.proofs.Sets.{outTable}
 use Rattle.file.proofs.Sizes.{size-more}
 use Rattle.file.proofs.tables_size.Statement.{statement}
 use Rattle.file.proofs.tables_size.Tie as tie
-use Rattle.file.proofs.tables_size.Reads as reads
-use Rattle.file.proofs.tables_size.Lts as lts
-use Rattle.filetable.proofs.table_size.Reads as table-size-reads
 
 abbrev Inv-loop : tie.InvT-loop
 Inv-loop n tables size₀ i₀ size i = (i ≤ n) × (size ≡ length (flat tableOctets (take i tables))) × (size ≤ i * 428)
@@ -47,7 +44,7 @@ loop-less c = search needs
 
 loop-again : tie.Need-loop-again Inv-loop μ-loop
 unfolding tableOctets
-loop-again c = 
+loop-again c =
     let a = c .before .before .before .before .args in
     let l = c .before .before .before .loop in
     let e = c .table-size .ensures in
@@ -57,7 +54,7 @@ loop-again c =
     (omega arith, omega (arith, s, e .0, l .inv .1), omega (arith, e .1, l .inv .2))
 
 returns : tie.Need-returns Inv-loop μ-loop
-returns c = 
+returns c =
     let l = c .before .loop in
     let e : l .i ≡ c .before .before .args .n = omega arith in
     rw (← e) (l .inv .1, l .inv .2)

@@ -1,20 +1,10 @@
 -- `file::write_fields` meets its contract.
 use borrow.Author.Needs.{needs}
 use native.Mathlib.Omega.{arith}
-use Prim.Native.Nat.{ℕ, _+_, _≤_, _<_}
-use mathlib.Core.Bool.{Bool, true, false}
-use mathlib.Core.Path.{_≡_, refl, sym, _∙_}
-use lib.ListN.{length}
 use Rattle.format.proofs.Writing.{writes-then}
 use Rattle.file.proofs.Sizes.{parts, fields-written}
 use Rattle.file.proofs.write_fields.Statement.{statement}
 use Rattle.file.proofs.write_fields.Tie as tie
-use Rattle.file.proofs.write_fields.Reads as reads
-use Rattle.file.proofs.write_fields.Lts as lts
-use Rattle.file.proofs.write_ports.Reads as write-ports-reads
-use Rattle.file.proofs.write_tables.Reads as write-tables-reads
-use Rattle.format.proofs.write_octet.Reads as write-octet-reads
-use Rattle.format.proofs.write_two.Reads as write-two-reads
 
 cast-write-two : tie.Need-cast-write-two
 cast-write-two c = omega (arith, c .before .before .before .before .pre .2)
@@ -47,7 +37,7 @@ same-length : tie.Need-same-length
 same-length c = search needs
 
 returns : tie.Need-returns
-returns c = 
+returns c =
     let b = c .before .before .before .before .before .before .before .before .before .before .before .before .before .before .before .before .before .before .before .before .before .before .before .before .before .before .before in
     let s = b .args .set in
     fields-written s (parts s (b .pre .0))

@@ -1,8 +1,7 @@
 -- `file::write_file` meets its contract.
 use borrow.Author.Needs.{needs}
 use native.Mathlib.Omega.{arith}
-use Prim.Native.Nat.{ℕ, _+_, _≤_, _<_}
-use mathlib.Core.Bool.{Bool, true, false}
+use mathlib.Core.Bool.{true, false}
 use mathlib.Core.Path.{_≡_, refl, sym, _∙_}
 use lib.ListN.{length}
 use borrow.Author.Tests.{not-true, not-false, le-leb, lt-leb}
@@ -11,18 +10,13 @@ use Rattle.fileset.specs.Set.{setSound}
 use Rattle.file.specs.File.{totalOf, writtenOf, outputOf}
 use Rattle.file.proofs.write_file.Statement.{statement}
 use Rattle.file.proofs.write_file.Tie as tie
-use Rattle.file.proofs.write_file.Reads as reads
-use Rattle.file.proofs.write_file.Lts as lts
-use Rattle.file.proofs.file_size.Reads as file-size-reads
-use Rattle.file.proofs.write_fields.Reads as write-fields-reads
-use Rattle.fileset.proofs.set_sound.Reads as set-sound-reads
 
 set-sound-requires : tie.Need-set-sound-requires
 set-sound-requires c κs = search needs
 
 returns : tie.Need-returns
 unfolding writtenOf outputOf
-returns c = 
+returns c =
     let e : setSound (c .before .before .before .args .set) ≡ false = sym (c .before .set-sound .ensures) ∙ not-true _ (c .if1 .taken) in
     rw e (refl, refl)
 
@@ -31,7 +25,7 @@ file-size-requires c κs = sym (c .before .set-sound .ensures) ∙ not-false _ (
 
 returns-2 : tie.Need-returns-2
 unfolding writtenOf outputOf
-returns-2 c = 
+returns-2 c =
     let s = c .before .before .before .before .before .args .set in
     let o = c .before .before .before .before .before .args .out .now in
     let e : setSound s ≡ true = sym (c .before .before .before .set-sound .ensures) ∙ not-false _ (c .before .before .if1 .left) in
@@ -39,7 +33,7 @@ returns-2 c =
     rw (e, h) (refl, refl)
 
 write-fields-requires : tie.Need-write-fields-requires
-write-fields-requires c κs = 
+write-fields-requires c κs =
     (sym (c .before .before .before .before .set-sound .ensures) ∙ not-false _ (c .before .before .before .if1 .left), c .before .before .file-size .ensures .0, c .before .before .file-size .ensures .1, omega arith)
 
 same-length : tie.Need-same-length
@@ -47,7 +41,7 @@ same-length c = search needs
 
 returns-3 : tie.Need-returns-3
 unfolding writtenOf outputOf
-returns-3 c = 
+returns-3 c =
     let s = c .before .before .before .before .before .before .before .before .before .args .set in
     let o = c .before .before .before .before .before .before .before .before .before .args .out .now in
     let e : setSound s ≡ true = sym (c .before .before .before .before .before .before .before .set-sound .ensures) ∙ not-false _ (c .before .before .before .before .before .before .if1 .left) in

@@ -1,9 +1,9 @@
 -- `file::write_tables` meets its contract.
 use borrow.Author.Needs.{needs}
 use native.Mathlib.Omega.{arith}
-use Prim.Native.Nat.{_+_, _-_, _*_, _≤_, _<_}
-use mathlib.Core.Path.{_≡_, refl, sym, _∙_}
-use lib.ListN.{length, take, getD}
+use Prim.Native.Nat.{_-_, _≤_}
+use mathlib.Core.Path.{_≡_, refl}
+use lib.ListN.{length, take}
 use Rattle.label.proofs.Steps.{length-mapped}
 use Rattle.format.specs.Laws.{flat}
 use Rattle.file.specs.Stages.{tableOctets}
@@ -12,9 +12,6 @@ use Rattle.format.specs.Format.{Writes}
 use Rattle.format.proofs.Writing.{writes-none, writes-turn}
 use Rattle.file.proofs.write_tables.Statement.{statement}
 use Rattle.file.proofs.write_tables.Tie as tie
-use Rattle.file.proofs.write_tables.Reads as reads
-use Rattle.file.proofs.write_tables.Lts as lts
-use Rattle.filetable.proofs.write_table.Reads as write-table-reads
 
 abbrev Inv-loop : tie.InvT-loop
 Inv-loop n out₀ at tables place₀ i₀ out place i = (i ≤ n) × (length out ≡ length out₀) × Writes at (flat tableOctets (take i tables)) out₀ out place
@@ -45,7 +42,7 @@ loop-less c = search needs
 
 loop-again : tie.Need-loop-again Inv-loop μ-loop
 unfolding tableOctets
-loop-again c = 
+loop-again c =
     let a = c .before .before .before .before .before .before .before .before .args in
     let l = c .before .before .before .before .before .before .loop in
     (omega arith, omega arith, writes-turn tableOctets outTable (a .t1) (omega (arith, sized (c .before .before .before .before .before .before .before .before))) (l .inv .2) (c .before .before .write-table .ensures))
@@ -54,7 +51,7 @@ same-length : tie.Need-same-length Inv-loop μ-loop
 same-length c = c .before .loop .inv .1
 
 returns : tie.Need-returns Inv-loop μ-loop
-returns c = 
+returns c =
     let l = c .before .loop in
     let e : l .i ≡ c .before .before .before .args .n = omega arith in
     rw (← e) (l .inv .2)

@@ -2,16 +2,13 @@
 use borrow.Author.Needs.{needs}
 use Prim.Native.Nat.{ℕ}
 use mathlib.Core.Bool.{cond}
-use mathlib.Core.Path.{_≡_, refl, sym, _∙_}
+use mathlib.Core.Path.{_≡_, sym, _∙_}
 use native.Mathlib.Omega.{arith}
 use lib.ListN.{length}
 use Rattle.label.proofs.Steps.{length-mapped}
 use Rattle.fileport.proofs.LabelLaws.{label-length, port-length}
 use Rattle.fileport.proofs.port_size.Statement.{statement}
 use Rattle.fileport.proofs.port_size.Tie as tie
-use Rattle.fileport.proofs.port_size.Reads as reads
-use Rattle.fileport.proofs.port_size.Lts as lts
-use Rattle.fileport.proofs.label_size.Reads as label-size-reads
 
 low-sized : (c : tie.Start) → length (c .args .port .lowest .runs) ≡ 120
 low-sized c = search (length-mapped, needs)
@@ -41,7 +38,7 @@ add-result-3 : tie.Need-add-result-3
 add-result-3 c = search needs
 
 returns : tie.Need-returns
-returns c = 
+returns c =
     let b = c .before .before .before .before .before .before in
     let p = b .args .port in
     let d : ℕ = p .domain in

@@ -1,11 +1,10 @@
 -- `fileport::read_runs` meets its contract.
 use borrow.Author.Needs.{needs}
 use native.Mathlib.Omega.{arith}
-use Prim.Native.Nat.{ℕ, _+_, _-_, _≤_, _<_}
+use Prim.Native.Nat.{ℕ, _+_, _-_, _≤_}
 use mathlib.Core.Path.{_≡_, refl, sym, ap, _∙_}
 use mathlib.Core.List.{List, [], _∷_, _++_}
 use Rattle.label.specs.declared.Run.{Run}
-use Rattle.label.specs.declared.Label.{Label}
 use Rattle.label.specs.Runs.{run}
 use Rattle.label.specs.Label.{labelOf}
 use Rattle.format.specs.Format.{Found, got, readAt}

@@ -1,5 +1,4 @@
 -- `fileport::unless_zero` meets its contract.
-use borrow.Author.Needs.{needs}
 use native.Mathlib.Omega.{arith}
 use borrow.Author.Tests.{eq-eqb, ne-eqb}
 use Rattle.fileport.proofs.unless_zero.Statement.{statement}

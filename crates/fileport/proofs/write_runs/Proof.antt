@@ -1,11 +1,9 @@
 -- `fileport::write_runs` meets its contract.
 use borrow.Author.Needs.{needs}
 use native.Mathlib.Omega.{arith}
-use Prim.Native.Nat.{ℕ, _+_, _-_, _≤_, _<_}
-use mathlib.Core.Path.{_≡_, refl, sym, ap, _∙_}
-use mathlib.Core.List.{List}
+use Prim.Native.Nat.{_-_, _≤_}
+use mathlib.Core.Path.{_≡_, refl}
 use lib.ListN.{length, take, length-map}
-use Rattle.label.specs.declared.Run.{Run}
 use Rattle.label.specs.Label.{noRun}
 use Rattle.label.proofs.Steps.{length-mapped}
 use Rattle.format.specs.Format.{Writes}

@@ -3,9 +3,6 @@ use borrow.Author.Needs.{needs}
 use mathlib.Core.Path.{refl}
 use Rattle.fileset.proofs.empty_port.Statement.{statement}
 use Rattle.fileset.proofs.empty_port.Tie as tie
-use Rattle.fileset.proofs.empty_port.Reads as reads
-use Rattle.fileset.proofs.empty_port.Lts as lts
-use Rattle.label.proofs.Label.empty.Reads as empty-reads
 
 empty-requires : tie.Need-empty-requires
 empty-requires c κs = search needs

@@ -3,10 +3,6 @@ use borrow.Author.Needs.{needs}
 use mathlib.Core.Path.{refl}
 use Rattle.fileset.proofs.empty_set.Statement.{statement}
 use Rattle.fileset.proofs.empty_set.Tie as tie
-use Rattle.fileset.proofs.empty_set.Reads as reads
-use Rattle.fileset.proofs.empty_set.Lts as lts
-use Rattle.fileset.proofs.empty_port.Reads as empty-port-reads
-use Rattle.fileset.proofs.empty_table.Reads as empty-table-reads
 
 empty-port-requires : tie.Need-empty-port-requires
 empty-port-requires c κs = search needs

@@ -1,21 +1,18 @@
 -- `fileset::levels_of` meets its contract.
 use borrow.Author.Needs.{needs}
 use native.Mathlib.Omega.{arith}
-use Prim.Native.Nat.{ℕ, _+_, _-_, _≤_, _<_}
-use mathlib.Core.Bool.{Bool, true, false, cond}
-use mathlib.Core.Path.{_≡_, refl, sym, ap, _∙_}
+use Prim.Native.Nat.{_-_, _≤_}
+use mathlib.Core.Bool.{true}
+use mathlib.Core.Path.{_≡_, refl, sym, _∙_}
 use lib.ListN.{length, getD, take}
 use Rattle.label.proofs.Steps.{length-mapped}
-use mathlib.Core.List.{List, [], _∷_, map}
+use mathlib.Core.List.{[], _∷_, map}
 use lib.Seq.{take-all}
 use Rattle.format.proofs.Places.{Held, held-none, held-more, held-used}
 use Rattle.filetable.specs.Theorems.{twoEach}
 use Rattle.fileset.proofs.Sets.{held-length, outPair, two-more, levels-more, typed-pairs}
 use Rattle.fileset.proofs.levels_of.Statement.{statement}
 use Rattle.fileset.proofs.levels_of.Tie as tie
-use Rattle.fileset.proofs.levels_of.Reads as reads
-use Rattle.fileset.proofs.levels_of.Lts as lts
-use Rattle.fileset.proofs.two_of.Reads as two-of-reads
 
 abbrev Inv-loop : tie.InvT-loop
 Inv-loop renumbering levels₀ i₀ levels i = (i ≤ 16) × Held 16 (0 ∷ 0 ∷ []) i levels (map (λ p. p .levels) (take i (renumbering .levels))) × (twoEach (take i (renumbering .levels)) ≡ true)
@@ -51,12 +48,11 @@ loop-less : tie.Need-loop-less Inv-loop μ-loop
 loop-less c = search needs
 
 loop-again : tie.Need-loop-again Inv-loop μ-loop
-loop-again c = 
+loop-again c =
     let a = c .before .before .before .before .args in
     let l = c .before .before .before .loop in
     let n : length (a .t1 .levels) ≡ 16 = sized (c .before .before .before .before) in
-    let e = c .two-of .ensures in
-    (
+    let e = c .two-of .ensures in (
       omega arith,
       rw (levels-more (a .t1 .levels) (l .i) outPair (omega arith), e .0) (held-more (getD (a .t1 .levels) (l .i) outPair .levels) (l .inv .1) (omega arith)),
       two-more (a .t1 .levels) (l .i) outPair (omega arith) (e .1) (l .inv .2),
@@ -66,7 +62,7 @@ levels-sized : (c : tie.After-loop Inv-loop μ-loop) → length (c .before .loop
 levels-sized c = held-length (c .before .loop .inv .1)
 
 returns : tie.Need-returns Inv-loop μ-loop
-returns c = 
+returns c =
     let r = c .before .before .args .t1 in
     let l = c .before .loop in
     let n : length (r .levels) ≡ 16 = sized (c .before .before) in

@@ -1,18 +1,12 @@
 -- `fileset::port_fits` meets its contract.
 use borrow.Author.Needs.{needs}
-use native.Mathlib.Omega.{arith}
-use Prim.Native.Nat.{_+_, _-_, _≤_, _<_}
-use mathlib.Core.Bool.{Bool, true, false, cond}
-use mathlib.Core.Path.{_≡_, refl, sym, ap, _∙_}
-use lib.ListN.{length, getD, take}
+use Prim.Native.Nat.{_-_}
+use mathlib.Core.Path.{_≡_, _∙_}
+use lib.ListN.{length}
 use Rattle.label.proofs.Steps.{length-mapped}
 use Rattle.fileset.proofs.Sets.{used-port, unused-port}
 use Rattle.fileset.proofs.port_fits.Statement.{statement}
 use Rattle.fileset.proofs.port_fits.Tie as tie
-use Rattle.fileset.proofs.port_fits.Reads as reads
-use Rattle.fileset.proofs.port_fits.Lts as lts
-use Rattle.fileset.proofs.port_zero.Reads as port-zero-reads
-use Rattle.port.proofs.port_sound.Reads as port-sound-reads
 
 low-sized : (c : tie.Start) → length (c .args .port .lowest .runs) ≡ 120
 low-sized c = search (length-mapped, needs)
@@ -27,7 +21,7 @@ port-sound-requires : tie.Need-port-sound-requires
 port-sound-requires c κs = search needs
 
 returns : tie.Need-returns
-returns c = 
+returns c =
     let b = c .before .before in
     rw (c .before .if1 .taken) (c .port-sound .ensures ∙ used-port (b .args .port) (low-sized b) (high-sized b) (given-sized b))
 
@@ -35,7 +29,7 @@ port-zero-requires : tie.Need-port-zero-requires
 port-zero-requires c κs = search needs
 
 returns-2 : tie.Need-returns-2
-returns-2 c = 
+returns-2 c =
     let b = c .before .before in
     rw (c .before .if1 .left) (c .port-zero .ensures ∙ unused-port (b .args .port) (low-sized b) (high-sized b) (given-sized b))
 

@@ -4,9 +4,6 @@ use mathlib.Core.Path.{refl}
 use Rattle.fileset.specs.Set.{zeroPort}
 use Rattle.fileset.proofs.port_zero.Statement.{statement}
 use Rattle.fileset.proofs.port_zero.Tie as tie
-use Rattle.fileset.proofs.port_zero.Reads as reads
-use Rattle.fileset.proofs.port_zero.Lts as lts
-use Rattle.label.proofs.Label.is_zero.Reads as is-zero-reads
 
 is-zero-requires : tie.Need-is-zero-requires
 is-zero-requires c κs = search needs

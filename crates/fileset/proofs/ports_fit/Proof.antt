@@ -1,10 +1,9 @@
 -- `fileset::ports_fit` meets its contract.
 use borrow.Author.Needs.{needs}
 use native.Mathlib.Omega.{arith}
-use Prim.Native.Nat.{_+_, _-_, _≤_, _<_}
-use mathlib.Core.Bool.{Bool, true, false, cond}
-use mathlib.Core.Path.{_≡_, refl, sym, _∙_}
-use lib.ListN.{length, getD}
+use Prim.Native.Nat.{_-_, _≤_}
+use mathlib.Core.Path.{_≡_}
+use lib.ListN.{length}
 use Rattle.label.proofs.Steps.{length-mapped}
 use Rattle.format.specs.Places.{placesFit}
 use Rattle.format.proofs.Places.{fitsFrom, fits-begins, fits-stops, fits-goes, fits-ends}
@@ -12,9 +11,6 @@ use Rattle.fileset.proofs.Sets.{outPort}
 use Rattle.fileset.specs.Set.{usedPort, unusedPort}
 use Rattle.fileset.proofs.ports_fit.Statement.{statement}
 use Rattle.fileset.proofs.ports_fit.Tie as tie
-use Rattle.fileset.proofs.ports_fit.Reads as reads
-use Rattle.fileset.proofs.ports_fit.Lts as lts
-use Rattle.fileset.proofs.port_fits.Reads as port-fits-reads
 
 abbrev Inv-loop : tie.InvT-loop
 Inv-loop n ports i₀ i = (i ≤ 16) × (placesFit usedPort unusedPort n ports ≡ fitsFrom usedPort unusedPort outPort ports n i)
@@ -38,7 +34,7 @@ port-fits-requires : tie.Need-port-fits-requires Inv-loop μ-loop
 port-fits-requires c κs = search needs
 
 returns : tie.Need-returns Inv-loop μ-loop
-returns c = 
+returns c =
     let a = c .before .before .before .before .before .args in
     let l = c .before .before .before .before .loop in
     let n : length (a .t1) ≡ 16 = sized (c .before .before .before .before .before) in
@@ -51,14 +47,14 @@ loop-less : tie.Need-loop-less Inv-loop μ-loop
 loop-less c = search needs
 
 loop-again : tie.Need-loop-again Inv-loop μ-loop
-loop-again c = 
+loop-again c =
     let a = c .before .before .before .before .before .args in
     let l = c .before .before .before .before .loop in
     let n : length (a .t1) ≡ 16 = sized (c .before .before .before .before .before) in
     (omega arith, fits-goes usedPort unusedPort outPort (a .t1) (a .n) (l .i) (l .inv .1) (c .before .port-fits .result) (omega arith) (c .before .port-fits .ensures) (c .if1 .left))
 
 returns-2 : tie.Need-returns-2 Inv-loop μ-loop
-returns-2 c = 
+returns-2 c =
     let a = c .before .before .args in
     let l = c .before .loop in
     let n : length (a .t1) ≡ 16 = sized (c .before .before) in

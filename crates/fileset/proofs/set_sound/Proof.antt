@@ -1,8 +1,8 @@
 -- `fileset::set_sound` meets its contract.
 use borrow.Author.Needs.{needs}
 use borrow.Author.Tests.{eq-eqb}
-use mathlib.Core.Bool.{Bool, true, _&&_, and-true}
-use mathlib.Core.Path.{_≡_, refl, sym, _∙_}
+use mathlib.Core.Bool.{true, and-true}
+use mathlib.Core.Path.{_≡_, sym}
 use lib.ListN.{length}
 use Rattle.label.proofs.Steps.{length-mapped}
 use Rattle.fileset.specs.Set.{typed, setSound}

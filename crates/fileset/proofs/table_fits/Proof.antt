@@ -1,6 +1,6 @@
 -- `fileset::table_fits` meets its contract.
 use borrow.Author.Needs.{needs}
-use mathlib.Core.Path.{_≡_, refl, sym, _∙_}
+use mathlib.Core.Path.{_≡_, _∙_}
 use lib.ListN.{length}
 use Rattle.label.proofs.Steps.{length-mapped}
 use Rattle.fileset.proofs.Sets.{used-table, unused-table}

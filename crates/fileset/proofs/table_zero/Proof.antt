@@ -7,9 +7,6 @@ use Rattle.fileset.specs.Set.{zeroTable}
 use Rattle.fileset.proofs.Sets.{places-zero}
 use Rattle.fileset.proofs.table_zero.Statement.{statement}
 use Rattle.fileset.proofs.table_zero.Tie as tie
-use Rattle.fileset.proofs.table_zero.Reads as reads
-use Rattle.fileset.proofs.table_zero.Lts as lts
-use Rattle.table.proofs.table_sound.Reads as table-sound-reads
 
 sized : (c : tie.Start) → length (c .args .table .rows) ≡ 64
 sized c = search (length-mapped, needs)
@@ -19,7 +16,7 @@ table-sound-requires c κs = search needs
 
 returns : tie.Need-returns
 unfolding zeroTable
-returns c = 
+returns c =
     let b = c .before .before .before .before .before .before in
     rw (c .before .before .before .before .table-sound .ensures, places-zero (b .args .table .rows) (b .args .levels) (sized b)) refl
 

@@ -2,9 +2,9 @@
 use borrow.Author.Needs.{needs}
 use native.Mathlib.Omega.{arith}
 use native.Mathlib.Numerals.{add-one}
-use Prim.Native.Nat.{_+_, _-_, _≤_, _<_}
-use mathlib.Core.List.{List, [], _∷_, _++_}
-use mathlib.Core.Path.{_≡_, refl}
+use Prim.Native.Nat.{_+_, _-_, _≤_}
+use mathlib.Core.List.{[], _∷_, _++_}
+use mathlib.Core.Path.{_≡_}
 use lib.ListN.{length, take, getD}
 use lib.Seq.{take-suc}
 use Rattle.label.proofs.Steps.{length-mapped}
@@ -12,8 +12,6 @@ use Rattle.table.specs.Table.{noRow}
 use Rattle.format.proofs.Places.{Held, held-none, held-more}
 use Rattle.filetable.proofs.first_rows.Statement.{statement}
 use Rattle.filetable.proofs.first_rows.Tie as tie
-use Rattle.filetable.proofs.first_rows.Reads as reads
-use Rattle.filetable.proofs.first_rows.Lts as lts
 
 abbrev Inv-loop : tie.InvT-loop
 Inv-loop n rows kept₀ i₀ kept i = (i ≤ n) × Held 64 noRow i kept (take i rows)
@@ -46,7 +44,7 @@ loop-less : tie.Need-loop-less Inv-loop μ-loop
 loop-less c = search needs
 
 loop-again : tie.Need-loop-again Inv-loop μ-loop
-loop-again c = 
+loop-again c =
     let a = c .before .before .before .args in
     let l = c .before .before .loop in
     let n : length (a .t1) ≡ 64 = sized (c .before .before .before) in
@@ -54,7 +52,7 @@ loop-again c =
     (omega arith, rw e (held-more (getD (a .t1) (l .i) noRow) (l .inv .1) (omega arith)))
 
 returns : tie.Need-returns Inv-loop μ-loop
-returns c = 
+returns c =
     let l = c .before .loop in
     let e : l .i ≡ c .before .before .args .n = omega arith in
     rw (← e) (l .inv .1 .places)

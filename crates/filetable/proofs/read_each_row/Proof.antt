@@ -2,27 +2,22 @@
 use borrow.Author.Needs.{needs}
 use native.Mathlib.Omega.{arith}
 use borrow.Author.Tests.{not-false}
-use Prim.Native.Nat.{ℕ, _+_, _-_, _≤_, _<_}
+use Prim.Native.Nat.{_+_, _-_, _≤_}
 use mathlib.Core.Bool.{true}
-use mathlib.Core.Path.{_≡_, refl, sym, ap, _∙_}
+use mathlib.Core.Path.{_≡_, refl, sym}
 use mathlib.Core.List.{List, [], _∷_, _++_}
-use lib.ListN.{take}
 use Rattle.table.specs.declared.Row.{Row}
 use Rattle.table.specs.Table.{noRow}
 use Rattle.format.proofs.Places.{Held, held-none, held-more, held-used, held-fills}
 use Rattle.format.proofs.Told.{stopped, went}
 use Rattle.filetable.specs.TableFormat.{row, floorOf}
-use Rattle.filetable.specs.Stages.{RowsAlone}
 use Rattle.filetable.proofs.Apart.{floor-last}
 use Rattle.filetable.proofs.Rows.{RowsSeen, seen-begins, seen-turns, seen-refuses, seen-ends, seen-passed}
 use Rattle.filetable.proofs.read_each_row.Statement.{statement}
 use Rattle.filetable.proofs.read_each_row.Tie as tie
-use Rattle.filetable.proofs.read_each_row.Reads as reads
-use Rattle.filetable.proofs.read_each_row.Lts as lts
-use Rattle.filetable.proofs.read_row.Reads as read-row-reads
 
 abbrev Inv-loop : tie.InvT-loop
-Inv-loop octets ok at count read₀ floor₀ i₀ read floor i = 
+Inv-loop octets ok at count read₀ floor₀ i₀ read floor i =
     (i ≤ count) × (read .ok ≡ true) × (read .count ≡ i) × (done : List Row) × (floor ≡ floorOf 0 done) × Held 64 noRow i (read .rows) done
     × RowsSeen octets count at done i (read .at)
 
@@ -33,7 +28,7 @@ returns : tie.Need-returns Inv-loop μ-loop
 returns c = (seen-passed (c .if1 .taken), held-fills (held-none 64 noRow))
 
 loop-holds : tie.Need-loop-holds Inv-loop μ-loop
-loop-holds c = 
+loop-holds c =
     let a = c .before .before .args in
     (omega arith, not-false (a .ok) (c .if1 .left), refl, [], refl, held-none 64 noRow, seen-begins (a .octets .now) (a .count) (a .at))
 
@@ -41,7 +36,7 @@ read-row-requires : tie.Need-read-row-requires Inv-loop μ-loop
 read-row-requires c κs = search needs
 
 returns-2 : tie.Need-returns-2 Inv-loop μ-loop
-returns-2 c = 
+returns-2 c =
     let a = c .before .before .before .before .before .before .before .args in
     let l = c .before .before .before .before .loop in
     rw (l .inv .2, held-used (l .inv .5)) (
@@ -68,7 +63,7 @@ loop-less : tie.Need-loop-less Inv-loop μ-loop
 loop-less c = search needs
 
 loop-again : tie.Need-loop-again Inv-loop μ-loop
-loop-again c = 
+loop-again c =
     let a = c .before .before .before .before .before .before .before .before .args in
     let l = c .before .before .before .before .before .loop in
     let r = c .before .before .before .read-row .result in
@@ -83,7 +78,7 @@ loop-again c =
     )
 
 returns-3 : tie.Need-returns-3 Inv-loop μ-loop
-returns-3 c = 
+returns-3 c =
     let l = c .before .loop in
     rw (l .inv .1, l .inv .2, held-used (l .inv .5)) (
       seen-ends (l .inv .6) (c .before .before .if1 .left) (omega arith),

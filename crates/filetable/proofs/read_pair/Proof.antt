@@ -5,9 +5,6 @@ use Rattle.format.proofs.Told.{then-told, fields-told}
 use Rattle.filetable.specs.TableFormat.{pairFormat}
 use Rattle.filetable.proofs.read_pair.Statement.{statement}
 use Rattle.filetable.proofs.read_pair.Tie as tie
-use Rattle.filetable.proofs.read_pair.Reads as reads
-use Rattle.filetable.proofs.read_pair.Lts as lts
-use Rattle.format.proofs.read_octet.Reads as read-octet-reads
 
 read-octet-requires : tie.Need-read-octet-requires
 read-octet-requires c κs = search needs

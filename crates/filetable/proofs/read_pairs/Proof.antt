@@ -2,12 +2,11 @@
 use borrow.Author.Needs.{needs}
 use native.Mathlib.Omega.{arith}
 use borrow.Author.Tests.{not-false}
-use Prim.Native.Nat.{ℕ, _+_, _-_, _≤_, _<_}
+use Prim.Native.Nat.{ℕ, _+_, _-_, _≤_}
 use mathlib.Core.Bool.{true}
-use mathlib.Core.Path.{_≡_, refl, sym, ap, _∙_}
+use mathlib.Core.Path.{_≡_, refl}
 use mathlib.Core.List.{List, [], _∷_, _++_}
-use lib.ListN.{take}
-use Rattle.format.specs.Format.{Found, got, readAt}
+use Rattle.format.specs.Format.{Found, readAt}
 use Rattle.format.proofs.Places.{Held, held-none, held-more, held-used, held-fills}
 use Rattle.format.proofs.Loops.{Passed, begins, turns, refuses, ends}
 use Rattle.format.proofs.Told.{stopped, went, passed-same, many-refuses, many-reads}
@@ -15,16 +14,12 @@ use Rattle.filetable.specs.declared.LevelPair.{LevelPair}
 use Rattle.filetable.specs.TableFormat.{pair, pairFormat, nextLeast, noPair}
 use Rattle.filetable.proofs.read_pairs.Statement.{statement}
 use Rattle.filetable.proofs.read_pairs.Tie as tie
-use Rattle.filetable.proofs.read_pairs.Reads as reads
-use Rattle.filetable.proofs.read_pairs.Lts as lts
-use Rattle.filetable.proofs.above.Reads as above-reads
-use Rattle.filetable.proofs.read_pair.Reads as read-pair-reads
 
 abbrev elements : List ℕ → ℕ × ℕ → ℕ → Found LevelPair
 elements s least at = readAt (pairFormat least) s at
 
 abbrev Inv-loop : tie.InvT-loop
-Inv-loop octets ok at count read₀ first₀ second₀ i₀ read first second i = 
+Inv-loop octets ok at count read₀ first₀ second₀ i₀ read first second i =
     (i ≤ count) × (read .ok ≡ true) × (read .count ≡ i) × (done : List LevelPair) × Held 16 noPair i (read .levels) done
     × Passed (elements octets) nextLeast count (0, 0) at done i (first, second) (read .at)
 
@@ -35,7 +30,7 @@ returns : tie.Need-returns Inv-loop μ-loop
 returns c = (passed-same (c .if1 .taken), held-fills (held-none 16 noPair))
 
 loop-holds : tie.Need-loop-holds Inv-loop μ-loop
-loop-holds c = 
+loop-holds c =
     let a = c .before .before .args in
     (omega arith, not-false (a .ok) (c .if1 .left), refl, [], held-none 16 noPair, begins (elements (a .octets .now)) nextLeast (a .count) (0, 0) (a .at))
 
@@ -43,7 +38,7 @@ read-pair-requires : tie.Need-read-pair-requires Inv-loop μ-loop
 read-pair-requires c κs = search needs
 
 returns-2 : tie.Need-returns-2 Inv-loop μ-loop
-returns-2 c = 
+returns-2 c =
     let a = c .before .before .before .before .before .before .before .args in
     let l = c .before .before .before .before .loop in
     rw (l .inv .2) (
@@ -70,7 +65,7 @@ loop-less : tie.Need-loop-less Inv-loop μ-loop
 loop-less c = search needs
 
 loop-again : tie.Need-loop-again Inv-loop μ-loop
-loop-again c = 
+loop-again c =
     let a = c .before .before .before .before .before .before .before .before .before .args in
     let l = c .before .before .before .before .before .before .loop in
     let r = c .before .before .before .before .read-pair .result in
@@ -85,7 +80,7 @@ loop-again c =
     )
 
 returns-3 : tie.Need-returns-3 Inv-loop μ-loop
-returns-3 c = 
+returns-3 c =
     let a = c .before .before .before .before .args in
     let l = c .before .loop in
     rw (l .inv .1, l .inv .2, held-used (l .inv .4)) (

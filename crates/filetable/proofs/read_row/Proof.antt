@@ -5,10 +5,6 @@ use Rattle.format.proofs.Told.{then-told, fields-told}
 use Rattle.filetable.specs.Stages.{rowAlone}
 use Rattle.filetable.proofs.read_row.Statement.{statement}
 use Rattle.filetable.proofs.read_row.Tie as tie
-use Rattle.filetable.proofs.read_row.Reads as reads
-use Rattle.filetable.proofs.read_row.Lts as lts
-use Rattle.filetable.proofs.span.Reads as span-reads
-use Rattle.format.proofs.read_two.Reads as read-two-reads
 
 read-two-requires : tie.Need-read-two-requires
 read-two-requires c κs = search needs

@@ -8,11 +8,6 @@ use lib.Seq.{take-take}
 use native.Mathlib.Omega.{arith}
 use Rattle.filetable.proofs.read_rows.Statement.{statement}
 use Rattle.filetable.proofs.read_rows.Tie as tie
-use Rattle.filetable.proofs.read_rows.Reads as reads
-use Rattle.filetable.proofs.read_rows.Lts as lts
-use Rattle.filetable.proofs.first_meeting.Reads as first-meeting-reads
-use Rattle.filetable.proofs.read_each_row.Reads as read-each-row-reads
-use Rattle.filetable.proofs.targets_apart.Reads as targets-apart-reads
 
 -- the rows that were read are there
 rowed : (c : tie.After-first-meeting) → c .before .before .before .before .before .before .args .at + c .before .before .before .before .read-each-row .result .count * 6 ≤ length (c .before .before .before .before .before .before .args .octets .now)
@@ -28,12 +23,12 @@ targets-apart-requires : tie.Need-targets-apart-requires
 targets-apart-requires c κs = (c .before .read-each-row .ensures .1 .limit, c .before .read-each-row .ensures .0 .rises)
 
 returns : tie.Need-returns
-returns c = 
+returns c =
     let e = c .before .before .before .read-each-row .ensures in
     (e .0 .apart (sym (c .before .targets-apart .ensures) ∙ c .if1 .taken), e .1)
 
 first-meeting-requires : tie.Need-first-meeting-requires
-first-meeting-requires c κs = 
+first-meeting-requires c κs =
     let e = c .before .before .before .read-each-row .ensures in
     (e .1 .limit, e .0 .rises, sym (c .before .targets-apart .ensures) ∙ c .if1 .left)
 
@@ -47,7 +42,7 @@ add-read-2 : tie.Need-add-read-2
 add-read-2 c = omega (arith, c .first-meeting .ensures .0, rowed c)
 
 returns-2 : tie.Need-returns-2
-returns-2 c = 
+returns-2 c =
     let e = c .before .before .before .before .read-each-row .ensures in
     let r = c .before .before .before .before .read-each-row .result in
     let m = c .first-meeting .ensures in

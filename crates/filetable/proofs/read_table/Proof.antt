@@ -5,12 +5,6 @@ use Rattle.filetable.specs.TableFormat.{tableFormat}
 use Rattle.filetable.proofs.Rows.{renumbering-again}
 use Rattle.filetable.proofs.read_table.Statement.{statement}
 use Rattle.filetable.proofs.read_table.Tie as tie
-use Rattle.filetable.proofs.read_table.Reads as reads
-use Rattle.filetable.proofs.read_table.Lts as lts
-use Rattle.filetable.proofs.read_pairs.Reads as read-pairs-reads
-use Rattle.filetable.proofs.read_rows.Reads as read-rows-reads
-use Rattle.format.proofs.read_four.Reads as read-four-reads
-use Rattle.format.proofs.read_two.Reads as read-two-reads
 
 read-four-requires : tie.Need-read-four-requires
 read-four-requires c κs = search needs
@@ -38,7 +32,7 @@ read-rows-requires c κs = search needs
 
 returns : tie.Need-returns
 unfolding tableFormat
-returns c = 
+returns c =
     fields-told
     (then-told (c .before .before .before .before .before .before .before .before .before .read-four .ensures .0)
     (then-told (c .before .before .before .before .before .before .before .before .read-four2 .ensures .0)

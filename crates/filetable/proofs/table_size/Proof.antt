@@ -7,9 +7,6 @@ use Rattle.filetable.proofs.Octets.{table-length}
 use native.Mathlib.Omega.{arith}
 use Rattle.filetable.proofs.table_size.Statement.{statement}
 use Rattle.filetable.proofs.table_size.Tie as tie
-use Rattle.filetable.proofs.table_size.Reads as reads
-use Rattle.filetable.proofs.table_size.Lts as lts
-use Rattle.format.proofs.count_used.Reads as count-used-reads
 
 pairs-sized : (c : tie.Start) → length (c .args .renumbering .levels) ≡ 16
 pairs-sized c = search (length-mapped, needs)
@@ -36,7 +33,7 @@ add-result-2 : tie.Need-add-result-2
 add-result-2 c = search needs
 
 returns : tie.Need-returns
-returns c = 
+returns c =
     let b = c .before .before .before in
     let r = b .args .renumbering in
     (sym (table-length r _ _ (pairs-sized b) (rows-sized b) (c .before .count-used .ensures .0) (c .count-used2 .ensures .0)), omega (arith, c .before .count-used .ensures .1, c .count-used2 .ensures .1))

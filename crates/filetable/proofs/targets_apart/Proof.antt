@@ -6,10 +6,6 @@ use Rattle.label.proofs.Steps.{length-mapped}
 use Rattle.filetable.proofs.Apart.{apart-sound}
 use Rattle.filetable.proofs.targets_apart.Statement.{statement}
 use Rattle.filetable.proofs.targets_apart.Tie as tie
-use Rattle.filetable.proofs.targets_apart.Reads as reads
-use Rattle.filetable.proofs.targets_apart.Lts as lts
-use Rattle.filetable.proofs.first_rows.Reads as first-rows-reads
-use Rattle.table.proofs.table_sound.Reads as table-sound-reads
 
 sized : (c : tie.Start) → length (c .args .rows) ≡ 64
 sized c = search (length-mapped, needs)
@@ -21,7 +17,7 @@ table-sound-requires : tie.Need-table-sound-requires
 table-sound-requires c κs = search needs
 
 returns : tie.Need-returns
-returns c = 
+returns c =
     let a = c .before .before .args in
     rw (c .table-sound .ensures, c .before .first-rows .ensures) (apart-sound (a .rows) (a .n) (c .before .before .pre .0) (sized (c .before .before)) (c .before .before .pre .1))
 

@@ -2,7 +2,7 @@
 use borrow.Author.Needs.{needs}
 use mathlib.Core.List.{[]}
 use native.Mathlib.Omega.{arith}
-use Prim.Native.Nat.{_+_, _-_, _≤_, _<_}
+use Prim.Native.Nat.{_-_, _≤_}
 use mathlib.Core.Path.{_≡_, refl}
 use lib.ListN.{length, take}
 use Rattle.label.proofs.Steps.{length-mapped}
@@ -12,10 +12,6 @@ use Rattle.format.proofs.Writing.{writes-none, writes-then, writes-turn}
 use Rattle.filetable.specs.Stages.{pairOctets}
 use Rattle.filetable.proofs.write_pairs.Statement.{statement}
 use Rattle.filetable.proofs.write_pairs.Tie as tie
-use Rattle.filetable.proofs.write_pairs.Reads as reads
-use Rattle.filetable.proofs.write_pairs.Lts as lts
-use Rattle.filetable.proofs.wide.Reads as wide-reads
-use Rattle.format.proofs.write_octet.Reads as write-octet-reads
 
 abbrev Inv-loop : tie.InvT-loop
 Inv-loop n out₀ at levels place₀ i₀ out place i = (i ≤ n) × (length out ≡ length out₀) × Writes at (flat pairOctets (take i levels)) out₀ out place
@@ -60,7 +56,7 @@ loop-less : tie.Need-loop-less Inv-loop μ-loop
 loop-less c = search needs
 
 loop-again : tie.Need-loop-again Inv-loop μ-loop
-loop-again c = 
+loop-again c =
     let a = c .before .before .before .before .before .before .before .before .before .before .before .before .before .before .before .before .args in
     let l = c .before .before .before .before .before .before .before .before .before .before .before .before .before .before .loop in (
       omega arith,
@@ -73,7 +69,7 @@ same-length : tie.Need-same-length Inv-loop μ-loop
 same-length c = c .before .loop .inv .1
 
 returns : tie.Need-returns Inv-loop μ-loop
-returns c = 
+returns c =
     let a = c .before .before .before .args in
     let l = c .before .loop in
     let e : l .i ≡ a .n = omega arith in

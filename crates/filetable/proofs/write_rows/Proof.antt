@@ -2,7 +2,7 @@
 use borrow.Author.Needs.{needs}
 use Rattle.table.specs.Table.{noRow}
 use native.Mathlib.Omega.{arith}
-use Prim.Native.Nat.{_+_, _-_, _≤_, _<_}
+use Prim.Native.Nat.{_-_, _≤_}
 use mathlib.Core.Path.{_≡_, refl}
 use lib.ListN.{length, take}
 use Rattle.label.proofs.Steps.{length-mapped}
@@ -12,9 +12,6 @@ use Rattle.format.proofs.Writing.{writes-none, writes-then, writes-turn}
 use Rattle.filetable.specs.Stages.{rowOctets}
 use Rattle.filetable.proofs.write_rows.Statement.{statement}
 use Rattle.filetable.proofs.write_rows.Tie as tie
-use Rattle.filetable.proofs.write_rows.Reads as reads
-use Rattle.filetable.proofs.write_rows.Lts as lts
-use Rattle.format.proofs.write_two.Reads as write-two-reads
 
 abbrev Inv-loop : tie.InvT-loop
 Inv-loop n out₀ at rows place₀ i₀ out place i = (i ≤ n) × (length out ≡ length out₀) × Writes at (flat rowOctets (take i rows)) out₀ out place
@@ -59,7 +56,7 @@ loop-less : tie.Need-loop-less Inv-loop μ-loop
 loop-less c = search needs
 
 loop-again : tie.Need-loop-again Inv-loop μ-loop
-loop-again c = 
+loop-again c =
     let a = c .before .before .before .before .before .before .before .before .before .before .before .before .before .before .before .before .before .before .before .args in
     let l = c .before .before .before .before .before .before .before .before .before .before .before .before .before .before .before .before .before .loop in (
       omega arith,
@@ -72,7 +69,7 @@ same-length : tie.Need-same-length Inv-loop μ-loop
 same-length c = c .before .loop .inv .1
 
 returns : tie.Need-returns Inv-loop μ-loop
-returns c = 
+returns c =
     let a = c .before .before .before .args in
     let l = c .before .loop in
     let e : l .i ≡ a .n = omega arith in

@@ -1,19 +1,12 @@
 -- `filetable::write_table` meets its contract.
 use borrow.Author.Needs.{needs}
-use mathlib.Core.Path.{_≡_, sym}
+use mathlib.Core.Path.{_≡_}
 use lib.ListN.{length}
 use Rattle.label.proofs.Steps.{length-mapped}
 use Rattle.format.proofs.Writing.{writes-then}
 use Rattle.filetable.proofs.Octets.{table-octets}
 use Rattle.filetable.proofs.write_table.Statement.{statement}
 use Rattle.filetable.proofs.write_table.Tie as tie
-use Rattle.filetable.proofs.write_table.Reads as reads
-use Rattle.filetable.proofs.write_table.Lts as lts
-use Rattle.filetable.proofs.write_pairs.Reads as write-pairs-reads
-use Rattle.filetable.proofs.write_rows.Reads as write-rows-reads
-use Rattle.format.proofs.count_used.Reads as count-used-reads
-use Rattle.format.proofs.write_four.Reads as write-four-reads
-use Rattle.format.proofs.write_two.Reads as write-two-reads
 
 pairs-sized : (c : tie.Start) → length (c .args .renumbering .levels) ≡ 16
 pairs-sized c = search (length-mapped, needs)
@@ -55,7 +48,7 @@ same-length : tie.Need-same-length
 same-length c = search needs
 
 returns : tie.Need-returns
-returns c = 
+returns c =
     let b = c .before .before .before .before .before .before .before .before .before .before .before .before .before .before .before .before .before .before .before .before .before .before .before .before .before .before .before .before .before .before in
     rw (table-octets (b .args .renumbering) _ _ (pairs-sized b) (rows-sized b) (c .before .before .before .before .before .before .before .before .before .before .before .before .before .before .before .before .before .before .before .before .before .before .before .before .before .count-used .ensures .0) (c .before .before .before .before .before .before .before .before .before .before .before .before .before .before .before .before .before .before .before .before .before .before .before .before .count-used2 .ensures .0))
     (writes-then (c .before .before .before .before .before .before .before .before .before .before .before .before .before .before .before .before .before .before .before .before .before .before .write-four .ensures)
