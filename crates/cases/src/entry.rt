@@ -2,6 +2,8 @@
 use crate::decision_entries::ask_deliver;
 use crate::decision_entries::ask_forward;
 use crate::field::take_octet;
+use crate::file_entries::ask_read_file;
+use crate::file_entries::ask_read_write;
 use crate::label_entries::ask_contains;
 use crate::label_entries::ask_renumber;
 use crate::label_entries::ask_within;
@@ -22,6 +24,8 @@ pub fn answer(case: &[u8], out: &mut [u8], n: usize) -> usize {
         5 => ask_read(case, at, out, n),
         6 => ask_forward(case, at, out, n),
         7 => ask_deliver(case, at, out, n),
+        10 => ask_read_file(case, at, out, n),
+        11 => ask_read_write(case, at, out, n),
         _ => put_broken(out, n),
     }
 }

@@ -8,6 +8,7 @@ ghost use lib.ListN.{length};
 mod decision_entries;
 mod entry;
 mod field;
+mod file_entries;
 mod label_entries;
 mod line;
 mod option_entries;
@@ -27,9 +28,9 @@ use stream::stop;
 // Two octets of length and the longest case that they can lead, and as much again, so that what is moved to the front is less than what is read.
 const INPUT: usize = 131072;
 // How much of the output waits at a time.
-const OUTPUT: usize = 65536;
-// More octets than a line has: a decision with a label of 120 runs, and an output of 512 octets in hex, come to some 2,600.
-const LINE: usize = 4096;
+const OUTPUT: usize = 262144;
+// More octets than a line has: an output of 65,535 octets in hex has 131,070.
+const LINE: usize = 131200;
 
 // The line of a case of `size` octets in the window, or BROKEN where it is cut off. What waits is written where a line might not fit.
 fn answer_case(input: &[u8], out: &mut [u8], place: Place, size: usize) -> Place

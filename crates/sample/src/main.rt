@@ -1,17 +1,18 @@
-// The sample program (document 01, "The sample program"): records of an options area from standard input, each forwarded or dropped in one line.
+// The sample program (document 01, "The sample program"; document 02, wish 1): records of an options area from standard input, each forwarded or dropped in
+// one line by the first two ports and the first table of the file `gateway.bin`.
 ghost use Prim.Native.Nat.{_+_, _≤_};
 ghost use lib.ListN.{length};
 ghost use Rattle.lines.specs.Theorems.{Whole};
 ghost use Rattle.sample.specs.Sample.{areaLine};
+use file::FileRead;
+use file::read_file;
+use fileset::Set;
+use fileset::levels_of;
 use gateway::forward;
 use lines::put_broken;
 use lines::put_drop;
 use lines::put_forward;
 use port::Port;
-use sample_records::arriving;
-use sample_records::leaving;
-use sample_records::levels;
-use sample_records::table;
 use stream::Place;
 use stream::begin;
 use stream::feed;
@@ -19,6 +20,7 @@ use stream::flush;
 use stream::go_on;
 use stream::spare;
 use stream::stop;
+use table::Row;
 use table::Table;
 
 // How much of the input is held at a time: some 1,600 records of the longest area that can pass.
@@ -27,6 +29,37 @@ const INPUT: usize = 65536;
 const OUTPUT: usize = 65536;
 // The most octets of a line (crate `lines`, `Longest`): there is room for so many before one is put.
 const LINE: usize = 110;
+
+// One octet more than the longest file has: octets past it are noticed.
+const FILE: usize = 32769;
+
+// The set of the file `gateway.bin`; an unreadable file is an empty one, and so is refused.
+fn load() -> FileRead {
+    let mut octets = [0u8; FILE];
+    let fd = os::open_read(b"gateway.bin");
+    if fd < 0 {
+        return read_file(&octets[..0]);
+    }
+    let n = io::read_full(fd, &mut octets);
+    libc::close(fd);
+    read_file(&octets[..n])
+}
+
+// A table that says nothing of the two domains: with it a label has no number (16) where one is asked for.
+fn no_table(arriving: u32, leaving: u32) -> Table {
+    let none = Row {
+        low: 0,
+        high: 0,
+        target: 0,
+    };
+    Table {
+        from: leaving,
+        to: arriving,
+        pairs: 0,
+        count: 0,
+        rows: [none; 64],
+    }
+}
 
 // The line of one area, behind the octets that wait.
 fn answer(
@@ -116,11 +149,8 @@ fn record_size(n: u8) -> usize
     n as usize + 1
 }
 
-fn main() {
-    let arriving = arriving();
-    let leaving = leaving();
-    let table = table();
-    let levels = levels();
+// Answers every record of the input.
+fn run(arriving: Port, leaving: Port, table: Table, levels: [[u8; 2]; 16]) {
     let mut input = [0u8; INPUT];
     let mut out = [0u8; OUTPUT];
     let mut place = begin();
@@ -139,4 +169,42 @@ fn main() {
         turns -= 1;
     }
     flush(&out, place);
+}
+
+// Runs with the first two ports and the first table.
+fn run_set(set: Set) {
+    let arriving = set.ports[0];
+    let leaving = set.ports[1];
+    let first = set.tables[0];
+    if set.tablecount == 0 {
+        run(
+            arriving,
+            leaving,
+            no_table(arriving.domain, leaving.domain),
+            levels_of(first),
+        );
+        return;
+    }
+    let table = first.table;
+    run(arriving, leaving, table, levels_of(first));
+}
+
+fn say_broken() {
+    let mut out = [0u8; 16];
+    let n = put_broken(&mut out, 0);
+    flush(&out, stop(n));
+}
+
+fn main() {
+    let file = load();
+    if file.verdict != 0 {
+        say_broken();
+        return;
+    }
+    let set = file.set;
+    if set.portcount < 2 {
+        say_broken();
+        return;
+    }
+    run_set(set);
 }

@@ -1,27 +1,15 @@
--- `sample::main` meets its contract.
+-- `sample::run` meets its contract.
 use borrow.Author.Needs.{needs}
 use mathlib.Core.Path.{_≡_}
 use lib.ListN.{length}
-use Rattle.sample.proofs.main.Statement.{statement}
-use Rattle.sample.proofs.main.Tie as tie
+use Rattle.sample.proofs.run.Statement.{statement}
+use Rattle.sample.proofs.run.Tie as tie
 
 abbrev Inv-loop : tie.InvT-loop
 Inv-loop arriving leaving table levels input₀ out₀ place₀ turns₀ input out place turns = (length input ≡ 65536) × (length out ≡ 65536)
 
 abbrev μ-loop : tie.MeasureT-loop
 μ-loop arriving leaving table levels input₀ out₀ place₀ turns₀ input out place turns = turns
-
-arriving-requires : tie.Need-arriving-requires Inv-loop μ-loop
-arriving-requires c κs = search needs
-
-leaving-requires : tie.Need-leaving-requires Inv-loop μ-loop
-leaving-requires c κs = search needs
-
-table-requires : tie.Need-table-requires Inv-loop μ-loop
-table-requires c κs = search needs
-
-levels-requires : tie.Need-levels-requires Inv-loop μ-loop
-levels-requires c κs = search needs
 
 begin-requires : tie.Need-begin-requires Inv-loop μ-loop
 begin-requires c κs = search needs
@@ -56,16 +44,12 @@ flush-requires c κs = search needs
 returns : tie.Need-returns Inv-loop μ-loop
 returns c = search needs
 
-pub main-spec : {M : Type 1} → statement M
-main-spec =
+pub run-spec : {M : Type 1} → statement M
+run-spec =
     tie.close
     (tie.spec
     Inv-loop
     μ-loop
-    arriving-requires
-    leaving-requires
-    table-requires
-    levels-requires
     begin-requires
     loop-holds
     slice-aggregate-turn

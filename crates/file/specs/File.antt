@@ -1,0 +1,57 @@
+-- docs/FILE.md, the file, version 1. The layout's row: length of the whole file (2), version (1), port count (1), the ports, table count (1), the tables.
+use mathlib.Core.Bool.{Bool, true, false, cond, not, _&&_}
+use mathlib.Core.List.{List}
+use mathlib.Core.Path.{_≡_}
+use Prim.Native.Nat.{ℕ, _+_}
+use lib.Dec.{leb, ltb, eqb}
+use lib.ListN.{length}
+use Rattle.format.specs.Format.{Format, Found, got, bad, one, two, number, _then_, _such_, octets, readAt, paint}
+use Rattle.fileset.specs.declared.Set.{Set}
+use Rattle.fileset.specs.Set.{emptySet, setSound}
+use Rattle.file.specs.declared.FileRead.{FileRead}
+use Rattle.file.specs.declared.Written.{Written}
+use Rattle.file.specs.SetFormat.{setFormat}
+
+-- a file of `total` octets. Its size is a rule over the two fields of its head, and so blames octet 0 when the version has passed
+unfoldable pub fileFormat : ℕ → Format ((ℕ × ℕ) × Set)
+fileFormat total =
+    (number two total total then λ length. number one 1 1) such (λ head. leb total 32768)
+    then λ head. setFormat
+
+-- 1. The reader's answers.
+
+-- 0: accepted, with the set
+abbrev pub accepted : Set → FileRead
+accepted s = record { verdict = 0; at = 0; set = s }
+
+-- 1: the place of the first octet of the first bad field
+abbrev pub refused : ℕ → FileRead
+refused n = record { verdict = 1; at = n; set = emptySet }
+
+-- 2: a version that is not known, refused by name
+abbrev pub unknown : FileRead
+unknown = record { verdict = 2; at = 2; set = emptySet }
+
+-- octets after the last table are blamed at the first of them; the version is the field at place 2, and where it is there and bad it is not known
+unfoldable pub answered : ℕ → Found ((ℕ × ℕ) × Set) → FileRead
+answered total (got v n) = cond (eqb n total) (accepted (v .1)) (refused n)
+answered total (bad n) = cond (eqb n 2 && ltb 2 total) unknown (refused n)
+
+unfoldable pub fileReading : List ℕ → FileRead
+fileReading s = answered (length s) (readAt (fileFormat (length s)) s 0)
+
+-- 2. The one file of a set, and what the writer does: 2 for an unsound set, then 1 for an output that is too short, else the file.
+
+abbrev pub totalOf : Set → ℕ
+totalOf s = 3 + length (octets setFormat s)
+
+unfoldable pub fileOctets : Set → List ℕ
+fileOctets s = octets (fileFormat (totalOf s)) ((totalOf s, 1), s)
+
+unfoldable pub writtenOf : Set → ℕ → Written
+writtenOf s room =
+    cond (setSound s) (cond (leb (totalOf s) room) (record { number = 0; count = totalOf s }) (record { number = 1; count = 0 })) (record { number = 2; count = 0 })
+
+-- the output at the end: nothing is written on a refusal, and octets past the file are kept
+unfoldable pub outputOf : Set → List ℕ → List ℕ
+outputOf s out = cond (setSound s && leb (totalOf s) (length out)) (paint 0 (fileOctets s) out) out

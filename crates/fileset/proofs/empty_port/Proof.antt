@@ -1,0 +1,14 @@
+-- `fileset::empty_port` meets its contract.
+use borrow.Author.Needs.{needs}
+use mathlib.Core.Path.{refl}
+use Rattle.fileset.proofs.empty_port.Statement.{statement}
+use Rattle.fileset.proofs.empty_port.Tie as tie
+
+empty-requires : tie.Need-empty-requires
+empty-requires c κs = search needs
+
+returns : tie.Need-returns
+returns c = rw (c .empty .ensures) refl
+
+pub empty-port-spec : {M : Type 1} → statement M
+empty-port-spec = tie.close (tie.spec empty-requires returns)

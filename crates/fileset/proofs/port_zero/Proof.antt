@@ -1,0 +1,23 @@
+-- `fileset::port_zero` meets its contract.
+use borrow.Author.Needs.{needs}
+use mathlib.Core.Path.{refl}
+use Rattle.fileset.specs.Set.{zeroPort}
+use Rattle.fileset.proofs.port_zero.Statement.{statement}
+use Rattle.fileset.proofs.port_zero.Tie as tie
+
+is-zero-requires : tie.Need-is-zero-requires
+is-zero-requires c κs = search needs
+
+is-zero-requires-2 : tie.Need-is-zero-requires-2
+is-zero-requires-2 c κs = search needs
+
+is-zero-requires-3 : tie.Need-is-zero-requires-3
+is-zero-requires-3 c κs = search needs
+
+returns : tie.Need-returns
+unfolding zeroPort
+returns c = rw (c .before .before .before .before .is-zero .ensures, c .before .before .before .is-zero2 .ensures, c .before .before .is-zero3 .ensures) refl
+
+pub port-zero-spec : {M : Type 1} → statement M
+port-zero-spec =
+    tie.close (tie.spec is-zero-requires is-zero-requires-2 is-zero-requires-3 returns)

@@ -1,0 +1,4 @@
+pub mod Apart
+pub mod Rows
+pub mod Octets
+pub mod Soundness

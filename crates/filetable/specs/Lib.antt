@@ -1,0 +1,3 @@
+pub mod TableFormat
+pub mod Stages
+pub mod Theorems

@@ -1,0 +1,6 @@
+pub mod Numbers
+pub mod Formats
+pub mod Loops
+pub mod Writing
+pub mod Told
+pub mod Places
