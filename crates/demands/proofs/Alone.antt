@@ -20,10 +20,9 @@ use Rattle.table.specs.declared.Table.{Table}
 use Rattle.table.specs.declared.Partner.{Partner}
 use Rattle.table.specs.declared.Partner.the-variants.{Level, Missing}
 use Rattle.table.specs.Table.{usedRows, tableSound}
-use Rattle.table.specs.Numbers.{partnerOf, numbered}
+use Rattle.table.specs.Numbers.{partnerOf, known, numbered}
 use Rattle.renumber.specs.Renumber as renumbers
 use Rattle.renumber.specs.Renumber.{imageRuns, whenNumbered, renumberedOf}
-use Rattle.gateway.specs.Crossing.{known}
 use Rattle.demands.specs.Alone.{readChecks, spellChecks, renumberChecks, NoneApply, FirstCheck, AskedAlone}
 use Rattle.demands.proofs.Renumbering.{renumber-alone}
 

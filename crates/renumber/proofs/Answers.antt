@@ -1,10 +1,9 @@
 -- Laws of the answers: each by the checks that led to it.
 use mathlib.Core.Path.{_≡_, refl, sym, _∙_, ap}
-use mathlib.Core.Bool.{Bool, true, false, cond, and-false, _&&_}
+use mathlib.Core.Bool.{Bool, true, false, and-false}
 use mathlib.Core.List.{List, _++_}
 use Prim.Native.Nat.{ℕ, _-_, _≤_, _<_}
 use native.Mathlib.Omega.{arith}
-use lib.Dec.{leb}
 use lib.ListN.{length, take, replicate, length-map, length-append, length-replicate}
 use lib.Seq.{length-take-le, take-at}
 use borrow.Author.Tests.{le-leb, lt-leb, eq-eqb, ne-eqb}
@@ -18,14 +17,14 @@ use Rattle.table.specs.declared.Table.{Table}
 use Rattle.table.specs.declared.Partner.{Partner}
 use Rattle.table.specs.declared.Partner.the-variants.{Level, Missing}
 use Rattle.table.specs.Table.{usedRows, tableSound}
-use Rattle.table.specs.Numbers.{partnerOf, known, levelOr0, numbered}
+use Rattle.table.specs.Numbers.{partnerOf, numbered}
 use Rattle.table.specs.Order.{rowOrder, orderOf}
 use Rattle.table.proofs.Sound.{sound}
 use Rattle.table.proofs.Order.{order-length}
 use Rattle.renumber.specs.declared.Renumbered.{Renumbered}
 use Rattle.renumber.specs.declared.Carried.{Carried}
 use Rattle.renumber.specs.Renumber.{refusal, fitted, imageOf, imageRuns, whenNumbered, renumberedOf, carriedOf}
-use Rattle.renumber.specs.Carry.{labelRuns, notCarried, carriedTo}
+use Rattle.renumber.specs.Carry.{labelRuns, carriedTo}
 use Rattle.renumber.specs.Stages.{Ready}
 use Rattle.renumber.proofs.Carrying.{runs-label}
 

@@ -11,7 +11,7 @@ use lib.ListN.{length, take, drop, getD, length-append, take-append-drop}
 use lib.Seq.{take-suc, getD-drop}
 use borrow.Author.Tests.{le-leb, lt-leb, leb-true, leb-false}
 use Rattle.label.specs.declared.Run.{Run}
-use Rattle.label.specs.Runs.{run, inRun, covers, spaced}
+use Rattle.label.specs.Runs.{inRun, covers, spaced}
 use Rattle.label.proofs.Bools.{and-left, and-right, and-both}
 use Rattle.label.proofs.Runs.{first, lower, covers-append}
 use Rattle.table.specs.declared.Row.{Row}
@@ -20,7 +20,7 @@ use Rattle.table.specs.Numbers.{inImage}
 use Rattle.table.specs.Order.{orderKeys, rowOrder, rowAt, inOrder}
 use Rattle.table.specs.Stages.{chain}
 use Rattle.table.proofs.Rows.{good, order-rows, targets-chain}
-use Rattle.order.specs.Order.{Sorted, all, insertKey, sortOnto, sortKeys}
+use Rattle.order.specs.Order.{Sorted, all, insertKey, sortOnto}
 use Rattle.order.proofs.Laws.{sort-all}
 use Rattle.order.proofs.Merge.{sorted-lower}
 use Rattle.renumber.specs.Sets.{runsOf}

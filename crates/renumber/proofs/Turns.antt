@@ -4,7 +4,7 @@ use mathlib.Core.List.{List, [], _∷_, _++_, append-assoc}
 use Prim.Native.Nat.{ℕ, suc, _+_, _-_, _/_, _%_, _≤_, _<_}
 use native.Mathlib.Omega.{arith}
 use lib.ListN.{length, take, drop, getD, set}
-use lib.Seq.{take-suc, drop-drop, drop-set-lt}
+use lib.Seq.{take-suc, drop-drop}
 use borrow.Author.Tests.{le-leb, lt-leb}
 use Rattle.order.proofs.Merge.{put}
 use Rattle.renumber.specs.Stages.{stretched, pushKey}

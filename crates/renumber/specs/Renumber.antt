@@ -1,7 +1,6 @@
 -- Document 01, "Labels" ("Asked alone"), "Records", and the numbers 16, 17 and 18 of "The order of checks": a label carried to the far domain.
-use mathlib.Core.Bool.{Bool, true, cond, _&&_}
+use mathlib.Core.Bool.{Bool, cond, _&&_}
 use mathlib.Core.List.{List}
-use mathlib.Core.Path.{_≡_}
 use Prim.Native.Nat.{ℕ}
 use lib.Dec.{leb, eqb}
 use lib.ListN.{length, take}

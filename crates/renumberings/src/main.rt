@@ -2,6 +2,7 @@
 use label::Label;
 use label::Look;
 use label::Run;
+use renumber::MOST_RUNS;
 use renumber::Renumbered;
 use table::Row;
 use table::Table;
@@ -142,7 +143,7 @@ fn toward(
 ) -> Renumbered {
     let mut own = [0u32; 120];
     label::label_keys(label, &mut own);
-    let mut far = [0u32; 184];
+    let mut far = [0u32; MOST_RUNS];
     let carried = renumber::carry(&own, label.count, label.level, table, levels, &mut far);
     if carried.number != 0 {
         return refused(carried.number);

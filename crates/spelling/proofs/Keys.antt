@@ -1,11 +1,11 @@
 -- Laws of spelling on keys: what each return answers, and a label's keys in place of its runs.
-use Prim.Native.Nat.{ℕ, _+_, _-_, _*_, _/_, _%_, _≤_, _<_}
+use Prim.Native.Nat.{ℕ, zero, suc, _+_, _-_, _*_, _/_, _%_, _≤_, _<_}
 use mathlib.Core.Path.{_≡_, refl, ap, sym, _∙_}
 use mathlib.Core.Bool.{true, cond}
-use mathlib.Core.List.{List, _++_, map}
+use mathlib.Core.List.{List, [], _∷_, _++_, map}
 use mathlib.Core.Option.{Option, none, some}
-use lib.ListN.{length, getD, take, drop, length-map, length-append}
-use lib.Seq.{length-take-le, take-at}
+use lib.ListN.{length, getD, take, drop, set, length-map}
+use lib.Seq.{take-at}
 use lib.Dec.{eqb}
 use native.Mathlib.Omega.{arith}
 use borrow.Author.Tests.{le-leb, lt-leb, lt-ltb, le-ltb}
@@ -13,7 +13,7 @@ use Rattle.label.specs.declared.Run.{Run}
 use Rattle.label.specs.declared.Label.{Label}
 use Rattle.label.specs.Runs.{countOf}
 use Rattle.label.specs.Label.{noRun, used, wellFormed}
-use Rattle.label.specs.Keys.{keyRun, keyRuns, runKey, keysFit, withKeys}
+use Rattle.label.specs.Keys.{keyRun, keyRuns, runKey}
 use Rattle.label.proofs.Labels.{formed, used-length}
 use Rattle.label.proofs.Keys.{key-at, keys-runs}
 use Rattle.option.specs.Spelling.{spellingOf, spelledOf}
@@ -71,34 +71,38 @@ keys-put d v ks rs out e h long =
     let s : keysSpelled d v ks ≡ spellingOf d v rs = keys-spelled d v ks rs e h in
     (rw (le-ltb (length out) 40 long) (ap lengthOf s), rw (le-ltb (length out) 40 long) (ap (λ (o : Option (List ℕ)). inFront o out) s))
 
--- A well-formed label's keys in a list with room for them.
-module _ (l : Label) (was keys : List ℕ) (w : wellFormed l ≡ true) (long : 120 ≤ length was) (e : keys ≡ withKeys l was) where
-  filled : keys ≡ map runKey (used l) ++ drop (l .count) was
-  unfolding keysFit withKeys
-  filled =
-      let h : l .count ≤ 120 = formed l w .held in
-      e ∙ rw (le-leb (l .count) 120 h, le-leb (l .count) (length was) (omega arith))
-
-  mapped : length (map runKey (used l)) ≡ l .count
-  mapped = length-map (used l) runKey ∙ used-length l (formed l w)
-
-  -- as many keys as the label counts
-  pub keys-held : l .count ≤ length keys
-  keys-held = omega (arith, ap length filled, length-append (map runKey (used l)) (drop (l .count) was), mapped)
-
-  pub keys-counted : l .count ≡ length (take (l .count) keys)
-  keys-counted = sym (length-take-le (l .count) keys keys-held)
-
-  pub label-runs : keyRuns (take (l .count) keys) ≡ used l
-  label-runs =
-      ap (λ (z : List ℕ). keyRuns (take (l .count) z)) filled
+-- A well-formed label's keys at the front of a list.
+module _ (l : Label) (w : wellFormed l ≡ true) where
+  -- all of them
+  pub keys-front : (was keys : List ℕ) → keys ≡ map runKey (used l) ++ drop (l .count) was → keyRuns (take (l .count) keys) ≡ used l
+  keys-front was keys e =
+      let mapped : length (map runKey (used l)) ≡ l .count = length-map (used l) runKey ∙ used-length l (formed l w) in
+      ap (λ (z : List ℕ). keyRuns (take (l .count) z)) e
       ∙ ap keyRuns (take-at (map runKey (used l)) (drop (l .count) was) (l .count) mapped)
       ∙ keys-runs 0 (used l) (formed l w .runs)
 
+  -- at most one
+  pub keys-first : (ks : List ℕ) (key : ℕ) → key ≡ runKey (getD (l .runs) 0 noRun) → l .count ≤ 1 → 0 < length (l .runs) → 0 < length ks
+      → keyRuns (take (l .count) (set ks 0 key)) ≡ used l
+  keys-first ks key e h m n =
+      let same : take (l .count) (set ks 0 key) ≡ map runKey (used l) = rw e (first (l .count) (l .runs) ks h m n) in
+      ap keyRuns same ∙ keys-runs 0 (used l) (formed l w .runs)
+    where
+      first : (c : ℕ) (rs : List Run) (ks : List ℕ) → c ≤ 1 → 0 < length rs → 0 < length ks → take c (set ks 0 (runKey (getD rs 0 noRun))) ≡ map runKey (take c rs)
+      first c [] ks h m n = absurd (omega arith)
+      first c (r ∷ rs) [] h m n = absurd (omega arith)
+      first zero (r ∷ rs) (k ∷ ks) h m n = refl
+      first (suc zero) (r ∷ rs) (k ∷ ks) h m n = refl
+      first (suc (suc c)) (r ∷ rs) (k ∷ ks) h m n = absurd (omega arith)
+
+  -- as many as the label counts
+  pub keys-held : (keys : List ℕ) → 120 ≤ length keys → l .count ≤ length keys
+  keys-held keys h = omega (arith, formed l w .held)
+
   -- what writing them does
-  pub label-put : (out out′ : List ℕ) (r : ℕ) → 40 ≤ length out
+  pub label-put : (keys out out′ : List ℕ) (r : ℕ) → keyRuns (take (l .count) keys) ≡ used l → 40 ≤ length out
       → (r ≡ keysCount (l .domain) (l .level) (take (l .count) keys) (length out)) × (out′ ≡ keysWritten (l .domain) (l .level) (take (l .count) keys) out)
       → (r ≡ lengthOf (spelledOf l)) × (out′ ≡ inFront (spelledOf l) out)
-  label-put out out′ r h c =
-      let p = keys-put (l .domain) (l .level) (take (l .count) keys) (used l) out label-runs (omega (arith, used-length l (formed l w), formed l w .held)) h in
+  label-put keys out out′ r e h c =
+      let p = keys-put (l .domain) (l .level) (take (l .count) keys) (used l) out e (omega (arith, used-length l (formed l w), formed l w .held)) h in
       (c .0 ∙ p .0, c .1 ∙ p .1)

@@ -57,6 +57,28 @@ module _ (f : ℕ → ℕ) where
       next : 2 * suc k ≡ suc (suc (2 * k))
       next = omega arith
 
+  -- the last of m numbers, a top without its bottom
+  pub top-store : (out was a : List ℕ) (j m x : ℕ) → 4 * j + 1 < length out → was ≡ numbersOut f (2 * j) ++ drop (2 * (2 * j)) out → x ≡ f (2 * j)
+      → a ≡ set (set was (2 * (2 * j)) (x / 256)) (2 * (2 * j) + 1) (x % 256) → 2 * j + 1 ≡ m → a ≡ numbersOut f m ++ drop (2 * m) out
+  top-store out was a j m x h w p d e =
+      d
+      ∙ ap (λ (z : List ℕ). set (set z (2 * (2 * j)) (x / 256)) (2 * (2 * j) + 1) (x % 256)) w
+      ∙ numbers-store out (2 * j) x (omega arith) p
+      ∙ ap (λ (k : ℕ). numbersOut f k ++ drop (2 * k) out) e
+
+  -- two numbers more, the ends of pair j
+  pub pair-store : (out was a b : List ℕ) (j x y : ℕ) → 4 * j + 3 < length out → was ≡ numbersOut f (2 * j) ++ drop (2 * (2 * j)) out → x ≡ f (2 * j) → y ≡ f (2 * j + 1)
+      → a ≡ set (set was (2 * (2 * j)) (x / 256)) (2 * (2 * j) + 1) (x % 256)
+      → b ≡ set (set a (2 * (2 * j + 1)) (y / 256)) (2 * (2 * j + 1) + 1) (y % 256)
+      → b ≡ numbersOut f (2 * (j + 1)) ++ drop (2 * (2 * (j + 1))) out
+  pair-store out was a b j x y h w p q d e =
+      let first : a ≡ numbersOut f (2 * j + 1) ++ drop (2 * (2 * j + 1)) out = top-store out was a j (2 * j + 1) x (omega arith) w p d refl in
+      let n : 2 * j + 1 + 1 ≡ 2 * (j + 1) = omega arith in
+      e
+      ∙ ap (λ (z : List ℕ). set (set z (2 * (2 * j + 1)) (y / 256)) (2 * (2 * j + 1) + 1) (y % 256)) first
+      ∙ numbers-store out (2 * j + 1) y (omega arith) q
+      ∙ ap (λ (k : ℕ). numbersOut f k ++ drop (2 * k) out) n
+
 -- Tag 2: j categories of the first run that is left are written, and k in all.
 abbrev pub Within : List Run → ℕ → Type 0
 Within [] j = Unit {0}
@@ -117,9 +139,18 @@ all-written rs {j} {k} w h =
     let n : length (drop j (numbersOf [])) ≡ 0 = omega (arith, length-drop j (numbersOf [])) in
     omega (arith, length-drop k (numbersOf rs), ap length (w .rest), numbers-count rs)
 
--- Tag 5: the end that is read is the number of the definition.
-pub end-is : (ks : List ℕ) (n k : ℕ) → n ≡ length ks → cond (eqb (k % 2) 0) (getD ks (n - 1 - k / 2) 0 % 65536) (getD ks (n - 1 - k / 2) 0 / 65536) ≡ pairNumber (keyRuns ks) k
-end-is ks n k e = rw (e, length-map ks keyRun, key-at ks (length ks - 1 - k / 2))
+-- Tag 5: the ends of a key's run are the numbers of the definition.
+pub top-is : (ks : List ℕ) (j : ℕ) → getD ks (length ks - 1 - j) 0 % 65536 ≡ pairNumber (keyRuns ks) (2 * j)
+top-is ks j =
+    let half : 2 * j / 2 ≡ j = omega arith in
+    let even : 2 * j % 2 ≡ 0 = omega arith in
+    rw (length-map ks keyRun, half, even, key-at ks (length ks - 1 - j))
+
+pub bottom-is : (ks : List ℕ) (j : ℕ) → getD ks (length ks - 1 - j) 0 / 65536 ≡ pairNumber (keyRuns ks) (2 * j + 1)
+bottom-is ks j =
+    let half : (2 * j + 1) / 2 ≡ j = omega arith in
+    let odd : (2 * j + 1) % 2 ≡ 1 = omega arith in
+    rw (length-map ks keyRun, half, odd, key-at ks (length ks - 1 - j))
 
 -- One key more, as a loop meets it.
 pub next-key : (ks : List ℕ) (i : ℕ) → i < length ks → drop i (keyRuns ks) ≡ keyRun (getD ks i 0) ∷ drop (i + 1) (keyRuns ks)

@@ -1,19 +1,20 @@
 // Spelling: the one shortest option of a label is chosen and written (document 01, "Option and tags" and "Asked alone").
 ghost use mathlib.Core.Path.{_≡_};
-ghost use mathlib.Core.Bool.{cond, _&&_};
-ghost use mathlib.Core.List.{_++_};
-ghost use Prim.Native.Nat.{ℕ, _+_, _-_, _*_, _/_, _%_, _≤_, _<_};
+ghost use mathlib.Core.Bool.{true, cond, _&&_};
+ghost use mathlib.Core.List.{map, _++_};
+ghost use Prim.Native.Nat.{ℕ, _+_, _-_, _*_, _/_, _%_, _^_, _≤_, _<_};
 ghost use lib.Dec.{leb, eqb};
-ghost use lib.ListN.{length, drop, replicate};
-ghost use Rattle.label.specs.Runs.{covers, countOf};
-ghost use Rattle.label.specs.Keys.{keyRun, keyRuns};
+ghost use lib.ListN.{length, take, drop, set, replicate};
+ghost use Rattle.label.specs.Runs.{spaced, unused, covers, countOf};
+ghost use Rattle.label.specs.Label.{used, wellFormed};
+ghost use Rattle.label.specs.Keys.{keyRun, keyRuns, runKey};
 ghost use Rattle.option.specs.Spelling.{octetsOf, octetsOut, numbersOf, tagFor, bodyFor};
 ghost use Rattle.option.specs.Index.{numbersOut, pairNumber};
 ghost use Rattle.spelling.specs.Spelling.{lengthOf, spellingAnswer, spellingOut};
 ghost use Rattle.spelling.specs.Keys.{keysSpelled, keysCount, keysWritten};
 ghost use Rattle.spelling.specs.Stages.{capped, leastOf, choiceOf, headOf, zeroed, RunAdded};
 use label::Label;
-use label::label_keys;
+use label::Run;
 use option::ALIGNMENT_AT;
 use option::CATEGORIES_AT;
 use option::DOMAIN_AT;
@@ -58,15 +59,14 @@ pub fn spell_label(label: Label, out: &mut [u8]) -> Spelling
             count: 0,
         };
     }
-    if !label.well_formed() {
+    let n = label.count;
+    let mut keys = [0u32; 120];
+    if !keys_formed(label, &mut keys) {
         return Spelling {
             number: 2,
             count: 0,
         };
     }
-    let n = label.count;
-    let mut keys = [0u32; 120];
-    label_keys(label, &mut keys);
     let length = write_keys(&keys[..n], label.domain, label.level, &mut out[..]);
     if length == 0 {
         return Spelling {
@@ -79,6 +79,67 @@ pub fn spell_label(label: Label, out: &mut [u8]) -> Spelling
         number: 0,
         count: length,
     }
+}
+
+// Whether the label is well formed; then its keys stand at the front of the list.
+fn keys_formed(label: Label, keys: &mut [u32]) -> bool
+    requires { ⌜ 120 ≤ length (now keys) ⌝ }
+    ensures { λ r. ⌜ (r ≡ wellFormed label) × (r ≡ true → keyRuns (take (label .count) (now (keys .exit))) ≡ used label) × (length (now (keys .exit)) ≡ length (now (keys .entry))) ⌝ }
+{
+    let n = label.count;
+    if n <= 1 {
+        // no place is indexed by a number that is not fixed, so that the label is not copied
+        let run = label.runs[0];
+        keys[0] = key_of(run);
+        return label.well_formed();
+    }
+    if label.domain == 0 {
+        return false;
+    }
+    if Label::MAX_RUNS < n {
+        return false;
+    }
+    runs_formed(label, keys)
+}
+
+fn key_of(run: Run) -> u32
+    ensures { λ r. ⌜ r ≡ runKey run ⌝ }
+{
+    (run.low as u32) * 65536 + (run.high as u32)
+}
+
+// The run's two numbers as they lie in memory: one load.
+fn word(run: Run) -> u32
+    ensures { λ r. ⌜ r ≡ run .low + run .high * 65536 ⌝ }
+{
+    run.low as u32 + (run.high as u32) * 65536
+}
+
+// The form of a label's runs, as crate `label` looks at it, and their keys, in one pass: the label is copied once.
+fn runs_formed(label: Label, keys: &mut [u32]) -> bool
+    requires { ⌜ (label .count ≤ 120) × (120 ≤ length (now keys)) ⌝ }
+    ensures { λ r. ⌜ (r ≡ (spaced 0 (used label) && unused (drop (label .count) (label .runs)))) × (now (keys .exit) ≡ map runKey (used label) ++ drop (label .count) (now (keys .entry))) ⌝ }
+{
+    let n = label.count;
+    let mut good = true;
+    let mut floor: u32 = 0;
+    let mut i: usize = 0;
+    while i < n {
+        let run = label.runs[i];
+        let low = run.low as u32;
+        let high = run.high as u32;
+        good = good & (floor <= low) & (low <= high);
+        floor = high + 2;
+        keys[i] = key_of(run);
+        i += 1;
+    }
+    let mut rest: u32 = 0;
+    while i < 120 {
+        let run = label.runs[i];
+        rest = rest | word(run);
+        i += 1;
+    }
+    good & (floor <= 65536) & (rest == 0)
 }
 
 // The length of the spelling of the keys' runs, in any domain at any level, or 0 where they have none.
@@ -244,6 +305,14 @@ fn clear_front(n: usize, out: &mut [u8])
     }
 }
 
+// An octet's ones from a bit on; bit 0 is the top one.
+fn ones_from(bit: usize) -> u8
+    requires { ⌜ bit < 8 ⌝ }
+    ensures { λ r. ⌜ r ≡ 255 / 2 ^ bit ⌝ }
+{
+    255 >> bit
+}
+
 // A run's bits are added to n octets of a bitmap: ones from its first bit on, without those after its last. What lies past the n octets is
 // left out.
 fn add_run(key: u32, n: usize, out: &mut [u8])
@@ -256,7 +325,7 @@ fn add_run(key: u32, n: usize, out: &mut [u8])
         return;
     }
     let last = high / 8;
-    let mut ones: u8 = 255 >> (low % 8);
+    let mut ones = ones_from(low % 8);
     let mut o = low / 8;
     while o < n {
         if o == last {
@@ -296,41 +365,52 @@ fn write_numbers(keys: &[u32], out: &mut [u8])
     while i < m {
         let key = keys[i];
         let x = ((key / 65536) as usize) + j;
-        if ((key % 65536) as usize) < x {
+        let high = (key % 65536) as usize;
+        if high < x {
             i += 1;
             j = 0;
         } else {
             out[2 * k] = (x / 256) as u8;
             out[2 * k + 1] = (x % 256) as u8;
             k += 1;
-            j += 1;
+            // a run's last category: the next turn has the next run
+            if high == x {
+                i += 1;
+                j = 0;
+            } else {
+                j += 1;
+            }
         }
     }
 }
 
-// One end of a key's run: its top, then its bottom.
-fn end_of(key: u32, k: usize) -> u32
-    ensures { λ x. ⌜ (x ≡ cond (eqb (k % 2) 0) (key % 65536) (key / 65536)) × (x < 65536) ⌝ }
+// Number k, in two octets.
+fn put_number(k: usize, x: u32, out: &mut [u8])
+    requires { ⌜ (2 * k + 1 < length (now out)) × (k ≤ 300) × (x < 65536) ⌝ }
+    ensures { λ _. ⌜ (now (out .exit) ≡ set (set (now (out .entry)) (2 * k) (x / 256)) (2 * k + 1) (x % 256)) × (length (now (out .exit)) ≡ length (now (out .entry))) ⌝ }
 {
-    if k % 2 == 0 {
-        return key % 65536;
-    }
-    key / 65536
+    out[2 * k] = (x / 256) as u8;
+    out[2 * k + 1] = (x % 256) as u8;
 }
 
-// Tag 5: the first m ends, from the last run to the first; m is odd where the last bottom is left out.
+// Tag 5: the first m ends, from the last run to the first, each run's top and then its bottom; m is odd where the last bottom is left out.
 fn write_pairs(keys: &[u32], m: usize, out: &mut [u8])
     requires { ⌜ (length (now keys) ≤ 120) × (m ≤ 2 * length (now keys)) × (2 * m ≤ length (now out)) ⌝ }
     ensures { λ _. ⌜ now (out .exit) ≡ numbersOut (pairNumber (keyRuns (now (keys .entry)))) m ++ drop (2 * m) (now (out .entry)) ⌝ }
 {
     let n = keys.len();
-    let mut k: usize = 0;
-    while k < m {
-        let j = n - 1 - k / 2;
-        let x = end_of(keys[j], k);
-        out[2 * k] = (x / 256) as u8;
-        out[2 * k + 1] = (x % 256) as u8;
-        k += 1;
+    let pairs = m / 2;
+    let mut j: usize = 0;
+    while j < pairs {
+        let at = n - 1 - j;
+        let key = keys[at];
+        put_number(2 * j, key % 65536, &mut out[..]);
+        put_number(2 * j + 1, key / 65536, &mut out[..]);
+        j += 1;
+    }
+    if 2 * j < m {
+        let at = n - 1 - j;
+        put_number(2 * j, keys[at] % 65536, &mut out[..]);
     }
 }
 

@@ -1,13 +1,13 @@
 -- Laws of the loops over rows: one row more is written down, read along the order, or found unused.
 use mathlib.Core.Path.{_≡_, refl, sym, _∙_, ap}
 use mathlib.Core.Bool.{Bool, true, false, true≢false, not, _&&_, and-false}
-use mathlib.Core.List.{List, [], _∷_, _++_, map, append-assoc}
+use mathlib.Core.List.{List, [], _∷_, _++_, append-assoc}
 use Prim.Native.Nat.{ℕ, zero, suc, _+_, _-_, _*_, _%_, _≤_, _<_}
 use native.Mathlib.Omega.{arith}
 use native.Mathlib.Numerals.{add-one}
-use lib.Bits.{bitOr, bitAnd, or-add-and, and-le-l, and-le-r}
+use lib.Bits.{bitOr, or-add-and, and-le-l, and-le-r}
 use lib.Dec.{leb, ltb, eqb}
-use lib.ListN.{length, take, drop, getD, set, replicate, length-drop, length-map, length-append, replicate-append-replicate, List·getD-map}
+use lib.ListN.{length, take, drop, getD, set, replicate, length-drop, length-map, replicate-append-replicate, List·getD-map}
 use lib.Seq.{take-suc, set-at, take-at, drop-at, length-take-le, getD-take}
 use borrow.Author.Tests.{le-leb, leb-true, ltb-true, lt-ltb, eqb-true, eq-eqb}
 use Rattle.label.proofs.Bools.{and-left, and-right, same-yes, and-both}

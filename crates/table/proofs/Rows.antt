@@ -1,17 +1,17 @@
 -- Laws of rows: disjoint targets by their order, and the parts of rows that rise.
 use mathlib.Core.Path.{_≡_, refl, sym, _∙_, ap}
 use mathlib.Core.Bool.{Bool, true, false, cond, _&&_, _||_}
-use mathlib.Core.List.{List, [], _∷_, _++_, map}
-use lib.ListN.{length, take, drop, getD}
+use mathlib.Core.List.{List, [], _∷_, map}
+use lib.ListN.{length, drop, getD}
 use lib.Seq.{getD-drop, drop-drop}
-use Prim.Native.Nat.{ℕ, zero, suc, _+_, _-_, _*_, _/_, _%_, _≤_, _<_}
+use Prim.Native.Nat.{ℕ, _+_, _*_, _/_, _%_, _≤_, _<_}
 use native.Mathlib.Omega.{arith}
 use native.Mathlib.Decide.{decLe}
 use lib.Dec.{leb, ltb, eqb}
-use borrow.Author.Tests.{le-leb, lt-leb, leb-true, ltb-true, lt-ltb, le-ltb, eqb-true, eq-eqb}
+use borrow.Author.Tests.{le-leb, lt-leb, leb-true, lt-ltb, le-ltb, eqb-true, eq-eqb}
 use Rattle.label.proofs.Bools.{and-left, and-right}
 use Rattle.order.specs.Order.{Sorted, all, insertKey, sortOnto, sortKeys}
-use Rattle.order.proofs.Laws.{insert-all, sort-sorted, sort-all, sort-length}
+use Rattle.order.proofs.Laws.{insert-all, sort-sorted, sort-all}
 use Rattle.order.proofs.Merge.{sorted-self}
 use Rattle.table.specs.declared.Row.{Row}
 use Rattle.table.specs.Table.{noRow, targetEnd, rising, apart, apartFrom, targetsApart}

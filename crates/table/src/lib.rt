@@ -3,7 +3,7 @@ ghost use mathlib.Core.Path.{_≡_};
 ghost use mathlib.Core.Bool.{true};
 ghost use Prim.Native.Nat.{_+_, _*_, _≤_};
 ghost use lib.ListN.{length, take, drop, replicate};
-ghost use Rattle.table.specs.Table.{usedRows, rising, unusedRows, targetsApart, rowsSound, levelsRise, unusedPairs, levelsSound, levelNumbers, tableSound};
+ghost use Rattle.table.specs.Table.{usedRows, rising, unusedRows, targetsApart, levelsRise, unusedPairs, levelsSound, levelNumbers, tableSound};
 ghost use Rattle.table.specs.Numbers.{partnerOf};
 ghost use Rattle.table.specs.Order.{rowOrder, orderOf};
 ghost use Rattle.table.specs.Stages.{fieldsSound, RowsRise, RowsOrder};

@@ -1,18 +1,16 @@
 -- `renumber::find_starts` meets its contract.
 use borrow.Author.Needs.{needs}
 use native.Mathlib.Omega.{arith}
-use Prim.Native.Nat.{ℕ, _≤_, _-_, _+_, _<_, max, _/_, _%_}
+use Prim.Native.Nat.{_≤_, _-_, _+_, _<_, max}
 use native.Mathlib.Decide.{decLe}
 use borrow.Author.Tests.{le-leb, lt-leb}
-use mathlib.Core.Path.{_≡_, refl, sym, _∙_, ap}
+use mathlib.Core.Path.{_≡_, sym, _∙_}
 use mathlib.Core.Bool.{true, false, true≢false}
-use mathlib.Core.List.{List, [], _∷_}
-use lib.ListN.{take, drop, getD, set, length, length-set}
+use mathlib.Core.List.{[], _∷_}
+use lib.ListN.{take, drop, getD, length, length-set}
 use lib.Seq.{length-take-le, getD-take}
-use Rattle.label.specs.declared.Run.{Run}
 use Rattle.label.specs.Runs.{run}
 use Rattle.label.proofs.Steps.{next-used, used-up, length-mapped}
-use Rattle.table.specs.declared.Row.{Row}
 use Rattle.table.specs.Table.{noRow, usedRows, rising}
 use Rattle.table.specs.Numbers.{numbered}
 use Rattle.table.proofs.Sound.{sound-rows}

@@ -2,13 +2,12 @@
 use borrow.Author.Needs.{needs}
 use native.Mathlib.Omega.{arith}
 use Prim.Native.Nat.{_≤_, _-_, _+_, _/_, _%_}
-use mathlib.Core.Path.{_≡_, sym, _∙_, ap}
+use mathlib.Core.Path.{_≡_, sym, _∙_}
 use mathlib.Core.Bool.{_&&_}
-use mathlib.Core.List.{[], _∷_}
 use lib.Dec.{leb}
 use lib.ListN.{take, drop, getD}
 use Rattle.label.specs.Runs.{spaced}
-use Rattle.label.specs.Keys.{keyRun, keyRuns}
+use Rattle.label.specs.Keys.{keyRuns}
 use Rattle.label.proofs.Bools.{and-chain}
 use Rattle.label.proofs.Places.{rises, rises-spaced}
 use Rattle.renumber.proofs.Held.{next-key, keys-up, formed-not, formed-is}

@@ -24,20 +24,17 @@ cast-high c = search needs
 
 returns : tie.Need-returns Inv-loop μ-loop
 returns c =
-    let a = c .before .args in
+    let a = c .before .before .args in
     added-none (a .key / 65536) (a .key % 65536) (a .n) (a .out .now) (c .if1 .taken)
 
-cast-ones : tie.Need-cast-ones Inv-loop μ-loop
-cast-ones c = search needs
-
-shr-ones : tie.Need-shr-ones Inv-loop μ-loop
-shr-ones c = search needs
+ones-from-requires : tie.Need-ones-from-requires Inv-loop μ-loop
+ones-from-requires c κs = search needs
 
 loop-holds : tie.Need-loop-holds Inv-loop μ-loop
 loop-holds c =
-    let a = c .before .args in
+    let a = c .before .before .before .args in
     let e : a .key / 65536 % 8 ≡ a .key / 65536 - 8 * (a .key / 65536 / 8) = omega arith in
-    (omega arith, omega arith, omega arith, ap (λ (k : ℕ). 255 / 2 ^ k) e, refl, adding-start (a .key / 65536) (a .key % 65536) (a .n) (a .out .now))
+    (omega arith, omega arith, omega arith, c .ones-from .ensures ∙ ap (λ (k : ℕ). 255 / 2 ^ k) e, refl, adding-start (a .key / 65536) (a .key % 65536) (a .n) (a .out .now))
 
 cast-after : tie.Need-cast-after Inv-loop μ-loop
 cast-after c = search needs
@@ -51,7 +48,7 @@ slice-read-out c = search needs
 sub-out : tie.Need-sub-out Inv-loop μ-loop
 sub-out c =
     let l = c .before .before .before .loop in
-    let k = c .before .before .before .before .before .args .key in
+    let k = c .before .before .before .before .before .before .before .args .key in
     omega (arith, l .inv .3, less-at (k / 65536 - 8 * l .o) (k % 65536 % 8) (omega (arith, l .inv .0, l .inv .1, c .before .if2 .taken)) (omega arith))
 
 slice-write-out : tie.Need-slice-write-out Inv-loop μ-loop
@@ -63,7 +60,7 @@ same-length c = search needs
 returns-2 : tie.Need-returns-2 Inv-loop μ-loop
 returns-2 c =
     let l = c .before .before .before .loop in
-    let s = c .before .before .before .before .before in
+    let s = c .before .before .before .before .before .before .before in
     let k = s .args .key in
     adding-past (k / 65536) (k % 65536)
     (adding-store (l .inv .5) (c .before .before .loop-test .taken) (omega (arith, l .inv .4, s .pre .1)) _
@@ -85,7 +82,7 @@ loop-less c = search needs
 loop-again : tie.Need-loop-again Inv-loop μ-loop
 loop-again c =
     let l = c .before .before .before .loop in
-    let s = c .before .before .before .before .before in
+    let s = c .before .before .before .before .before .before .before in
     let k = s .args .key in
     let z : (l .o ≡ k % 65536 / 8 → ⊥) = c .before .if2 .left in
     let none : k / 65536 - 8 * (l .o + 1) ≡ 0 = omega (arith, l .inv .1) in (
@@ -112,8 +109,7 @@ add-run-spec =
     cast-low
     cast-high
     returns
-    cast-ones
-    shr-ones
+    ones-from-requires
     loop-holds
     cast-after
     shr-after

@@ -8,12 +8,13 @@ use mathlib.Core.Path.{_≡_, sym, _∙_}
 use mathlib.Core.Bool.{true}
 use mathlib.Core.List.{List}
 use lib.ListN.{length}
+use lib.Seq.{length-take-le}
 use Rattle.label.specs.declared.Label.{Label}
 use Rattle.label.specs.Label.{wellFormed}
 use Rattle.option.specs.Spelling.{spelledOf}
 use Rattle.spelling.specs.Spelling.{lengthOf}
 use Rattle.spelling.specs.Keys.{inFront}
-use Rattle.spelling.proofs.Keys.{keys-held, keys-counted, label-put}
+use Rattle.spelling.proofs.Keys.{keys-held, label-put}
 use Rattle.spelling.proofs.Answers.{number-short, number-ill, refused, unwritten, written-short, completed}
 use Rattle.spelling.proofs.spell_label.Statement.{statement}
 use Rattle.spelling.proofs.spell_label.Tie as tie
@@ -21,52 +22,48 @@ use Rattle.spelling.proofs.spell_label.Tie as tie
 -- a well-formed label and an output that is long enough
 module _ (c : tie.Else2) where
   abbrev label-of : Label
-  label-of = c .before .before .before .before .args .label
+  label-of = c .before .before .before .before .before .before .args .label
 
   abbrev out-of : List ℕ
-  out-of = c .before .before .before .before .args .out .now
+  out-of = c .before .before .before .before .before .before .args .out .now
 
   well : wellFormed label-of ≡ true
-  well = sym (c .before .well-formed .ensures) ∙ not-false _ (c .if2 .left)
+  well = sym (c .before .before .keys-formed .ensures .0) ∙ not-false _ (c .if2 .left)
 
   long : 40 ≤ length out-of
-  long = c .before .before .if1 .left
+  long = c .before .before .before .before .if1 .left
+
+  held : label-of .count ≤ length (c .before .before .keys-formed .last .1 .0)
+  held = keys-held label-of well (c .before .before .keys-formed .last .1 .0) (omega (arith, c .before .before .keys-formed .ensures .2))
 
 -- what writing the keys does
 put : (c : tie.After-write-keys)
-    → (c .write-keys .result ≡ lengthOf (spelledOf (label-of (c .before .before .before .before .before .before))))
-    × (c .write-keys .last .1 .1 .1 .0 ≡ inFront (spelledOf (label-of (c .before .before .before .before .before .before))) (out-of (c .before .before .before .before .before .before)))
+    → (c .write-keys .result ≡ lengthOf (spelledOf (label-of (c .before .before .before))))
+    × (c .write-keys .last .1 .1 .1 .0 ≡ inFront (spelledOf (label-of (c .before .before .before))) (out-of (c .before .before .before)))
 put c =
-    let k = c .before .before .before .before in
-    let e = k .before .before in
-    label-put (label-of e) _ _ (well e) (omega arith) (k .label-keys .ensures .1) (out-of e) _ _ (long e) (c .write-keys .ensures)
+    let e = c .before .before .before in
+    label-put (label-of e) (well e) _ (out-of e) _ _ (e .before .before .keys-formed .ensures .1 (not-false _ (e .if2 .left))) (long e) (c .write-keys .ensures)
 
 returns : tie.Need-returns
 returns c = refused (c .before .before .args .label) (c .before .before .args .out .now) 1 (λ z. omega arith) (number-short _ _ (c .if1 .taken))
 
-well-formed-requires : tie.Need-well-formed-requires
-well-formed-requires c κs = search needs
+slice-aggregate-keys-formed : tie.Need-slice-aggregate-keys-formed
+slice-aggregate-keys-formed c = search needs
+
+keys-formed-requires : tie.Need-keys-formed-requires
+keys-formed-requires c κs = search needs
 
 returns-2 : tie.Need-returns-2
 returns-2 c =
-    let a = c .before .before .before .before .args in
-    refused (a .label) (a .out .now) 2 (λ z. omega arith) (number-ill _ _ (c .before .before .if1 .left) (sym (c .before .well-formed .ensures) ∙ not-true _ (c .if2 .taken)))
-
-slice-aggregate-label-keys : tie.Need-slice-aggregate-label-keys
-slice-aggregate-label-keys c = search needs
-
-label-keys-requires : tie.Need-label-keys-requires
-label-keys-requires c κs = search needs
+    let a = c .before .before .before .before .before .before .args in
+    refused (a .label) (a .out .now) 2 (λ z. omega arith)
+    (number-ill _ _ (c .before .before .before .before .if1 .left) (sym (c .before .before .keys-formed .ensures .0) ∙ not-true _ (c .if2 .taken)))
 
 array-share-prefix-keys : tie.Need-array-share-prefix-keys
-array-share-prefix-keys c =
-    let e = c .before .before .before in
-    keys-held (label-of e) _ _ (well e) (omega arith) (c .before .label-keys .ensures .1)
+array-share-prefix-keys c = held c
 
 slice-aggregate-write-keys : tie.Need-slice-aggregate-write-keys
-slice-aggregate-write-keys c =
-    let e = c .before .before .before .before in
-    keys-counted (label-of e) _ _ (well e) (omega arith) (c .before .before .label-keys .ensures .1)
+slice-aggregate-write-keys c = sym (length-take-le _ _ (held (c .before)))
 
 write-keys-requires : tie.Need-write-keys-requires
 write-keys-requires c κs = search needs
@@ -77,13 +74,13 @@ same-length c = search needs
 returns-3 : tie.Need-returns-3
 returns-3 c =
     let w = c .before .before .before in
-    let e = w .before .before .before .before .before .before in
+    let e = w .before .before .before in
     unwritten (label-of e) (out-of e) _ _ (well e) (long e) (put w) (c .if3 .taken)
 
 zero-from-requires : tie.Need-zero-from-requires
 zero-from-requires c κs =
     let w = c .before .before .before .before in
-    let e = w .before .before .before .before .before .before in
+    let e = w .before .before .before in
     (written-short (label-of e) (out-of e) _ _ (well e) (long e) (put w) (c .before .if3 .left), search needs)
 
 same-length-2 : tie.Need-same-length-2
@@ -93,7 +90,7 @@ returns-4 : tie.Need-returns-4
 returns-4 c =
     let z = c .before .before in
     let w = z .before .before .before .before .before in
-    let e = w .before .before .before .before .before .before in
+    let e = w .before .before .before in
     completed (label-of e) (out-of e) _ _ (well e) (long e) (put w) _ (z .zero-from .ensures) (z .before .before .if3 .left)
 
 pub spell-label-spec : {M : Type 1} → statement M
@@ -101,10 +98,9 @@ spell-label-spec =
     tie.close
     (tie.spec
     returns
-    well-formed-requires
+    slice-aggregate-keys-formed
+    keys-formed-requires
     returns-2
-    slice-aggregate-label-keys
-    label-keys-requires
     array-share-prefix-keys
     slice-aggregate-write-keys
     write-keys-requires

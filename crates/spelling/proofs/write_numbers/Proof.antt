@@ -1,10 +1,10 @@
 -- `spelling::write_numbers` meets its contract.
 use borrow.Author.Needs.{needs}
 use native.Mathlib.Omega.{arith}
-use Prim.Native.Nat.{_+_, _-_, _*_, _≤_, _<_}
+use Prim.Native.Nat.{_+_, _-_, _*_, _/_, _%_, _≤_, _<_}
 use mathlib.Core.Path.{_≡_, refl, _∙_}
 use mathlib.Core.List.{[], _∷_, _++_}
-use lib.ListN.{length, getD, drop, length-set}
+use lib.ListN.{length, getD, drop, set, length-set}
 use Rattle.label.specs.Runs.{countOf}
 use Rattle.label.specs.Keys.{keyRun, keyRuns}
 use Rattle.option.specs.Spelling.{numbersOf}
@@ -39,6 +39,20 @@ room c =
     let d = c .before .before in
     omega (arith, there (standing d) (c .if1 .left), numbers-count (keyRuns (d .before .before .args .keys .now)))
 
+-- and it is written
+more : (c : tie.Else1 Inv-loop μ-loop) →
+    let d = c .before .before in
+    let a = d .before .before .args in
+    let s = d .before .loop in
+    let ks = a .keys .now in
+    let x = getD ks (s .i) 0 / 65536 + s .j in
+    set (set (s .out) (2 * s .k) (x / 256)) (2 * s .k + 1) (x % 256) ≡ numbersOut (rankNumber (keyRuns ks)) (s .k + 1) ++ drop (2 * (s .k + 1)) (a .out .now)
+more c =
+    let d = c .before .before in
+    let a = d .before .before .args in
+    let s = d .before .loop in
+    rw (s .inv .5) (numbers-store (rankNumber (keyRuns (a .keys .now))) (a .out .now) (s .k) _ (omega (arith, room c)) (number (standing d) (c .if1 .left)))
+
 loop-holds : tie.Need-loop-holds Inv-loop μ-loop
 loop-holds c = (omega arith, omega arith, omega arith, refl, record { rest = refl; within = fresh (keyRuns (c .args .keys .now)) }, refl)
 
@@ -54,8 +68,8 @@ cast-x c = omega (arith, c .shared-slice-known .given (c .before .before .loop .
 add-x : tie.Need-add-x Inv-loop μ-loop
 add-x c = omega (arith, c .shared-slice-known .given (c .before .before .loop .i))
 
-cast-if1 : tie.Need-cast-if1 Inv-loop μ-loop
-cast-if1 c = search needs
+cast-high : tie.Need-cast-high Inv-loop μ-loop
+cast-high c = search needs
 
 add-i : tie.Need-add-i Inv-loop μ-loop
 add-i c = search needs
@@ -93,24 +107,43 @@ slice-write-out-2 c = simp length-set (omega (arith, room c))
 add-k : tie.Need-add-k Inv-loop μ-loop
 add-k c = omega (arith, room c)
 
-add-j : tie.Need-add-j Inv-loop μ-loop
-add-j c = search needs
+add-i-2 : tie.Need-add-i-2 Inv-loop μ-loop
+add-i-2 c = search needs
 
 loop-less-2 : tie.Need-loop-less-2 Inv-loop μ-loop
-loop-less-2 c = omega (arith, room c)
+loop-less-2 c = omega (arith, room (c .before))
 
 loop-again-2 : tie.Need-loop-again-2 Inv-loop μ-loop
 loop-again-2 c =
-    let d = c .before .before in
-    let a = d .before .before .args in
+    let e = c .before in
+    let d = e .before .before in
     let s = d .before .loop in
-    let ks = a .keys .now in (
+    let h = c .if2 .taken in (
       omega arith,
       omega arith,
-      omega (arith, room c),
+      omega (arith, room e),
       simp length-set (s .inv .3),
-      rw (next-key ks (s .i) (d .loop-test .taken)) (another (standing d) (c .if1 .left)),
-      rw (s .inv .5) (numbers-store (rankNumber (keyRuns ks)) (a .out .now) (s .k) _ (omega (arith, room c)) (number (standing d) (c .if1 .left))),
+      passed (another (standing d) (e .if1 .left)) (omega arith),
+      more e,
+    )
+
+add-j : tie.Need-add-j Inv-loop μ-loop
+add-j c = search needs
+
+loop-less-3 : tie.Need-loop-less-3 Inv-loop μ-loop
+loop-less-3 c = omega (arith, room (c .before))
+
+loop-again-3 : tie.Need-loop-again-3 Inv-loop μ-loop
+loop-again-3 c =
+    let e = c .before in
+    let d = e .before .before in
+    let s = d .before .loop in (
+      omega arith,
+      omega arith,
+      omega (arith, room e),
+      simp length-set (s .inv .3),
+      rw (next-key (d .before .before .args .keys .now) (s .i) (d .loop-test .taken)) (another (standing d) (e .if1 .left)),
+      more e,
     )
 
 same-length : tie.Need-same-length Inv-loop μ-loop
@@ -136,7 +169,7 @@ write-numbers-spec =
     shared-slice-read-key
     cast-x
     add-x
-    cast-if1
+    cast-high
     add-i
     loop-less
     loop-again
@@ -148,8 +181,11 @@ write-numbers-spec =
     add-out
     slice-write-out-2
     add-k
-    add-j
+    add-i-2
     loop-less-2
     loop-again-2
+    add-j
+    loop-less-3
+    loop-again-3
     same-length
     returns)

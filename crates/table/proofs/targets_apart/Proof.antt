@@ -4,7 +4,6 @@ use native.Mathlib.Omega.{arith}
 use Prim.Native.Nat.{_≤_, _-_, _+_, _%_}
 use mathlib.Core.Path.{_≡_, refl, sym, _∙_}
 use mathlib.Core.Bool.{_&&_, and-assoc, and-true}
-use mathlib.Core.List.{_∷_}
 use lib.Dec.{leb}
 use lib.ListN.{drop, getD, length, length-map, drop-of-length-le}
 use lib.Seq.{length-take-le, getD-take}
