@@ -13,7 +13,7 @@ use Rattle.sample_records.specs.Sample.{arriving, leaving, table, levels}
 use Rattle.demands.specs.Worked.{drop, pass}
 
 abbrev pub sample : List ℕ → Forwarding
-sample area = record { arriving = arriving; leaving = leaving; table = table; levels = levels; icmp = false; area = area; room = 40 }
+sample area = record { arriving = arriving; leaving = leaving; table = table; levels = levels; facts = noFact; area = area; room = 40 }
 
 -- 860c00000005020600030000, category 0 at level 3
 abbrev pub first : List ℕ

@@ -1,5 +1,5 @@
 -- Document 01, "The order of checks, and each number", "The leaving area" and "Numbers to try": worked decisions, in one table. Both ports are of
--- domain 5, so the renumbering table is not read. Every case is asked twice, unmarked and marked as ICMP.
+-- domain 5, so the renumbering table is not read. Every case is asked with no fact that silences, and with each of the five alone.
 use mathlib.Core.Path.{_≡_}
 use mathlib.Core.Bool.{Bool, true, false}
 use mathlib.Core.List.{List, [], _∷_, _++_, map}
@@ -76,39 +76,63 @@ pub record Case : Type 0 where
   pub answer : Decision
   pub output : List ℕ
 
+-- no fact that silences, and each of the five alone
+abbrev pub noFact : Facts
+noFact = record { error = false; group = false; link = false; fragment = false; source = false }
+
+abbrev pub eachFact : List Facts
+eachFact =
+    record { error = true; group = false; link = false; fragment = false; source = false }
+    ∷ record { error = false; group = true; link = false; fragment = false; source = false }
+    ∷ record { error = false; group = false; link = true; fragment = false; source = false }
+    ∷ record { error = false; group = false; link = false; fragment = true; source = false }
+    ∷ record { error = false; group = false; link = false; fragment = false; source = true }
+    ∷ []
+
 -- what is decided, and what the output then holds
 pub record Answer : Type 0 where
   pub plain : Decision
-  pub marked : Decision
+  pub silent : List Decision
   pub output : List ℕ
-  pub markedOutput : List ℕ
+  pub silentOutputs : List (List ℕ)
 
 abbrev pub noTable : Table
 noTable = record { from = 0; to = 0; pairs = 0; count = 0; rows = [] }
 
-abbrev pub forwarding : Port → Port → ℕ → Bool → List ℕ → Forwarding
-forwarding p q n icmp area = record { arriving = p; leaving = q; table = noTable; levels = []; icmp = icmp; area = area; room = n }
+abbrev pub forwarding : Port → Port → ℕ → Facts → List ℕ → Forwarding
+forwarding p q n facts area = record { arriving = p; leaving = q; table = noTable; levels = []; facts = facts; area = area; room = n }
 
-abbrev pub delivery : Port → Host → Bool → List ℕ → Delivery
-delivery p h icmp area = record { port = p; host = h; icmp = icmp; area = area }
+abbrev pub delivery : Port → Host → Facts → List ℕ → Delivery
+delivery p h facts area = record { port = p; host = h; facts = facts; area = area }
 
 abbrev pub answerTo : Job → Port → List ℕ → Answer
 answerTo (leave q n) p area =
     record {
-      plain = forwardOf (forwarding p q n false area);
-      marked = forwardOf (forwarding p q n true area);
-      output = outputOf (forwarding p q n false area) (replicate n 9);
-      markedOutput = outputOf (forwarding p q n true area) (replicate n 9);
+      plain = forwardOf (forwarding p q n noFact area);
+      silent = map (λ facts. forwardOf (forwarding p q n facts area)) eachFact;
+      output = outputOf (forwarding p q n noFact area) (replicate n 9);
+      silentOutputs = map (λ facts. outputOf (forwarding p q n facts area) (replicate n 9)) eachFact;
     }
 answerTo (stay h) p area =
-    record { plain = deliverOf (delivery p h false area); marked = deliverOf (delivery p h true area); output = []; markedOutput = [] }
+    record {
+      plain = deliverOf (delivery p h noFact area);
+      silent = map (λ facts. deliverOf (delivery p h facts area)) eachFact;
+      output = [];
+      silentOutputs = map (λ facts. []) eachFact;
+    }
 
--- marked as ICMP, the number stays and the report is silent
+-- silenced, the number stays and the report is silent
 abbrev pub hushed : Decision → Decision
 hushed d = record { number = d .number; kind = 0; code = 0; pointer = 0; count = d .count; label = d .label }
 
 abbrev pub awaited : Case → Answer
-awaited c = record { plain = c .answer; marked = hushed (c .answer); output = c .output; markedOutput = c .output }
+awaited c =
+    record {
+      plain = c .answer;
+      silent = map (λ facts. hushed (c .answer)) eachFact;
+      output = c .output;
+      silentOutputs = map (λ facts. c .output) eachFact;
+    }
 
 -- a refusal: number, type, code, pointer
 abbrev pub drop : ℕ → ℕ → ℕ → ℕ → Decision

@@ -116,7 +116,7 @@ pub leaving-spelled : (x : Crossing) → spelledOf (leavingLabel x) ≡ leavingO
 leaving-spelled x = rw (used-of _ _ _)
 
 -- A refusal: what is answered, and that nothing is written.
-pub forward-refused : (f : Forwarding) (x : Refusal) (out : List ℕ) → firstOf (forwardChecks f) ≡ some x → (refused (f .icmp) x ≡ forwardOf f) × (out ≡ outputOf f out)
+pub forward-refused : (f : Forwarding) (x : Refusal) (out : List ℕ) → firstOf (forwardChecks f) ≡ some x → (refused (silenced (f .facts)) x ≡ forwardOf f) × (out ≡ outputOf f out)
 unfolding forwardOf outputOf
 forward-refused f x out e = (rw e, rw e)
 

@@ -26,7 +26,7 @@ pub record Forwarding : Type 0 where
   pub leaving : Port
   pub table : Table
   pub levels : List (List ℕ)
-  pub icmp : Bool
+  pub facts : Facts
   pub area : List ℕ
   pub room : ℕ
 

@@ -29,7 +29,7 @@ abbrev pub leavingCount : Forwarding → ℕ
 leavingCount f = roundUp (lengthOf (leavingOption (crossing f)) + length (keptOf (f .area)))
 
 unfoldable pub forwardOf : Forwarding → Decision
-forwardOf f = decided (f .icmp) (firstOf (forwardChecks f)) (leavingLabel (crossing f)) (leavingCount f)
+forwardOf f = decided (silenced (f .facts)) (firstOf (forwardChecks f)) (leavingLabel (crossing f)) (leavingCount f)
 
 abbrev pub octetsOf : Option (List ℕ) → List ℕ
 octetsOf none = []

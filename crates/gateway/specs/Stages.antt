@@ -26,8 +26,8 @@ use Rattle.gateway.specs.Crossing.{Forwarding, Crossing, numberCheck, le
 
 -- the inputs of a forwarding
 abbrev pub forwardingOf : Port → Port → Table → List (List ℕ) → Bool → List ℕ → ℕ → Forwarding
-forwardingOf a l t ls icmp area room =
-    record { arriving = a; leaving = l; table = t; levels = ls; icmp = icmp; area = area; room = room }
+forwardingOf a l t ls facts area room =
+    record { arriving = a; leaving = l; table = t; levels = ls; facts = facts; area = area; room = room }
 
 -- checks 16 and 17, and that of 18 on the runs
 abbrev pub crossingChecks : Crossing → List (Option Refusal)
