@@ -7,7 +7,7 @@ use mathlib.Core.Logic.{_↔_}
 use Prim.Native.Nat.{ℕ}
 use lib.Dec.{leb, ltb, eqb}
 use lib.ListN.{length, take}
-use Rattle.demands.specs.First.{NoneOf, FirstOf}
+use Rattle.demands.specs.First.{FirstOf}
 use Rattle.label.specs.declared.Label.{Label}
 use Rattle.label.specs.Label.{used, labelOf, zeroLabel, emptyOf, wellFormed, member, leq}
 use Rattle.option.specs.Option.{domainOf}
@@ -37,9 +37,7 @@ renumberChecks l t ls =
     ∷ check (not (leb (length (imageRuns l t)) 120)) 18 0
     ∷ []
 
-abbrev pub NoneApply : List Check → Type 0
-NoneApply checks = NoneOf (λ (x : Check). x .applies) checks
-
+-- of the checks in order, c is the first that applies
 abbrev pub FirstCheck : List Check → Check → Type 0
 FirstCheck checks c = FirstOf (λ (x : Check). x .applies) checks c
 

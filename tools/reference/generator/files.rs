@@ -253,10 +253,16 @@ impl Layout {
 
     /// Breaks the rule of one field with the given name, and gives its place; none where no such field can be broken.
     pub fn break_rule(&mut self, random: &mut Random, name: &str) -> Option<usize> {
+        let round = random.below(12);
+        self.break_rule_by(random, name, round)
+    }
+
+    /// As `break_rule`; the round chooses among the bad numbers, those nearest to good ones first.
+    fn break_rule_by(&mut self, random: &mut Random, name: &str, round: usize) -> Option<usize> {
         let mut fields: Vec<Field> = self.fields.iter().filter(|field| field.name == name).cloned().collect();
         random.shuffle(&mut fields);
         for field in fields {
-            if let Some(number) = bad_number(random, &field) {
+            if let Some(number) = bad_number(random, &field, round) {
                 self.octets[field.at..field.at + field.width].copy_from_slice(&number.to_be_bytes()[4 - field.width..]);
                 return Some(field.at);
             }
@@ -266,27 +272,27 @@ impl Layout {
 }
 
 /// A number that breaks the field's rule, if there is one.
-fn bad_number(random: &mut Random, field: &Field) -> Option<u32> {
+fn bad_number(random: &mut Random, field: &Field, round: usize) -> Option<u32> {
     let most = if field.width == 4 { u32::MAX } else { (1 << (8 * field.width)) - 1 };
     match &field.rule {
         Rule::Free => None,
-        Rule::Count(limit) => Some(random.pick(&[limit + 1, limit + 1, limit + 2, most / 2 + 1, most])),
+        Rule::Count(limit) => Some([limit + 1, most, limit + 2, most / 2 + 1][round % 4]),
         Rule::NotZero => Some(0),
-        Rule::Zero => Some(random.pick(&[1, most, most / 2 + 1])),
-        Rule::ZeroOrOne => Some(random.pick(&[2, 3, most / 2 + 1, most])),
+        Rule::Zero => Some([1, most, most / 2 + 1][round % 3]),
+        Rule::ZeroOrOne => Some([2, most, 3, most / 2 + 1][round % 4]),
         Rule::Domain(domain) => Some(if random.chance(1, 4) { 0 } else { other_domain(random, *domain) }),
         Rule::Least(0) => None,
-        Rule::Least(least) => Some(random.pick(&[least - 1, least - 1, least.saturating_sub(2), 0])),
+        Rule::Least(least) => Some([least - 1, 0, least.saturating_sub(2)][round % 3]),
         Rule::High(0) => Some(most),
-        Rule::High(low) => Some(random.pick(&[low - 1, low - 1, 0, most])),
+        Rule::High(low) => Some([most, low - 1, 0][round % 3]),
         Rule::Target(width, before) => {
-            if before.is_empty() || random.chance(1, 3) {
-                return Some(random.pick(&[most - width, most - width, most]));
+            if before.is_empty() || round % 2 == 0 {
+                return Some([most - width, most][round / 2 % 2]);
             }
             let row = random.pick(before);
             let (low, high) = (row.target_low as u32, row.target_high());
             let inside = random.between(low as usize, high as usize) as u32;
-            Some(random.pick(&[low, high, low.saturating_sub(*width), inside]))
+            Some([high, low.saturating_sub(*width), low, inside][round / 2 % 4])
         }
     }
 }
@@ -325,7 +331,7 @@ fn broken_file(random: &mut Random, turn: usize, pairs: bool) -> Vec<u8> {
     }
     let mut layout = Layout::of(&set);
     if let Some(name) = RULED.get(way) {
-        layout.break_rule(random, name);
+        layout.break_rule_by(random, name, round);
     }
     if pairs {
         let name = random.pick(&RULED);
@@ -467,7 +473,11 @@ pub fn file_written_short(random: &mut Random, turn: usize, _number: u8) -> Made
 
 pub fn file_not_written(random: &mut Random, turn: usize, _number: u8) -> Made {
     let octets = broken_file(random, turn, turn % 2 == 0);
-    let output = output_about(random, turn, octets.len());
+    let mut output = output_about(random, turn, octets.len());
+    // The longest output costs nothing where none is shown.
+    if turn % 4 == 1 {
+        output.length = 65_535;
+    }
     Made::Case(Case::ReadAndWrite(octets, output))
 }
 
@@ -497,8 +507,17 @@ pub fn set_unsound(random: &mut Random, turn: usize, _number: u8) -> Made {
     let (port, table) = (random.below(ports), random.below(tables));
     let (way, round) = (turn % 16, turn / 16);
     match way {
-        0 => set.port_count = random.pick(&[17, 17, 18, 128, 255]),
-        1 => set.table_count = random.pick(&[9, 9, 10, 128, 255]),
+        // Every place that there is holds a sound record.
+        0 if round % 2 == 0 => {
+            set = SetRecord::of(&several(random, MAX_PORTS, plain_port), &[]);
+            set.port_count = 17;
+        }
+        1 if round % 2 == 0 => {
+            set = SetRecord::of(&[], &several(random, MAX_TABLES, small_table));
+            set.table_count = 9;
+        }
+        0 => set.port_count = random.pick(&[17, 18, 128, 255]),
+        1 => set.table_count = random.pick(&[9, 10, 128, 255]),
         // A place within the count that is all zero.
         2 => set.port_count += 1,
         3 => set.table_count += 1,

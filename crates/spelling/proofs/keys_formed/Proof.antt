@@ -5,7 +5,7 @@ use native.Mathlib.Omega.{arith}
 use mathlib.Core.Path.{_≡_, refl, sym, _∙_}
 use mathlib.Core.Bool.{true, and-false}
 use lib.ListN.{length, length-set}
-use Rattle.label.specs.Label.{typed, wellFormed}
+use Rattle.label.specs.Label.{labelTyped, wellFormed}
 use Rattle.label.proofs.Bools.{never}
 use Rattle.label.proofs.Steps.{length-mapped}
 use Rattle.label.proofs.Labels.{typed-yes, well-formed-runs}
@@ -17,7 +17,7 @@ sized : (c : tie.Start) → length (c .args .t1 .runs) ≡ 120
 sized c = search (length-mapped, needs)
 
 -- the types of the fields
-fields : (c : tie.Start) → typed (c .args .t1) ≡ true
+fields : (c : tie.Start) → labelTyped (c .args .t1) ≡ true
 fields c = typed-yes (c .args .t1) (search needs) (search needs) (sized c)
 
 element-copy-out-run : tie.Need-element-copy-out-run
