@@ -15,6 +15,10 @@ use Rattle.arrival.specs.Checks.{Refusal, firstOf, walkCheck, requiredCh
 unfoldable pub silenced : Facts → Bool
 silenced f = f .error || (f .group || (f .link || (f .fragment || f .source)))
 
+-- none of them holds
+abbrev pub noFact : Facts
+noFact = record { error = false; group = false; link = false; fragment = false; source = false }
+
 -- a refusal returns count 0 and an all-zero label; if the datagram is silenced, the number stays and the report is silent
 abbrev pub refused : Bool → Refusal → Decision
 refused quiet r =

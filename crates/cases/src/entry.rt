@@ -20,8 +20,10 @@ pub fn answer(case: &[u8], out: &mut [u8], n: usize) -> usize {
         3 => ask_renumber(case, at, out, n),
         4 => ask_spell(case, at, out, n),
         5 => ask_read(case, at, out, n),
-        6 => ask_forward(case, at, out, n),
-        7 => ask_deliver(case, at, out, n),
+        6 => ask_forward(case, at, false, out, n),
+        7 => ask_deliver(case, at, false, out, n),
+        8 => ask_forward(case, at, true, out, n),
+        9 => ask_deliver(case, at, true, out, n),
         _ => put_broken(out, n),
     }
 }

@@ -27,7 +27,7 @@ use Rattle.port.specs.declared.Port.{Port}
 use Rattle.port.specs.Port.{portSound, hostSound}
 use Rattle.label.specs.Range.{setInRange}
 use Rattle.arrival.specs.Checks.{Refusal, silent, faulty, barred, when, firstOf, badArea, walkRefusal, walkCheck, placeIn, optionAt, requiredBy, requiredCheck, optionBy, optionCheck, arrivingLabel, rangeCheck, Delivery, deliverySizes, deliveryRecords, hostCheck}
-use Rattle.arrival.specs.Decision.{decided, deliverChecks, deliverOf}
+use Rattle.arrival.specs.Decision.{silenced, decided, deliverChecks, deliverOf}
 use Rattle.arrival.proofs.Arrival.{placed-framed}
 use Rattle.gateway.specs.Crossing.{Forwarding, sizes, records, crossing, stays, hasNumbers, numberCheck, leavingLevel, leavingRuns, leavingCheck, leavingOption, noRoom, spellingCheck}
 use Rattle.gateway.specs.Forward.{forwardChecks, forwardOf}

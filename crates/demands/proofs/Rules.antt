@@ -28,7 +28,7 @@ use Rattle.area.proofs.Laws.{area-placed, cipso-octet}
 use Rattle.leaving.specs.Kept.{keptOf}
 use Rattle.port.specs.declared.Port.{Port}
 use Rattle.arrival.specs.Checks.{Refusal, faulty, when, firstOf, walkRefusal, walkCheck, placeIn, optionAt, requiredBy, requiredCheck, optionBy, optionCheck, rangeCheck, Delivery, deliverySizes, deliveryRecords, hostCheck}
-use Rattle.arrival.specs.Decision.{decided, deliverChecks, deliverOf}
+use Rattle.arrival.specs.Decision.{silenced, decided, deliverChecks, deliverOf}
 use Rattle.arrival.proofs.First.{orElse, first-append}
 use Rattle.arrival.proofs.Arrival.{placed-framed}
 use Rattle.gateway.specs.Crossing.{Forwarding, sizes, records, crossing, numberCheck, leavingCheck, spellingCheck}

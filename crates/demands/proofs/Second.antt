@@ -38,7 +38,7 @@ use Rattle.renumber.proofs.Theorems.{renumbering, agrees}
 use Rattle.arrival.specs.declared.Decision.{Decision}
 use Rattle.arrival.specs.Checks.{Refusal, silent, barred, when, firstOf, NoneApplies, badArea, walkRefusal, walkCheck, placeIn, optionAt, requiredBy, requiredCheck, optionBy, optionCheck, labelBy, arrivingLabel, rangeCheck, Delivery, deliverySizes, deliveryRecords, hostCheck}
 use Rattle.arrival.specs.Decision as decision
-use Rattle.arrival.specs.Decision.{refused, decided, arrivalChecks, deliverChecks, deliverOf}
+use Rattle.arrival.specs.Decision.{silenced, refused, decided, arrivalChecks, deliverChecks, deliverOf}
 use Rattle.arrival.proofs.First.{Real, AllReal, real-first, real-when, first-none, none-first, when-none, orElse, first-append, not-false-yes, or-none, real-else}
 use Rattle.arrival.proofs.Arrival.{placed-framed, octets-part, Held, arrival-held, arrival-real, in-range-held}
 use Rattle.arrival.proofs.Deliveries.{deliver-done}

@@ -26,7 +26,7 @@ use Rattle.port.specs.declared.Port.{Port}
 use Rattle.port.specs.declared.Host.{Host}
 use Rattle.arrival.specs.declared.Decision.{Decision}
 use Rattle.arrival.specs.Checks.{Refusal, barred, when, firstOf, optionAt, arrivingLabel, rangeCheck, Delivery, deliverySizes, deliveryRecords, hostCheck}
-use Rattle.arrival.specs.Decision.{decided, deliverChecks, deliverOf}
+use Rattle.arrival.specs.Decision.{silenced, decided, deliverChecks, deliverOf}
 use Rattle.gateway.specs.Crossing.{Forwarding, sizes, records, Crossing, crossing, numberCheck, leavingCheck, spellingCheck, leavingLabel, leavingOption}
 use Rattle.gateway.specs.Forward.{forwardChecks, forwardOf, octetsOf, written, outputOf}
 use Rattle.gateway.proofs.Forwards.{forward-passed}

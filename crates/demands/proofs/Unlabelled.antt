@@ -15,7 +15,7 @@ use Rattle.port.specs.declared.Port.{Port}
 use Rattle.port.specs.declared.Host.{Host}
 use Rattle.arrival.specs.declared.Decision.{Decision}
 use Rattle.arrival.specs.Checks.{Refusal, barred, when, firstOf, walkCheck, requiredBy, requiredCheck, optionCheck, arrivingLabel, rangeCheck, Delivery, deliverySizes, deliveryRecords, hostCheck}
-use Rattle.arrival.specs.Decision.{decided, deliverOf}
+use Rattle.arrival.specs.Decision.{silenced, decided, deliverOf}
 use Rattle.gateway.specs.Crossing.{Forwarding, Crossing, sizes, records, crossing, numberCheck, leavingCheck, spellingCheck, leavingLabel, leavingOption}
 use Rattle.gateway.specs.Forward.{forwardOf}
 use Rattle.demands.specs.Guards.{Unlabelled, UnlabelledDelivered, leavingArea}

@@ -24,7 +24,7 @@ use Rattle.port.specs.Port.{portSound, hostSound}
 use Rattle.table.specs.Table.{tableSound}
 use Rattle.renumber.specs.Theorems.{Far}
 use Rattle.arrival.specs.Checks.{Refusal, NoneApplies, optionAt, Delivery, deliverySizes, deliveryRecords}
-use Rattle.arrival.specs.Decision.{refused, done, deliverChecks, deliverOf}
+use Rattle.arrival.specs.Decision.{silenced, refused, done, deliverChecks, deliverOf}
 use Rattle.gateway.specs.Crossing.{Forwarding, sizes, records}
 use Rattle.gateway.specs.Forward.{forwardChecks, forwardOf, outputOf}
 

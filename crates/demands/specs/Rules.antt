@@ -25,7 +25,7 @@ use Rattle.port.specs.Port.{portSound, hostSound}
 use Rattle.table.specs.Table.{tableSound}
 use Rattle.arrival.specs.declared.Decision.{Decision}
 use Rattle.arrival.specs.Checks.{Refusal, badArea, placeIn, optionAt, arrivingLabel, Delivery}
-use Rattle.arrival.specs.Decision.{refused, deliverOf}
+use Rattle.arrival.specs.Decision.{silenced, refused, deliverOf}
 use Rattle.gateway.specs.Crossing.{Forwarding, sameDomain, crossing, stays, hasNumbers, leavingLevel, leavingRuns, leavingOption, noRoom}
 use Rattle.gateway.specs.Forward.{forwardOf}
 use Rattle.demands.specs.First.{NoneOf, FirstOf}

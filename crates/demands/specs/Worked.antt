@@ -1,7 +1,7 @@
 -- Document 01, "The order of checks, and each number", "The leaving area" and "Numbers to try": worked decisions, in one table. Both ports are of
 -- domain 5, so the renumbering table is not read. Every case is asked with no fact that silences, and with each of the five alone.
 use mathlib.Core.Path.{_≡_}
-use mathlib.Core.Bool.{Bool, true, false}
+use mathlib.Core.Bool.{true, false}
 use mathlib.Core.List.{List, [], _∷_, _++_, map}
 use Prim.Native.Nat.{ℕ}
 use lib.ListN.{replicate}
@@ -12,8 +12,9 @@ use Rattle.port.specs.declared.Port.{Port}
 use Rattle.port.specs.declared.Host.{Host}
 use Rattle.table.specs.declared.Table.{Table}
 use Rattle.arrival.specs.declared.Decision.{Decision}
+use Rattle.arrival.specs.declared.Facts.{Facts}
 use Rattle.arrival.specs.Checks.{Delivery}
-use Rattle.arrival.specs.Decision.{deliverOf}
+use Rattle.arrival.specs.Decision.{noFact, deliverOf}
 use Rattle.gateway.specs.Crossing.{Forwarding}
 use Rattle.gateway.specs.Forward.{forwardOf, outputOf}
 
@@ -76,10 +77,7 @@ pub record Case : Type 0 where
   pub answer : Decision
   pub output : List ℕ
 
--- no fact that silences, and each of the five alone
-abbrev pub noFact : Facts
-noFact = record { error = false; group = false; link = false; fragment = false; source = false }
-
+-- each of the five facts alone
 abbrev pub eachFact : List Facts
 eachFact =
     record { error = true; group = false; link = false; fragment = false; source = false }

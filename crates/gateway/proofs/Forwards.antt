@@ -27,7 +27,7 @@ use Rattle.table.specs.declared.Table.{Table}
 use Rattle.table.specs.Table.{tableSound}
 use Rattle.arrival.specs.declared.Decision.{Decision}
 use Rattle.arrival.specs.Checks.{Refusal, silent, barred, when, firstOf, badArea, arrivingLabel}
-use Rattle.arrival.specs.Decision.{refused, done, decided, arrivalChecks}
+use Rattle.arrival.specs.Decision.{silenced, refused, done, decided, arrivalChecks}
 use Rattle.arrival.proofs.First.{orElse, first-append, first-none, none-first, when-none, Real, real-first, real-when, not-false-yes, or-none, real-else}
 use Rattle.arrival.proofs.Arrival.{arrival-held, arrival-real}
 use Rattle.gateway.specs.Crossing.{Forwarding, sameDomain, sizes, records, Crossing, crossing, stays, hasNumbers, numberCheck, leavingLevel, leavingRuns, leavingCheck, leavingLabel, leavingOption, noRoom, spellingCheck}

@@ -26,7 +26,7 @@ use Rattle.renumber.specs.Renumber.{imageOf}
 use Rattle.renumber.specs.Carry.{carriedKeys, carryOf}
 use Rattle.arrival.specs.declared.Verdict.{Verdict}
 use Rattle.arrival.specs.Checks.{Refusal, silent, barred, when, firstOf, badArea, arrivingLabel}
-use Rattle.arrival.specs.Decision.{done, arrivalChecks}
+use Rattle.arrival.specs.Decision.{silenced, done, arrivalChecks}
 use Rattle.arrival.specs.Verdict.{verdictOf, stopped, going, arrivalOf, Arrives, concluded}
 use Rattle.arrival.specs.Stages.{heldBetween}
 use Rattle.arrival.proofs.First.{Late}

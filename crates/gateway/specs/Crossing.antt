@@ -13,6 +13,7 @@ use Rattle.option.specs.Spelling.{spellingOf}
 use Rattle.spelling.specs.Spelling.{lacking, lengthOf}
 use Rattle.port.specs.declared.Port.{Port}
 use Rattle.port.specs.Port.{portSound}
+use Rattle.arrival.specs.declared.Facts.{Facts}
 use Rattle.table.specs.declared.Table.{Table}
 use Rattle.table.specs.declared.Partner.{Partner}
 use Rattle.table.specs.Table.{usedRows, tableSound}

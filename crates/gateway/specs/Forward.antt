@@ -8,7 +8,7 @@ use Rattle.leaving.specs.Kept.{keptOf, roundUp, leavingOf}
 use Rattle.arrival.specs.declared.Decision.{Decision}
 use Rattle.arrival.specs.Checks.{Refusal, firstOf, walkCheck, requiredCheck, optionCheck, rangeCheck}
 use Rattle.gateway.specs.Crossing.{Forwarding, sizes, records, numberCheck, leavingCheck, spellingCheck, crossing, leavingLabel, leavingOption}
-use Rattle.arrival.specs.Decision.{decided}
+use Rattle.arrival.specs.Decision.{silenced, decided}
 
 -- forward: the checks in the order of their numbers
 abbrev pub forwardChecks : Forwarding → List (Option Refusal)
