@@ -17,4 +17,4 @@ use Rattle.demands.specs.Worked.{WorkedDecisions}
 
 pub worked-decisions : WorkedDecisions
 unfolding subset allBelow wellFormed labelTyped atMost leq inRange isZero pieces tagFor bodyFor spelledBy spellingOf readingFor readingBy tagChecks labelIn metFrom metOf walkOf keptOf rangeSound assignedSound portSound hostSound setInRange walkCheck requiredCheck optionCheck arrivingLabel rangeCheck deliverySizes deliveryRecords hostCheck silenced deliverOf sizes records numberCheck leavingLevel leavingRuns leavingCheck spellingCheck forwardOf outputOf
-worked-decisions = refl
+worked-decisions = (refl, refl, refl)

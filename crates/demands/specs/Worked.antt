@@ -1,5 +1,5 @@
 -- Document 01, "The order of checks, and each number", "The leaving area" and "Numbers to try": worked decisions, in one table. Both ports are of
--- domain 5, so the renumbering table is not read. Every case is asked with no fact that silences, and with each of the five alone.
+-- domain 5, so the renumbering table is not read. Every case is asked with no fact that silences, and as an ICMP error message.
 use mathlib.Core.Path.{_≡_}
 use mathlib.Core.Bool.{true, false}
 use mathlib.Core.List.{List, [], _∷_, _++_, map}
@@ -14,7 +14,7 @@ use Rattle.table.specs.declared.Table.{Table}
 use Rattle.arrival.specs.declared.Decision.{Decision}
 use Rattle.arrival.specs.declared.Facts.{Facts}
 use Rattle.arrival.specs.Checks.{Delivery}
-use Rattle.arrival.specs.Decision.{noFact, deliverOf}
+use Rattle.arrival.specs.Decision.{silenced, noFact, deliverOf}
 use Rattle.gateway.specs.Crossing.{Forwarding}
 use Rattle.gateway.specs.Forward.{forwardOf, outputOf}
 
@@ -77,10 +77,13 @@ pub record Case : Type 0 where
   pub answer : Decision
   pub output : List ℕ
 
--- each of the five facts alone
+-- each of the five facts alone; the first is that of an ICMP error message
+abbrev pub errorMessage : Facts
+errorMessage = record { error = true; group = false; link = false; fragment = false; source = false }
+
 abbrev pub eachFact : List Facts
 eachFact =
-    record { error = true; group = false; link = false; fragment = false; source = false }
+    errorMessage
     ∷ record { error = false; group = true; link = false; fragment = false; source = false }
     ∷ record { error = false; group = false; link = true; fragment = false; source = false }
     ∷ record { error = false; group = false; link = false; fragment = true; source = false }
@@ -90,9 +93,9 @@ eachFact =
 -- what is decided, and what the output then holds
 pub record Answer : Type 0 where
   pub plain : Decision
-  pub silent : List Decision
+  pub silent : Decision
   pub output : List ℕ
-  pub silentOutputs : List (List ℕ)
+  pub silentOutput : List ℕ
 
 abbrev pub noTable : Table
 noTable = record { from = 0; to = 0; pairs = 0; count = 0; rows = [] }
@@ -107,16 +110,16 @@ abbrev pub answerTo : Job → Port → List ℕ → Answer
 answerTo (leave q n) p area =
     record {
       plain = forwardOf (forwarding p q n noFact area);
-      silent = map (λ facts. forwardOf (forwarding p q n facts area)) eachFact;
+      silent = forwardOf (forwarding p q n errorMessage area);
       output = outputOf (forwarding p q n noFact area) (replicate n 9);
-      silentOutputs = map (λ facts. outputOf (forwarding p q n facts area) (replicate n 9)) eachFact;
+      silentOutput = outputOf (forwarding p q n errorMessage area) (replicate n 9);
     }
 answerTo (stay h) p area =
     record {
       plain = deliverOf (delivery p h noFact area);
-      silent = map (λ facts. deliverOf (delivery p h facts area)) eachFact;
+      silent = deliverOf (delivery p h errorMessage area);
       output = [];
-      silentOutputs = map (λ facts. []) eachFact;
+      silentOutput = [];
     }
 
 -- silenced, the number stays and the report is silent
@@ -127,9 +130,9 @@ abbrev pub awaited : Case → Answer
 awaited c =
     record {
       plain = c .answer;
-      silent = map (λ facts. hushed (c .answer)) eachFact;
+      silent = hushed (c .answer);
       output = c .output;
-      silentOutputs = map (λ facts. c .output) eachFact;
+      silentOutput = c .output;
     }
 
 -- a refusal: number, type, code, pointer
@@ -260,5 +263,9 @@ cases = map inGateway refusals ++ (map toHost refusals ++ others)
 abbrev pub answered : Case → Answer
 answered c = answerTo (c .job) (c .port) (c .area)
 
+-- any of the five facts alone silences, and none does not
 abbrev pub WorkedDecisions : Type 0
-WorkedDecisions = map answered cases ≡ map awaited cases
+WorkedDecisions =
+    (map answered cases ≡ map awaited cases)
+    × (map silenced eachFact ≡ true ∷ true ∷ true ∷ true ∷ true ∷ [])
+    × (silenced noFact ≡ false)
