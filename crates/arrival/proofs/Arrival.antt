@@ -1,11 +1,11 @@
 -- Laws of checks 3 to 14: the walk, the option and the arriving port's range.
 use mathlib.Core.Path.{_≡_, refl, sym, _∙_, ap}
-use mathlib.Core.Bool.{Bool, true, false, cond, not, _&&_, _||_, true≢false}
+use mathlib.Core.Bool.{Bool, true, false, cond, not, _||_, true≢false}
 use mathlib.Core.List.{List, [], _∷_}
 use mathlib.Core.Option.{Option, none, some}
 use Prim.Native.Nat.{ℕ, suc, _+_, _-_, _%_, _≤_, _<_}
 use native.Mathlib.Omega.{arith}
-use lib.Dec.{leb, ltb, eqb}
+use lib.Dec.{ltb, eqb}
 use lib.ListN.{length, getD, take, drop, length-drop, length-take, List·getD-eq-default}
 use mathlib.Core.Logic.{_⊎_, inl, inr}
 use lib.Seq.{getD-drop, getD-take, length-take-le}
@@ -16,20 +16,17 @@ use Rattle.label.specs.Label.{used, wellFormed, leq, inRange}
 use Rattle.label.specs.Keys.{keyRuns, withKeys}
 use Rattle.label.proofs.Bools.{and-left, less-or}
 use Rattle.label.proofs.Labels.{leq-says, used-of}
-use Rattle.option.specs.Option.{Octets, Means}
+use Rattle.option.specs.Option.{Octets}
 use Rattle.reading.specs.declared.Reading.{Reading}
 use Rattle.reading.specs.declared.KeyReading.{KeyReading}
 use Rattle.reading.specs.Reading.{framed, readingFor}
 use Rattle.reading.specs.Keys.{keyed, labelled, keyReadingFor, keysAfter, ReadsKeys}
 use Rattle.reading.proofs.Theorems.{reads}
-use Rattle.area.specs.declared.Kind.{Kind}
-use Rattle.area.specs.declared.Kind.the-variants.{Cipso}
-use Rattle.area.specs.declared.Size.the-variants.{Whole}
 use Rattle.area.specs.declared.Place.{Place}
 use Rattle.area.specs.declared.Place.the-variants.{Nowhere, At}
 use Rattle.area.specs.declared.Walk.{Walk}
 use Rattle.area.specs.declared.Walk.the-variants.{Sound, Refused}
-use Rattle.area.specs.Area.{kindOf, sizeOf, walkOf, LabelAt}
+use Rattle.area.specs.Area.{walkOf, LabelAt}
 use Rattle.area.proofs.Laws.{area-refused, label-in, whole-size, cipso-octet}
 use Rattle.port.specs.declared.Port.{Port}
 use Rattle.port.specs.Port.{portSound}

@@ -1,6 +1,6 @@
 -- Laws of a delivery, return by return.
 use mathlib.Core.Path.{_≡_, refl, sym, _∙_, ap}
-use mathlib.Core.Bool.{Bool, true, false, cond, not, _&&_}
+use mathlib.Core.Bool.{Bool, true, false, cond, _&&_}
 use mathlib.Core.List.{List, [], _∷_}
 use mathlib.Core.Option.{Option, none, some}
 use Prim.Native.Nat.{ℕ, _≤_}
@@ -14,7 +14,7 @@ use Rattle.port.specs.Port.{portSound, hostSound}
 use Rattle.port.proofs.Laws.{host-range}
 use Rattle.arrival.specs.declared.Verdict.{Verdict}
 use Rattle.arrival.specs.Checks.{Refusal, silent, barred, firstOf, badArea, arrivingLabel, Delivery, deliverySizes, deliveryRecords, hostCheck}
-use Rattle.arrival.specs.Decision.{silenced, refused, done, decided, arrivalChecks, deliverChecks, deliverOf}
+use Rattle.arrival.specs.Decision.{silenced, refused, done, arrivalChecks, deliverChecks, deliverOf}
 use Rattle.arrival.specs.Verdict.{verdictOf, stopped, arrivalOf, Arrives, concluded}
 use Rattle.arrival.specs.Stages.{heldBetween, hostedBy}
 use Rattle.arrival.proofs.First.{orElse, first-append, Late}

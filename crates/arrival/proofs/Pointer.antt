@@ -5,12 +5,11 @@ use mathlib.Core.List.{List, [], _∷_}
 use Prim.Native.Nat.{ℕ, _+_, _-_, _≤_, _<_}
 use native.Mathlib.Omega.{arith}
 use lib.Dec.{ltb, eqb}
-use lib.ListN.{length, take, drop, length-take, length-drop}
+use lib.ListN.{length, length-take, length-drop}
 use borrow.Author.Tests.{ltb-true}
 use Rattle.label.specs.declared.Label.{Label}
 use Rattle.option.specs.Option.{domainOf, tagOf, tagLengthOf}
-use Rattle.reading.specs.declared.Reading.{Reading}
-use Rattle.reading.specs.Reading.{Check, check, found, refusal, firstOf, categoriesIn, badPlace, tagChecks, labelIn, readingBy, readingFor}
+use Rattle.reading.specs.Reading.{Check, check, refusal, firstOf, categoriesIn, badPlace, tagChecks, labelIn, readingBy, readingFor}
 
 abbrev PointWithin : ℕ → List Check → Type 0
 PointWithin b [] = Unit {0}

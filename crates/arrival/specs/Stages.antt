@@ -1,11 +1,11 @@
 -- What the stages of a decision answer, in the terms of the checks; no public contract names these but for the inputs put together.
-use mathlib.Core.Bool.{Bool, true, false, cond, not}
+use mathlib.Core.Bool.{Bool, cond, not}
 use mathlib.Core.List.{List, [], _∷_}
 use mathlib.Core.Option.{Option}
 use mathlib.Core.Path.{_≡_}
 use Prim.Native.Nat.{ℕ}
 use lib.Dec.{eqb}
-use lib.ListN.{length, take}
+use lib.ListN.{take}
 use Rattle.label.specs.declared.Label.{Label}
 use Rattle.label.specs.Label.{used, inRange}
 use Rattle.label.specs.Keys.{keyRuns}

@@ -1,5 +1,5 @@
 -- Document 01, "The order of checks": what is decided on the way to a decision, without the label, whose categories stand in a lent list as keys.
-use mathlib.Core.Bool.{Bool, true, false, cond, not, _||_}
+use mathlib.Core.Bool.{Bool, cond, not, _||_}
 use mathlib.Core.List.{List, [], _∷_}
 use mathlib.Core.Option.{Option, none, some}
 use mathlib.Core.Path.{_≡_}

@@ -45,7 +45,7 @@ pub record Ran (f : Forwarding) (own own′ far far′ out out′ : List ℕ) (a
   pub own-kept : 120 ≤ length own′
   pub far-room : 184 ≤ length far
   pub arrives : Arrives (f .arriving) (f .area) 9 own own′ a
-  pub ready : r ≡ recordedBy a (f .room) (f .leaving)
+  pub ready : r ≡ recordedBy a (f .room) (portSound (f .leaving))
   pub crosses : Crosses r (f .arriving .domain) (f .leaving .domain) (f .table) (f .levels) own′ far far′ c
   pub held : h ≡ heldBy c (f .leaving .lowest) (f .leaving .highest) far′
   pub counted : kept ≡ cond (eqb (h .number) 0) (length (keptOf (f .area))) 0
@@ -109,10 +109,10 @@ module _ (f : Forwarding) (own own′ far far′ out out′ : List ℕ) (a r c h
           ∙ rw (le-leb (y .number) 2 t)
 
   -- what is ready, of what arrived
-  ready-of : (o : Option Refusal) → a ≡ answer o → r ≡ recordedBy (answer o) (f .room) (f .leaving)
-  ready-of o e = s .ready ∙ ap (λ (w : Verdict). recordedBy w (f .room) (f .leaving)) e
+  ready-of : (o : Option Refusal) → a ≡ answer o → r ≡ recordedBy (answer o) (f .room) (portSound (f .leaving))
+  ready-of o e = s .ready ∙ ap (λ (w : Verdict). recordedBy w (f .room) (portSound (f .leaving))) e
 
-  one-ready : recordedBy (answer (some (silent 1))) (f .room) (f .leaving) ≡ answer (some (silent 1))
+  one-ready : recordedBy (answer (some (silent 1))) (f .room) (portSound (f .leaving)) ≡ answer (some (silent 1))
   unfolding recordedBy
   one-ready = refl
 

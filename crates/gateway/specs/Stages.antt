@@ -13,7 +13,6 @@ use Rattle.spelling.specs.Keys.{keysSpelled, keysCount, keysWritten}
 use Rattle.leaving.specs.Kept.{keptOf, restCount, restOf}
 use Rattle.port.specs.declared.Port.{Port}
 use Rattle.arrival.specs.declared.Facts.{Facts}
-use Rattle.port.specs.Port.{portSound}
 use Rattle.table.specs.declared.Table.{Table}
 use Rattle.table.specs.Table.{tableSound}
 use Rattle.renumber.specs.declared.Carried.{Carried}
@@ -35,9 +34,8 @@ abbrev pub crossingChecks : Crossing → List (Option Refusal)
 crossingChecks x = numberCheck x ∷ leavingCheck x ∷ when (ltb 120 (length (leavingRuns x))) (barred 18 9) ∷ []
 
 -- 1 of the output, then 2 of the leaving port, before what else was found on arrival
-unfoldable pub recordedBy : Verdict → ℕ → Port → Verdict
-recordedBy r room leaving =
-    cond (eqb (r .number) 1) r (cond (ltb room 40) (stopped 1 0 0 0) (cond (portSound leaving) r (stopped 2 0 0 0)))
+unfoldable pub recordedBy : Verdict → ℕ → Bool → Verdict
+recordedBy r room sound = cond (eqb (r .number) 1) r (cond (ltb room 40) (stopped 1 0 0 0) (cond sound r (stopped 2 0 0 0)))
 
 -- 2 of the table, before 3 to 14
 unfoldable pub tabledBy : Verdict → Table → List (List ℕ) → Verdict

@@ -45,8 +45,10 @@ pub fn forward(
 {
     let mut own = [0u32; 120];
     let mut far = [0u32; 184];
+    // before anything is written, so that the port is not copied for a later look
+    let sound = port_sound(leaving);
     let arrived = arrive(arriving, area, 9, &mut own);
-    let ready = check_leaving(arrived, out.len(), leaving);
+    let ready = check_leaving(arrived, out.len(), sound);
     let crossed = cross(
         ready,
         arriving.domain,
@@ -64,8 +66,8 @@ pub fn forward(
 }
 
 // Check 1 of the output, and 2 of the leaving port: before 3 to 14 of what arrived.
-fn check_leaving(arrived: Verdict, room: usize, leaving: Port) -> Verdict
-    ensures { λ r. ⌜ r ≡ recordedBy arrived room leaving ⌝ }
+fn check_leaving(arrived: Verdict, room: usize, sound: bool) -> Verdict
+    ensures { λ r. ⌜ r ≡ recordedBy arrived room sound ⌝ }
 {
     if arrived.number == 1 {
         return arrived;
@@ -73,7 +75,7 @@ fn check_leaving(arrived: Verdict, room: usize, leaving: Port) -> Verdict
     if room < 40 {
         return stop(1, 0, 0, 0);
     }
-    if !port_sound(leaving) {
+    if !sound {
         return stop(2, 0, 0, 0);
     }
     arrived

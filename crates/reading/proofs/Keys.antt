@@ -133,6 +133,3 @@ module _ (o keys keys′ : List ℕ) (r : KeyReading) (t : ReadsTag o keys keys�
 -- The label is made of the keys.
 pub alone-is : {o keys : List ℕ} {r : KeyReading} → AloneRead o keys r → (d : ℕ) → d ≡ cond (eqb (r .number) 0) (domainOf o) 0 → (x : Reading) → x ≡ withLabel d r keys → x ≡ readingOf o
 alone-is {o} {keys} {r} a d e x f = f ∙ ap (λ (z : ℕ). withLabel z r keys) e ∙ a .reading
-
-pub for-is : {d : ℕ} {o was keys : List ℕ} {r : KeyReading} → ReadsKeys d o was keys r → 120 ≤ length was → (owner : ℕ) → owner ≡ cond (eqb (r .number) 0) d 0 → (x : Reading) → x ≡ withLabel owner r keys → x ≡ readingFor d o
-for-is {d} {o} {was} {keys} {r} a h owner e x f = f ∙ ap (λ (z : ℕ). withLabel z r keys) e ∙ a .reading h

@@ -10,7 +10,7 @@ ghost use Rattle.label.specs.Keys.{runKey};
 ghost use Rattle.option.specs.Option.{domainOf};
 ghost use Rattle.option.specs.Index.{numberAt, bottomAt, pairsOf, badPair};
 ghost use Rattle.reading.specs.Stages.{afterPiece, PassOver, ReadsTag, AloneRead};
-ghost use Rattle.reading.specs.Reading.{refusal, knownTag, goodLength, readingOf, readingFor};
+ghost use Rattle.reading.specs.Reading.{refusal, knownTag, goodLength, readingOf};
 ghost use Rattle.reading.specs.Keys.{keyed, withLabel, ReadsKeys};
 use bitmap::read_bitmap;
 use label::Label;
@@ -361,16 +361,6 @@ fn read_alone(octets: &[u8], keys: &mut [u32]) -> KeyReading
     read_tag(octets, keys)
 }
 
-// A refusal's label is of domain 0.
-fn owned_by(number: u8, domain: u32) -> u32
-    ensures { λ r. ⌜ r ≡ cond (eqb number 0) domain 0 ⌝ }
-{
-    if number == 0 {
-        return domain;
-    }
-    0
-}
-
 fn domain_for(number: u8, octets: &[u8]) -> u32
     requires { ⌜ (number ≡ 0 → 10 ≤ length (now octets)) ⌝ }
     ensures { λ r. ⌜ r ≡ cond (eqb number 0) (domainOf (now (octets .entry))) 0 ⌝ }
@@ -420,14 +410,4 @@ pub fn read_keys(octets: &[u8], domain: u32, keys: &mut [u32]) -> KeyReading
         return refuse(8, option::DOMAIN_AT);
     }
     read_tag(octets, keys)
-}
-
-// The same with the label itself.
-pub fn read_option_of(octets: &[u8], domain: u32) -> Reading
-    ensures { λ r. ⌜ r ≡ readingFor domain (now (octets .entry)) ⌝ }
-{
-    let mut keys = [0u32; 120];
-    let read = read_keys(octets, domain, &mut keys);
-    let owner = owned_by(read.number, domain);
-    to_reading(read, owner, &keys)
 }

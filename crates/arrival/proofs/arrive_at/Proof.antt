@@ -1,6 +1,5 @@
 -- `arrival::arrive_at` meets its contract.
 use borrow.Author.Needs.{needs}
-use mathlib.Core.Path.{_≡_, sym, _∙_}
 use Rattle.arrival.proofs.Arrival.{none-required, none-assigned}
 use Rattle.arrival.proofs.arrive_at.Statement.{statement}
 use Rattle.arrival.proofs.arrive_at.Tie as tie

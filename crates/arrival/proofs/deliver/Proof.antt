@@ -1,7 +1,7 @@
 -- `arrival::deliver` meets its contract.
 use borrow.Author.Needs.{needs}
 use native.Mathlib.Omega.{arith}
-use mathlib.Core.Path.{_≡_, sym, _∙_, ap}
+use mathlib.Core.Path.{_∙_}
 use Rattle.arrival.specs.Stages.{deliveryOf}
 use Rattle.arrival.proofs.Deliveries.{delivered}
 use Rattle.arrival.proofs.deliver.Statement.{statement}

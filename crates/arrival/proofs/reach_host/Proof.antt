@@ -2,7 +2,6 @@
 use borrow.Author.Needs.{needs}
 use borrow.Author.Tests.{not-true, not-false, eq-eqb, ne-eqb}
 use mathlib.Core.Path.{sym, _∙_}
-use mathlib.Core.Bool.{true, false}
 use Rattle.arrival.specs.Stages.{hostedBy}
 use Rattle.arrival.proofs.reach_host.Statement.{statement}
 use Rattle.arrival.proofs.reach_host.Tie as tie

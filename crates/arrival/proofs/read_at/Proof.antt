@@ -1,7 +1,6 @@
 -- `arrival::read_at` meets its contract.
 use borrow.Author.Needs.{needs}
 use native.Mathlib.Omega.{arith}
-use mathlib.Core.Path.{_≡_, sym, _∙_}
 use Prim.Native.Nat.{ℕ, _+_, _≤_, _<_}
 use lib.ListN.{getD}
 use Rattle.arrival.proofs.Arrival.{Framed, placed-framed, octets-part, keys-refused, keys-point, keys-held}

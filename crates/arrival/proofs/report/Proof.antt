@@ -1,7 +1,6 @@
 -- `arrival::report` meets its contract.
 use borrow.Author.Needs.{needs}
 use borrow.Author.Tests.{eq-eqb, ne-eqb}
-use mathlib.Core.Path.{_∙_}
 use Rattle.arrival.proofs.report.Statement.{statement}
 use Rattle.arrival.proofs.report.Tie as tie
 

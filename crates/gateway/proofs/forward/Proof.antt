@@ -4,10 +4,13 @@ use native.Mathlib.Omega.{arith}
 use mathlib.Core.Path.{_≡_, refl, sym, _∙_, ap}
 use lib.ListN.{length}
 use Rattle.gateway.specs.Crossing.{Forwarding}
-use Rattle.gateway.specs.Stages.{forwardingOf}
+use Rattle.gateway.specs.Stages.{forwardingOf, recordedBy}
 use Rattle.gateway.proofs.Stages.{forwarded}
 use Rattle.gateway.proofs.forward.Statement.{statement}
 use Rattle.gateway.proofs.forward.Tie as tie
+
+port-sound-requires : tie.Need-port-sound-requires
+port-sound-requires c κs = search needs
 
 slice-aggregate-arrive : tie.Need-slice-aggregate-arrive
 slice-aggregate-arrive c = search needs
@@ -68,7 +71,8 @@ returns c =
     let x = h .before .before .before in
     let r = x .before .before .before in
     let a = r .before .before in
-    let s = a .before .before .before .before in
+    let p = a .before .before in
+    let s = p .before .before .before in
     let q =
     forwarded (forwardingOf (s .args .arriving) (s .args .leaving) (s .args .table) (s .args .levels) (s .args .facts) (s .args .area .now) (length (s .args .out .now)))
     _ _ _ _ (s .args .out .now) _ (a .arrive .result) (r .check-leaving .result) (x .cross .result) (h .hold-leaving .result) (t .fit .result) (k .kept-by .result) (w .write-area .result)
@@ -78,7 +82,7 @@ returns c =
       own-kept = omega arith;
       far-room = omega arith;
       arrives = a .arrive .ensures;
-      ready = r .check-leaving .ensures;
+      ready = r .check-leaving .ensures ∙ ap (recordedBy (a .arrive .result) (length (s .args .out .now))) (p .port-sound .ensures);
       crosses = x .cross .ensures;
       held = h .hold-leaving .ensures;
       counted = k .kept-by .ensures;
@@ -91,6 +95,7 @@ pub forward-spec : {M : Type 1} → statement M
 forward-spec =
     tie.close
     (tie.spec
+    port-sound-requires
     slice-aggregate-arrive
     arrive-requires
     check-leaving-requires
