@@ -14,7 +14,7 @@ use Rattle.port.specs.Port.{portSound, hostSound}
 use Rattle.port.proofs.Laws.{host-range}
 use Rattle.arrival.specs.declared.Verdict.{Verdict}
 use Rattle.arrival.specs.Checks.{Refusal, silent, barred, firstOf, badArea, arrivingLabel, Delivery, deliverySizes, deliveryRecords, hostCheck}
-use Rattle.arrival.specs.Decision.{refused, done, arrivalChecks, deliverChecks, deliverOf}
+use Rattle.arrival.specs.Decision.{silenced, refused, done, arrivalChecks, deliverChecks, deliverOf}
 use Rattle.arrival.specs.Verdict.{verdictOf, stopped, arrivalOf, Arrives, concluded}
 use Rattle.arrival.specs.Stages.{heldBetween, hostedBy}
 use Rattle.arrival.proofs.First.{orElse, first-append, Late}
@@ -22,7 +22,7 @@ use Rattle.arrival.proofs.Arrival.{arrival-held, arrival-late}
 use Rattle.arrival.proofs.Verdicts.{held-in-range, label-from, concluded-refused, concluded-done}
 
 module _ (d : Delivery) where
-  pub deliver-refused : (x : Refusal) → firstOf (deliverChecks d) ≡ some x → refused (d .icmp) x ≡ deliverOf d
+  pub deliver-refused : (x : Refusal) → firstOf (deliverChecks d) ≡ some x → refused (silenced (d .facts)) x ≡ deliverOf d
   unfolding deliverOf
   deliver-refused x e = rw e
 
@@ -66,10 +66,10 @@ module _ (d : Delivery) (keys keys′ : List ℕ) (a v : Verdict) (room : 120 �
 
   -- a refusal
   by-refusal : (o : Option Refusal) (x : Refusal) → a ≡ answer o → hostedBy (answer o) (d .host) (d .port .domain) keys′ ≡ answer (some x) → (x .number ≡ 0 → ⊥)
-      → firstOf (deliverChecks d) ≡ some x → concluded v (d .port .domain) (d .icmp) 0 keys′ ≡ deliverOf d
+      → firstOf (deliverChecks d) ≡ some x → concluded v (d .port .domain) (silenced (d .facts)) 0 keys′ ≡ deliverOf d
   by-refusal o x e f h g =
-      ap (λ (r : Verdict). concluded r (d .port .domain) (d .icmp) 0 keys′) (hosted ∙ ap (λ (r : Verdict). hostedBy r (d .host) (d .port .domain) keys′) e ∙ f)
-      ∙ concluded-refused x (label .level) (label .count) (d .port .domain) 0 (d .icmp) keys′ h
+      ap (λ (r : Verdict). concluded r (d .port .domain) (silenced (d .facts)) 0 keys′) (hosted ∙ ap (λ (r : Verdict). hostedBy r (d .host) (d .port .domain) keys′) e ∙ f)
+      ∙ concluded-refused x (label .level) (label .count) (d .port .domain) 0 (silenced (d .facts)) keys′ h
       ∙ deliver-refused d x g
 
   size-is : badArea (d .area) ≡ true → a ≡ answer (some (silent 1))
@@ -129,34 +129,34 @@ module _ (d : Delivery) (keys keys′ : List ℕ) (a v : Verdict) (room : 120 �
           ranged-host true q = rw (h, held-is ∙ q)
           ranged-host false q = rw (h, held-is ∙ q)
 
-          by-range : (b : Bool) → inRange (d .host .lowest) (d .host .highest) label ≡ b → concluded v (d .port .domain) (d .icmp) 0 keys′ ≡ deliverOf d
+          by-range : (b : Bool) → inRange (d .host .lowest) (d .host .highest) label ≡ b → concluded v (d .port .domain) (silenced (d .facts)) 0 keys′ ≡ deliverOf d
           by-range false q = by-refusal none (barred 15 10) none-is (ranged-host false q) (λ z. omega arith) (deliver-outside d sized p h e q)
           by-range true q =
               let f = arrival-held (d .port) (d .area) 10 p e in
               let l : labelFrom (d .port .domain) (label .level) (keyRuns (take (label .count) keys′)) ≡ label =
               ap (λ (n : ℕ). labelFrom n (label .level) (keyRuns (take (label .count) keys′))) (sym (f .domain)) ∙ label-from label _ (f .formed) stand in
-              ap (λ (r : Verdict). concluded r (d .port .domain) (d .icmp) 0 keys′) (hosted ∙ ap (λ (r : Verdict). hostedBy r (d .host) (d .port .domain) keys′) none-is ∙ ranged-host true q)
-              ∙ concluded-done (label .level) (label .count) (d .port .domain) 0 (d .icmp) keys′
+              ap (λ (r : Verdict). concluded r (d .port .domain) (silenced (d .facts)) 0 keys′) (hosted ∙ ap (λ (r : Verdict). hostedBy r (d .host) (d .port .domain) keys′) none-is ∙ ranged-host true q)
+              ∙ concluded-done (label .level) (label .count) (d .port .domain) 0 (silenced (d .facts)) keys′
               ∙ ap (λ (x : Label). done x 0) l
               ∙ deliver-done d sized p h e q
 
-        by-arrival : (o : Option Refusal) → firstOf (arrivalChecks (d .port) (d .area) 10) ≡ o → Late o → concluded v (d .port .domain) (d .icmp) 0 keys′ ≡ deliverOf d
+        by-arrival : (o : Option Refusal) → firstOf (arrivalChecks (d .port) (d .area) 10) ≡ o → Late o → concluded v (d .port .domain) (silenced (d .facts)) 0 keys′ ≡ deliverOf d
         by-arrival none e t = by-range e (inRange (d .host .lowest) (d .host .highest) label) refl
         by-arrival (some x) e t = by-refusal (some x) x (past-is ∙ ap answer e) (stopped-host x t) (λ z. omega arith) (deliver-arrival d sized p h x e)
 
-      by-host : (b : Bool) → hostSound (d .host) (d .port .domain) ≡ b → concluded v (d .port .domain) (d .icmp) 0 keys′ ≡ deliverOf d
+      by-host : (b : Bool) → hostSound (d .host) (d .port .domain) ≡ b → concluded v (d .port .domain) (silenced (d .facts)) 0 keys′ ≡ deliverOf d
       by-host true h = by-arrival h (firstOf (arrivalChecks (d .port) (d .area) 10)) refl (arrival-late (d .port) (d .area) 10)
       by-host false h =
           by-refusal (firstOf (arrivalChecks (d .port) (d .area) 10)) (silent 2) past-is (unsound-host (firstOf (arrivalChecks (d .port) (d .area) 10)) (arrival-late (d .port) (d .area) 10) h) (λ z. omega arith)
           (deliver-record d sized (rw (p, h)))
 
-    by-port : (b : Bool) → portSound (d .port) ≡ b → concluded v (d .port .domain) (d .icmp) 0 keys′ ≡ deliverOf d
+    by-port : (b : Bool) → portSound (d .port) ≡ b → concluded v (d .port .domain) (silenced (d .facts)) 0 keys′ ≡ deliverOf d
     by-port true p = by-host p (hostSound (d .host) (d .port .domain)) refl
     by-port false p = by-refusal (some (silent 2)) (silent 2) (record-is p) record-host (λ z. omega arith) (deliver-record d sized (rw p))
 
-  by-size : (b : Bool) → badArea (d .area) ≡ b → concluded v (d .port .domain) (d .icmp) 0 keys′ ≡ deliverOf d
+  by-size : (b : Bool) → badArea (d .area) ≡ b → concluded v (d .port .domain) (silenced (d .facts)) 0 keys′ ≡ deliverOf d
   by-size true e = by-refusal (some (silent 1)) (silent 1) (size-is e) size-host (λ z. omega arith) (deliver-size d e)
   by-size false e = by-port e (portSound (d .port)) refl
 
-  pub delivered : concluded v (d .port .domain) (d .icmp) 0 keys′ ≡ deliverOf d
+  pub delivered : concluded v (d .port .domain) (silenced (d .facts)) 0 keys′ ≡ deliverOf d
   delivered = by-size (badArea (d .area)) refl

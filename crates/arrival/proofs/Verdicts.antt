@@ -63,14 +63,14 @@ unfolding labelFrom
 none-from = refl
 
 -- what is reported, with its label and count, is the decision
-pub concluded-by : (r said : Verdict) (domain owner count n : ℕ) (icmp : Bool) (keys : List ℕ) (l : Label)
-    → said ≡ reported icmp r
+pub concluded-by : (r said : Verdict) (domain owner count n : ℕ) (quiet : Bool) (keys : List ℕ) (l : Label)
+    → said ≡ reported quiet r
     → owner ≡ cond (eqb (said .number) 0) domain 0
     → l ≡ labelFrom owner (said .level) (keyRuns (take (said .count) keys))
     → n ≡ cond (eqb (said .number) 0) count 0
-    → _≡_ {A = Decision} (record { number = said .number; kind = said .kind; code = said .code; pointer = said .pointer; count = n; label = l }) (concluded r domain icmp count keys)
+    → _≡_ {A = Decision} (record { number = said .number; kind = said .kind; code = said .code; pointer = said .pointer; count = n; label = l }) (concluded r domain quiet count keys)
 unfolding concluded
-concluded-by r said domain owner count n icmp keys l e f g h = go (eqb (r .number) 0) refl icmp e
+concluded-by r said domain owner count n quiet keys l e f g h = go (eqb (r .number) 0) refl quiet e
   where
     -- nothing refused
     passed : said ≡ going (r .level) (r .count)
@@ -90,19 +90,19 @@ concluded-by r said domain owner count n icmp keys l e f g h = go (eqb (r .numbe
         let g′ : l ≡ zeroLabel = g ∙ (λ i. labelFrom (f′ i) (q i .level) (keyRuns (take (q i .count) keys))) ∙ none-from in
         λ i. record { number = q i .number; kind = q i .kind; code = q i .code; pointer = q i .pointer; count = h′ i; label = g′ i }
 
-    go : (b : Bool) → eqb (r .number) 0 ≡ b → (icmp : Bool) → said ≡ reported icmp r
+    go : (b : Bool) → eqb (r .number) 0 ≡ b → (quiet : Bool) → said ≡ reported quiet r
         → _≡_ {A = Decision} (record { number = said .number; kind = said .kind; code = said .code; pointer = said .pointer; count = n; label = l })
-        (cond (eqb (r .number) 0) (done (labelFrom domain (r .level) (keyRuns (take (r .count) keys))) count) (refused icmp (record { number = r .number; kind = r .kind; code = r .code; pointer = r .pointer })))
-    go true z icmp q = rw z (passed (rw z at q))
+        (cond (eqb (r .number) 0) (done (labelFrom domain (r .level) (keyRuns (take (r .count) keys))) count) (refused quiet (record { number = r .number; kind = r .kind; code = r .code; pointer = r .pointer })))
+    go true z quiet q = rw z (passed (rw z at q))
     go false z true q = rw z (stopped-with 0 0 0 z (rw z at q))
     go false z false q = rw z (stopped-with (r .kind) (r .code) (r .pointer) z (rw z at q))
 
 -- the decision of a refusal, and of a verdict that nothing stopped
-pub concluded-refused : (x : Refusal) (v n domain count : ℕ) (icmp : Bool) (keys : List ℕ) → (x .number ≡ 0 → ⊥)
-    → concluded (verdictOf (some x) v n) domain icmp count keys ≡ refused icmp x
+pub concluded-refused : (x : Refusal) (v n domain count : ℕ) (quiet : Bool) (keys : List ℕ) → (x .number ≡ 0 → ⊥)
+    → concluded (verdictOf (some x) v n) domain quiet count keys ≡ refused quiet x
 unfolding concluded
-concluded-refused x v n domain count icmp keys h = rw (ne-eqb (x .number) 0 h)
+concluded-refused x v n domain count quiet keys h = rw (ne-eqb (x .number) 0 h)
 
-pub concluded-done : (v n domain count : ℕ) (icmp : Bool) (keys : List ℕ) → concluded (verdictOf none v n) domain icmp count keys ≡ done (labelFrom domain v (keyRuns (take n keys))) count
+pub concluded-done : (v n domain count : ℕ) (quiet : Bool) (keys : List ℕ) → concluded (verdictOf none v n) domain quiet count keys ≡ done (labelFrom domain v (keyRuns (take n keys))) count
 unfolding concluded
-concluded-done v n domain count icmp keys = refl
+concluded-done v n domain count quiet keys = refl

@@ -17,6 +17,7 @@ use Rattle.area.specs.Area.{walkOf}
 use Rattle.port.specs.declared.Port.{Port}
 use Rattle.port.specs.declared.Host.{Host}
 use Rattle.port.specs.Port.{portSound, hostSound}
+use Rattle.arrival.specs.declared.Facts.{Facts}
 
 -- a refusal: its number, and its ICMP type, code and pointer
 pub record Refusal : Type 0 where
@@ -108,7 +109,7 @@ rangeCheck port area code = when (not (inRange (port .lowest) (port .highest) (a
 pub record Delivery : Type 0 where
   pub port : Port
   pub host : Host
-  pub icmp : Bool
+  pub facts : Facts
   pub area : List ℕ
 
 -- 1, of a delivery: nothing is built, so there is no output

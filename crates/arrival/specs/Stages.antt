@@ -15,18 +15,19 @@ use Rattle.port.specs.declared.Port.{Port}
 use Rattle.port.specs.declared.Host.{Host}
 use Rattle.port.specs.Port.{hostSound}
 use Rattle.arrival.specs.declared.Verdict.{Verdict}
+use Rattle.arrival.specs.declared.Facts.{Facts}
 use Rattle.arrival.specs.Checks.{Refusal, barred, when, firstOf, requiredBy, optionBy, labelBy, Delivery}
 use Rattle.arrival.specs.Verdict.{verdictOf, stopped, going, keysBy}
 
 -- the inputs of a delivery
-abbrev pub deliveryOf : Port → Host → Bool → List ℕ → Delivery
-deliveryOf p h icmp area = record { port = p; host = h; icmp = icmp; area = area }
+abbrev pub deliveryOf : Port → Host → Facts → List ℕ → Delivery
+deliveryOf p h facts area = record { port = p; host = h; facts = facts; area = area }
 
--- a verdict, if the datagram is marked as ICMP
+-- a verdict, if the datagram is silenced
 abbrev pub reported : Bool → Verdict → Verdict
-reported icmp r =
+reported quiet r =
     cond (eqb (r .number) 0) (going (r .level) (r .count))
-    (cond icmp (stopped (r .number) 0 0 0) (stopped (r .number) (r .kind) (r .code) (r .pointer)))
+    (cond quiet (stopped (r .number) 0 0 0) (stopped (r .number) (r .kind) (r .code) (r .pointer)))
 
 -- checks 6 to 14, with the option 134 at its place
 abbrev pub placeChecks : Place → Port → List ℕ → ℕ → List (Option Refusal)

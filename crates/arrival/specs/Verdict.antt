@@ -64,6 +64,6 @@ pub record Arrives (port : Port) (area : List ℕ) (code : ℕ) (keys keys′ : 
 
 -- the decision of a verdict: the label with the runs of the first keys and a count, or the refusal
 unfoldable pub concluded : Verdict → ℕ → Bool → ℕ → List ℕ → Decision
-concluded r domain icmp n keys =
+concluded r domain quiet n keys =
     cond (eqb (r .number) 0) (done (labelFrom domain (r .level) (keyRuns (take (r .count) keys))) n)
-    (refused icmp (record { number = r .number; kind = r .kind; code = r .code; pointer = r .pointer }))
+    (refused quiet (record { number = r .number; kind = r .kind; code = r .code; pointer = r .pointer }))

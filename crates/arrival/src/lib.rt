@@ -21,7 +21,7 @@ ghost use lib.Dec.{ltb, eqb};
 ghost use Rattle.area.specs.Area.{placedIn, LabelAt};
 ghost use Rattle.area.specs.declared.Place.the-variants.{At};
 ghost use Rattle.port.specs.Port.{portSound};
-ghost use Rattle.arrival.specs.Decision.{deliverOf};
+ghost use Rattle.arrival.specs.Decision.{silenced, deliverOf};
 ghost use Rattle.arrival.specs.Verdict.{stopped, going, Arrives, concluded};
 ghost use Rattle.arrival.specs.Stages.{deliveryOf, ArrivesAt, reported, heldBetween, hostedBy};
 
@@ -47,14 +47,28 @@ pub struct Verdict {
     pub count: usize,
 }
 
+// What the caller states of a datagram (RFC 1122, section 3.2.2): no error goes out about one of which any of these holds.
+pub struct Facts {
+    // it is an ICMP error message
+    pub error: bool,
+    // its destination is broadcast or multicast
+    pub group: bool,
+    // it came as a link-layer broadcast
+    pub link: bool,
+    // it is a fragment other than the first
+    pub fragment: bool,
+    // its source is not one host
+    pub source: bool,
+}
+
 // Decides whether a datagram is delivered to the host behind the port.
-pub fn deliver(port: Port, host: Host, icmp: bool, area: &[u8]) -> Decision
-    ensures { λ r. ⌜ r ≡ deliverOf (deliveryOf port host icmp (now (area .entry))) ⌝ }
+pub fn deliver(port: Port, host: Host, facts: Facts, area: &[u8]) -> Decision
+    ensures { λ r. ⌜ r ≡ deliverOf (deliveryOf port host facts (now (area .entry))) ⌝ }
 {
     let mut keys = [0u32; 120];
     let arrived = arrive(port, area, 10, &mut keys);
     let verdict = reach_host(arrived, host, port.domain, &keys);
-    conclude(verdict, port.domain, icmp, 0, &keys)
+    conclude(verdict, port.domain, facts, 0, &keys)
 }
 
 // Checks 1 to 14 at a port: 0, with the runs of the label that the datagram arrives with as keys at the head of the list, or the refusal;
@@ -78,11 +92,12 @@ pub fn arrive(port: Port, area: &[u8], code: u8, keys: &mut [u32]) -> Verdict
 }
 
 // The decision of a verdict: the label of the domain with the runs of the first keys, and the count; or the refusal, with count 0 and an
-// all-zero label. If the datagram is marked as ICMP, the number of a refusal stays and the report is silent.
-pub fn conclude(verdict: Verdict, domain: u32, icmp: bool, count: usize, keys: &[u32]) -> Decision
-    ensures { λ r. ⌜ r ≡ concluded verdict domain icmp count (now (keys .entry)) ⌝ }
+// all-zero label. If a fact silences the datagram, the number of a refusal stays and the report is silent.
+pub fn conclude(verdict: Verdict, domain: u32, facts: Facts, count: usize, keys: &[u32]) -> Decision
+    ensures { λ r. ⌜ r ≡ concluded verdict domain (silenced facts) count (now (keys .entry)) ⌝ }
 {
-    let said = report(verdict, icmp);
+    let quiet = is_silenced(facts);
+    let said = report(verdict, quiet);
     let owner = owned_by(said.number, domain);
     // one exit, so that the label is built where it is returned
     let label = to_label(keys, said.count, owner, said.level);
@@ -124,14 +139,21 @@ pub fn go_on(level: u8, count: usize) -> Verdict
     }
 }
 
-// What is reported of a refusal: number alone where the datagram is marked as ICMP.
-fn report(verdict: Verdict, icmp: bool) -> Verdict
-    ensures { λ r. ⌜ r ≡ reported icmp verdict ⌝ }
+// Whether any of the five facts holds.
+fn is_silenced(facts: Facts) -> bool
+    ensures { λ r. ⌜ r ≡ silenced facts ⌝ }
+{
+    facts.error | (facts.group | (facts.link | (facts.fragment | facts.source)))
+}
+
+// What is reported of a refusal: its number alone where the datagram is silenced.
+fn report(verdict: Verdict, quiet: bool) -> Verdict
+    ensures { λ r. ⌜ r ≡ reported quiet verdict ⌝ }
 {
     if verdict.number == 0 {
         return go_on(verdict.level, verdict.count);
     }
-    if icmp {
+    if quiet {
         return stop(verdict.number, 0, 0, 0);
     }
     stop(verdict.number, verdict.kind, verdict.code, verdict.pointer)

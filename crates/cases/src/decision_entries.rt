@@ -1,25 +1,28 @@
-// Entries 6 and 7: the decision.
+// Entries 6 to 9: the decision, asked with a mark, which is the first of the five facts, or with all five.
 use crate::field::LONGEST;
 use crate::field::octets_of;
-use crate::field::take_flag;
 use crate::field::take_octets;
 use crate::field::take_output;
 use crate::line::put_broken;
 use crate::line::put_decision;
 use crate::line::put_lent;
+use crate::record::TakenFacts;
 use crate::record::levels_at;
+use crate::record::take_facts;
 use crate::record::take_host;
+use crate::record::take_mark;
 use crate::record::take_port;
 use crate::record::take_table;
 use arrival::deliver;
 use gateway::forward;
 
-pub fn ask_forward(case: &[u8], at: usize, out: &mut [u8], n: usize) -> usize {
+// Entries 6 and 8: `all` tells whether five facts are stated or a mark.
+pub fn ask_forward(case: &[u8], at: usize, all: bool, out: &mut [u8], n: usize) -> usize {
     let a = take_port(case, at);
     let b = take_port(case, a.next);
     let t = take_table(case, b.next);
-    let mark = take_flag(case, t.next);
-    let area = take_octets(case, mark.next);
+    let stated = take_stated(case, t.next, all);
+    let area = take_octets(case, stated.next);
     let lent = take_output(case, area.next);
     if lent.next != case.len() {
         return put_broken(out, n);
@@ -36,7 +39,7 @@ pub fn ask_forward(case: &[u8], at: usize, out: &mut [u8], n: usize) -> usize {
         leaving,
         table,
         levels,
-        mark.value,
+        stated.facts,
         octets,
         &mut space[0..room],
     );
@@ -44,17 +47,25 @@ pub fn ask_forward(case: &[u8], at: usize, out: &mut [u8], n: usize) -> usize {
     put_lent(out, decided, &space, room)
 }
 
-pub fn ask_deliver(case: &[u8], at: usize, out: &mut [u8], n: usize) -> usize {
+// Entries 7 and 9.
+pub fn ask_deliver(case: &[u8], at: usize, all: bool, out: &mut [u8], n: usize) -> usize {
     let a = take_port(case, at);
     let h = take_host(case, a.next);
-    let mark = take_flag(case, h.next);
-    let area = take_octets(case, mark.next);
+    let stated = take_stated(case, h.next, all);
+    let area = take_octets(case, stated.next);
     if area.next != case.len() {
         return put_broken(out, n);
     }
     let port = a.port;
     let host = h.host;
     let octets = octets_of(case, area.from, area.end);
-    let d = deliver(port, host, mark.value, octets);
+    let d = deliver(port, host, stated.facts, octets);
     put_decision(out, n, d)
+}
+
+fn take_stated(case: &[u8], at: usize, all: bool) -> TakenFacts {
+    if all {
+        return take_facts(case, at);
+    }
+    take_mark(case, at)
 }

@@ -1,10 +1,11 @@
-// The records of a case: labels, ports, a host, and the table with its level pairs.
+// The records of a case: labels, ports, a host, the table with its level pairs, and the facts of a datagram.
 use crate::field::take_flag;
 use crate::field::take_octet;
 use crate::field::take_part;
 use crate::field::take_short;
 use crate::field::take_stored;
 use crate::field::take_word;
+use arrival::Facts;
 use label::Label;
 use label::Run;
 use port::Host;
@@ -24,6 +25,11 @@ pub struct TakenPort {
 
 pub struct TakenHost {
     pub host: Host,
+    pub next: usize,
+}
+
+pub struct TakenFacts {
+    pub facts: Facts,
     pub next: usize,
 }
 
@@ -84,6 +90,42 @@ pub fn take_port(case: &[u8], at: usize) -> TakenPort {
     TakenPort {
         port: port,
         next: assigned.next,
+    }
+}
+
+// Five flags: the facts that the caller states.
+pub fn take_facts(case: &[u8], at: usize) -> TakenFacts {
+    let error = take_flag(case, at);
+    let group = take_flag(case, error.next);
+    let link = take_flag(case, group.next);
+    let fragment = take_flag(case, link.next);
+    let source = take_flag(case, fragment.next);
+    let facts = Facts {
+        error: error.value,
+        group: group.value,
+        link: link.value,
+        fragment: fragment.value,
+        source: source.value,
+    };
+    TakenFacts {
+        facts: facts,
+        next: source.next,
+    }
+}
+
+// One flag, the mark of entries 6 and 7: it is the first of the facts.
+pub fn take_mark(case: &[u8], at: usize) -> TakenFacts {
+    let mark = take_flag(case, at);
+    let facts = Facts {
+        error: mark.value,
+        group: false,
+        link: false,
+        fragment: false,
+        source: false,
+    };
+    TakenFacts {
+        facts: facts,
+        next: mark.next,
     }
 }
 

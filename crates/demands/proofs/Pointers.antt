@@ -27,7 +27,7 @@ use Rattle.port.specs.declared.Port.{Port}
 use Rattle.port.specs.Port.{portSound, hostSound}
 use Rattle.label.specs.Range.{setInRange}
 use Rattle.arrival.specs.Checks.{Refusal, silent, faulty, barred, when, firstOf, badArea, walkRefusal, walkCheck, placeIn, optionAt, requiredBy, requiredCheck, optionBy, optionCheck, arrivingLabel, rangeCheck, Delivery, deliverySizes, deliveryRecords, hostCheck}
-use Rattle.arrival.specs.Decision.{decided, deliverChecks, deliverOf}
+use Rattle.arrival.specs.Decision.{silenced, decided, deliverChecks, deliverOf}
 use Rattle.arrival.proofs.Arrival.{placed-framed}
 use Rattle.gateway.specs.Crossing.{Forwarding, sizes, records, crossing, stays, hasNumbers, numberCheck, leavingLevel, leavingRuns, leavingCheck, leavingOption, noRoom, spellingCheck}
 use Rattle.gateway.specs.Forward.{forwardChecks, forwardOf}
@@ -166,16 +166,16 @@ deliver-points d =
       ),
     )
 
-decided-points : (area : List ℕ) (icmp : Bool) (o : Option Refusal) (l : Label) (n : ℕ) → Points area o
-    → decided icmp o l n .kind ≡ 12 → decided icmp o l n .code ≡ 0 → PointsInto area (decided icmp o l n)
-decided-points area icmp none l n h k c = absurd (omega arith)
+decided-points : (area : List ℕ) (quiet : Bool) (o : Option Refusal) (l : Label) (n : ℕ) → Points area o
+    → decided quiet o l n .kind ≡ 12 → decided quiet o l n .code ≡ 0 → PointsInto area (decided quiet o l n)
+decided-points area quiet none l n h k c = absurd (omega arith)
 decided-points area true (some r) l n h k c = absurd (omega arith)
 decided-points area false (some r) l n h k c = let q = h k c in record { least = q .0; inside = q .1 }
 
 pub forward-inside : (f : Forwarding) → forwardOf f .kind ≡ 12 → forwardOf f .code ≡ 0 → PointsInto (f .area) (forwardOf f)
 unfolding forwardOf
-forward-inside f k c = decided-points (f .area) (f .icmp) (firstOf (forwardChecks f)) _ _ (forward-points f) k c
+forward-inside f k c = decided-points (f .area) (silenced (f .facts)) (firstOf (forwardChecks f)) _ _ (forward-points f) k c
 
 pub deliver-inside : (d : Delivery) → deliverOf d .kind ≡ 12 → deliverOf d .code ≡ 0 → PointsInto (d .area) (deliverOf d)
 unfolding deliverOf
-deliver-inside d k c = decided-points (d .area) (d .icmp) (firstOf (deliverChecks d)) _ _ (deliver-points d) k c
+deliver-inside d k c = decided-points (d .area) (silenced (d .facts)) (firstOf (deliverChecks d)) _ _ (deliver-points d) k c

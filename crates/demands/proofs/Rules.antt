@@ -28,7 +28,7 @@ use Rattle.area.proofs.Laws.{area-placed, cipso-octet}
 use Rattle.leaving.specs.Kept.{keptOf}
 use Rattle.port.specs.declared.Port.{Port}
 use Rattle.arrival.specs.Checks.{Refusal, faulty, when, firstOf, walkRefusal, walkCheck, placeIn, optionAt, requiredBy, requiredCheck, optionBy, optionCheck, rangeCheck, Delivery, deliverySizes, deliveryRecords, hostCheck}
-use Rattle.arrival.specs.Decision.{decided, deliverChecks, deliverOf}
+use Rattle.arrival.specs.Decision.{silenced, decided, deliverChecks, deliverOf}
 use Rattle.arrival.proofs.First.{orElse, first-append}
 use Rattle.arrival.proofs.Arrival.{placed-framed}
 use Rattle.gateway.specs.Crossing.{Forwarding, sizes, records, crossing, numberCheck, leavingCheck, spellingCheck}
@@ -170,9 +170,9 @@ found (r ∷ rules) = go (r .applies) refl (found rules)
     go false e (inr h) =
         inr (h .0, record { before = r ∷ h .1 .before; after = h .1 .after; order = ap (λ (x : List Rule). r ∷ x) (h .1 .order); passed = (e, h .1 .passed); applies = h .1 .applies }, h .2)
 
-follows : (rules : List Rule) (icmp : Bool) (o : Option Refusal) (l : Label) (n : ℕ) → Found rules o → Follows rules icmp (decided icmp o l n)
-follows rules icmp o l n (inl h) = passes (h .0) (ap (λ (x : Option Refusal). decided icmp x l n .number) (h .1))
-follows rules icmp o l n (inr h) = stops (h .0) (h .1) (ap (λ (x : Option Refusal). decided icmp x l n) (h .2))
+follows : (rules : List Rule) (quiet : Bool) (o : Option Refusal) (l : Label) (n : ℕ) → Found rules o → Follows rules quiet (decided quiet o l n)
+follows rules quiet o l n (inl h) = passes (h .0) (ap (λ (x : Option Refusal). decided quiet x l n .number) (h .1))
+follows rules quiet o l n (inr h) = stops (h .0) (h .1) (ap (λ (x : Option Refusal). decided quiet x l n) (h .2))
 
 none-rules : (rules : List Rule) → NoRule rules → firstOf (checks rules) ≡ none
 none-rules [] h = refl
@@ -185,29 +185,29 @@ no-rules rules e = go (found rules)
     go (inl h) = h .0
     go (inr h) = let z : _≡_ {A = ℕ} 0 1 = cc (h .2) in absurd (omega arith)
 
-forward-follows : (f : Forwarding) → Follows (forwardTests f) (f .icmp) (forwardOf f)
+forward-follows : (f : Forwarding) → Follows (forwardTests f) (silenced (f .facts)) (forwardOf f)
 unfolding forwardOf
-forward-follows f = follows (forwardTests f) (f .icmp) (firstOf (forwardChecks f)) _ _ (subst (Found (forwardTests f)) (forward-rules f) (found (forwardTests f)))
+forward-follows f = follows (forwardTests f) (silenced (f .facts)) (firstOf (forwardChecks f)) _ _ (subst (Found (forwardTests f)) (forward-rules f) (found (forwardTests f)))
 
-deliver-follows : (d : Delivery) → Follows (deliverTests d) (d .icmp) (deliverOf d)
+deliver-follows : (d : Delivery) → Follows (deliverTests d) (silenced (d .facts)) (deliverOf d)
 unfolding deliverOf
-deliver-follows d = follows (deliverTests d) (d .icmp) (firstOf (deliverChecks d)) _ _ (subst (Found (deliverTests d)) (deliver-rules d) (found (deliverTests d)))
+deliver-follows d = follows (deliverTests d) (silenced (d .facts)) (firstOf (deliverChecks d)) _ _ (subst (Found (deliverTests d)) (deliver-rules d) (found (deliverTests d)))
 
-none-zero : (icmp : Bool) (o : Option Refusal) (l : Label) (n : ℕ) → o ≡ none → decided icmp o l n .number ≡ 0
-none-zero icmp o l n e = rw e
+none-zero : (quiet : Bool) (o : Option Refusal) (l : Label) (n : ℕ) → o ≡ none → decided quiet o l n .number ≡ 0
+none-zero quiet o l n e = rw e
 
 forward-none : (f : Forwarding) → (forwardOf f .number ≡ 0) ↔ NoRule (forwardTests f)
 unfolding forwardOf
 forward-none f = (
   λ e. no-rules (forwardTests f) (forward-rules f ∙ forwarded-passes f e),
-  λ h. none-zero (f .icmp) (firstOf (forwardChecks f)) _ _ (sym (forward-rules f) ∙ none-rules (forwardTests f) h),
+  λ h. none-zero (silenced (f .facts)) (firstOf (forwardChecks f)) _ _ (sym (forward-rules f) ∙ none-rules (forwardTests f) h),
 )
 
 deliver-none : (d : Delivery) → (deliverOf d .number ≡ 0) ↔ NoRule (deliverTests d)
 unfolding deliverOf
 deliver-none d = (
   λ e. no-rules (deliverTests d) (deliver-rules d ∙ delivered-passes d e),
-  λ h. none-zero (d .icmp) (firstOf (deliverChecks d)) _ _ (sym (deliver-rules d) ∙ none-rules (deliverTests d) h),
+  λ h. none-zero (silenced (d .facts)) (firstOf (deliverChecks d)) _ _ (sym (deliver-rules d) ∙ none-rules (deliverTests d) h),
 )
 
 -- The octets that are blamed.

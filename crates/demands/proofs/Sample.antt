@@ -27,6 +27,7 @@ use Rattle.table.specs.Numbers.{sends, hasNumber}
 use Rattle.renumber.specs.Theorems.{Far}
 use Rattle.arrival.specs.Checks.{walkCheck, requiredCheck, optionCheck, arrivingLabel, rangeCheck}
 use Rattle.gateway.specs.Crossing.{sizes, records, numberCheck}
+use Rattle.arrival.specs.Decision.{silenced}
 use Rattle.gateway.specs.Forward.{forwardOf}
 use Rattle.demands.specs.Demands.{own, Forwards}
 use Rattle.sample_records.specs.Sample.{arriving, leaving, table, levels}
@@ -124,7 +125,7 @@ unfolding metFrom metOf keptOf
 nothing-kept = refl
 
 pub sample-lines : SampleLines
-unfolding subset allBelow wellFormed labelTyped atMost leq inRange isZero pieces readingFor readingBy tagChecks labelIn metFrom metOf walkOf keptOf rangeSound assignedSound portSound tables.typed rowsSound levelsSound tableSound walkCheck requiredCheck optionCheck arrivingLabel rangeCheck sizes records numberCheck forwardOf
+unfolding subset allBelow wellFormed labelTyped atMost leq inRange isZero pieces readingFor readingBy tagChecks labelIn metFrom metOf walkOf keptOf rangeSound assignedSound portSound tables.typed rowsSound levelsSound tableSound walkCheck requiredCheck optionCheck arrivingLabel rangeCheck sizes records numberCheck silenced forwardOf
 sample-lines =
     record {
       forward = demand2 .always (sample first) near far spelling [] conditions .0;

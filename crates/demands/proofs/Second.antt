@@ -38,7 +38,7 @@ use Rattle.renumber.proofs.Theorems.{renumbering, agrees}
 use Rattle.arrival.specs.declared.Decision.{Decision}
 use Rattle.arrival.specs.Checks.{Refusal, silent, barred, when, firstOf, NoneApplies, badArea, walkRefusal, walkCheck, placeIn, optionAt, requiredBy, requiredCheck, optionBy, optionCheck, labelBy, arrivingLabel, rangeCheck, Delivery, deliverySizes, deliveryRecords, hostCheck}
 use Rattle.arrival.specs.Decision as decision
-use Rattle.arrival.specs.Decision.{refused, decided, arrivalChecks, deliverChecks, deliverOf}
+use Rattle.arrival.specs.Decision.{silenced, refused, decided, arrivalChecks, deliverChecks, deliverOf}
 use Rattle.arrival.proofs.First.{Real, AllReal, real-first, real-when, first-none, none-first, when-none, orElse, first-append, not-false-yes, or-none, real-else}
 use Rattle.arrival.proofs.Arrival.{placed-framed, octets-part, Held, arrival-held, arrival-real, in-range-held}
 use Rattle.arrival.proofs.Deliveries.{deliver-done}
@@ -109,15 +109,15 @@ label-arrives p area code l r e =
     none-first (arrivalChecks p area code) (r .walk, (r .required, (r .option, (rw (r .label, e), tt))))
 
 -- a decision of number 0 has passed every check
-decided-none : (icmp : Bool) (o : Option Refusal) (l : Label) (n : ℕ) → Real o → decided icmp o l n .number ≡ 0 → o ≡ none
-decided-none icmp none l n r e = refl
-decided-none icmp (some x) l n r e = absurd (r e)
+decided-none : (quiet : Bool) (o : Option Refusal) (l : Label) (n : ℕ) → Real o → decided quiet o l n .number ≡ 0 → o ≡ none
+decided-none quiet none l n r e = refl
+decided-none quiet (some x) l n r e = absurd (r e)
 
 -- Forwarding.
 
 pub forwarded-passes : (f : Forwarding) → forwardOf f .number ≡ 0 → firstOf (forwardChecks f) ≡ none
 unfolding forwardOf
-forwarded-passes f e = decided-none (f .icmp) (firstOf (forwardChecks f)) _ _ (forward-real f) e
+forwarded-passes f e = decided-none (silenced (f .facts)) (firstOf (forwardChecks f)) _ _ (forward-real f) e
 
 module _ (f : Forwarding) (p : Passed f) where
   arriving-sound : portSound (f .arriving) ≡ true
@@ -267,7 +267,7 @@ deliver-real d =
 
 pub delivered-passes : (d : Delivery) → deliverOf d .number ≡ 0 → firstOf (deliverChecks d) ≡ none
 unfolding deliverOf
-delivered-passes d e = decided-none (d .icmp) (firstOf (deliverChecks d)) _ _ (deliver-real d) e
+delivered-passes d e = decided-none (silenced (d .facts)) (firstOf (deliverChecks d)) _ _ (deliver-real d) e
 
 passes-delivered : (d : Delivery) → firstOf (deliverChecks d) ≡ none → deliverOf d .number ≡ 0
 unfolding deliverOf

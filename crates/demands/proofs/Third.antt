@@ -26,7 +26,7 @@ use Rattle.port.specs.declared.Port.{Port}
 use Rattle.port.specs.declared.Host.{Host}
 use Rattle.arrival.specs.declared.Decision.{Decision}
 use Rattle.arrival.specs.Checks.{Refusal, barred, when, firstOf, optionAt, arrivingLabel, rangeCheck, Delivery, deliverySizes, deliveryRecords, hostCheck}
-use Rattle.arrival.specs.Decision.{decided, deliverChecks, deliverOf}
+use Rattle.arrival.specs.Decision.{silenced, decided, deliverChecks, deliverOf}
 use Rattle.gateway.specs.Crossing.{Forwarding, sizes, records, Crossing, crossing, numberCheck, leavingCheck, spellingCheck, leavingLabel, leavingOption}
 use Rattle.gateway.specs.Forward.{forwardChecks, forwardOf, octetsOf, written, outputOf}
 use Rattle.gateway.proofs.Forwards.{forward-passed}
@@ -85,8 +85,8 @@ restOf p l x kept =
     firstOf (when (not (inRange (p .lowest) (p .highest) l)) (barred 14 9) ∷ numberCheck x ∷ leavingCheck x ∷ spellingCheck x kept ∷ [])
 
 abbrev decisionOf : Bool → Port → Label → Crossing → List ℕ → Decision
-decisionOf icmp p l x kept =
-    decided icmp (restOf p l x kept) (leavingLabel x) (roundUp (lengthOf (leavingOption x) + length kept))
+decisionOf quiet p l x kept =
+    decided quiet (restOf p l x kept) (leavingLabel x) (roundUp (lengthOf (leavingOption x) + length kept))
 
 module _ (f : Forwarding) (l : Label) (s : sizes f ≡ none) (r : records f ≡ none)
     (o : (at : ℕ) × (walkOf (f .area) ≡ Sound (At at)) × Means (optionAt at (f .area)) l) (d : l .domain ≡ f .arriving .domain) where
@@ -102,7 +102,7 @@ module _ (f : Forwarding) (l : Label) (s : sizes f ≡ none) (r : records f ≡ 
       rw (s, r, read .walk, read .required, read .option)
       (ap (λ (z : Label). firstOf (when (not (inRange (f .arriving .lowest) (f .arriving .highest) z)) (barred 14 9) ∷ numberCheck (crossing f) ∷ leavingCheck (crossing f) ∷ spellingCheck (crossing f) (keptOf (f .area)) ∷ [])) (read .label))
 
-  pub decision-is : forwardOf f ≡ decisionOf (f .icmp) (f .arriving) l (crossing f) (keptOf (f .area))
+  pub decision-is : forwardOf f ≡ decisionOf (silenced (f .facts)) (f .arriving) l (crossing f) (keptOf (f .area))
   unfolding forwardOf
   decision-is = rw checks-are
 
@@ -119,7 +119,7 @@ module _ (f g : Forwarding) (l : Label) (a : Alike f g l) where
   pub decided-alike : forwardOf f ≡ forwardOf g
   decided-alike =
       decision-is f l (a .sized .0) (a .sound .0) (a .first) (a .domain)
-      ∙ (λ i. decisionOf (a .icmp i) (a .arriving i) l (crossing-alike i) (a .kept i))
+      ∙ (λ i. decisionOf (silenced (a .facts i)) (a .arriving i) l (crossing-alike i) (a .kept i))
       ∙ sym (decision-is g l (a .sized .1) (a .sound .1) (a .second) domain-g)
 
   -- the first 40 octets of a leaving area, whatever the output held
@@ -155,16 +155,16 @@ heldOf p h l =
 
 delivery-is : (d : Delivery) (l : Label) → deliverySizes d ≡ none → deliveryRecords d ≡ none
     → (at : ℕ) × (walkOf (d .area) ≡ Sound (At at)) × Means (optionAt at (d .area)) l → l .domain ≡ d .port .domain
-    → deliverOf d ≡ decided (d .icmp) (heldOf (d .port) (d .host) l) l 0
+    → deliverOf d ≡ decided (silenced (d .facts)) (heldOf (d .port) (d .host) l) l 0
 unfolding rangeCheck hostCheck deliverOf
 delivery-is d l s r o e =
     let q = label-reads (d .port) (d .area) l (own (o .0) (o .1) (o .2) e) in
-    rw (s, r, q .walk, q .required, q .option) (ap (λ (z : Label). decided (d .icmp) (heldOf (d .port) (d .host) z) z 0) (q .label))
+    rw (s, r, q .walk, q .required, q .option) (ap (λ (z : Label). decided (silenced (d .facts)) (heldOf (d .port) (d .host) z) z 0) (q .label))
 
 pub delivered-alike : (d e : Delivery) (l : Label) → AlikeDelivered d e l → deliverOf d ≡ deliverOf e
 delivered-alike d e l a =
     delivery-is d l (a .sized .0) (a .sound .0) (a .first) (a .domain)
-    ∙ (λ i. decided (a .icmp i) (heldOf (a .port i) (a .host i) l) l 0)
+    ∙ (λ i. decided (silenced (a .facts i)) (heldOf (a .port i) (a .host i) l) l 0)
     ∙ sym (delivery-is e l (a .sized .1) (a .sound .1) (a .second) (a .domain ∙ ap (λ (p : Port). p .domain) (a .port)))
 
 pub demand3 : Demand3

@@ -15,7 +15,7 @@ use Rattle.port.specs.declared.Port.{Port}
 use Rattle.port.specs.declared.Host.{Host}
 use Rattle.arrival.specs.declared.Decision.{Decision}
 use Rattle.arrival.specs.Checks.{Refusal, barred, when, firstOf, walkCheck, requiredBy, requiredCheck, optionCheck, arrivingLabel, rangeCheck, Delivery, deliverySizes, deliveryRecords, hostCheck}
-use Rattle.arrival.specs.Decision.{decided, deliverOf}
+use Rattle.arrival.specs.Decision.{silenced, decided, deliverOf}
 use Rattle.gateway.specs.Crossing.{Forwarding, Crossing, sizes, records, crossing, numberCheck, leavingCheck, spellingCheck, leavingLabel, leavingOption}
 use Rattle.gateway.specs.Forward.{forwardOf}
 use Rattle.demands.specs.Guards.{Unlabelled, UnlabelledDelivered, leavingArea}
@@ -61,16 +61,16 @@ bareChecks p r x kept =
     ∷ []
 
 abbrev bareDecision : Bool → Port → Option Refusal → Crossing → List ℕ → Decision
-bareDecision icmp p r x kept = decided icmp (firstOf (bareChecks p r x kept)) (leavingLabel x) (roundUp (lengthOf (leavingOption x) + length kept))
+bareDecision quiet p r x kept = decided quiet (firstOf (bareChecks p r x kept)) (leavingLabel x) (roundUp (lengthOf (leavingOption x) + length kept))
 
 module _ (f : Forwarding) (s : sizes f ≡ none) (w : walkOf (f .area) ≡ Sound Nowhere) where
   crossing-is : crossing f ≡ bareCrossing f
   crossing-is i = record { label = given (f .arriving) (f .area) w i; domain = f .arriving .domain; leaving = f .leaving; table = f .table; levels = f .levels }
 
-  bare-is : forwardOf f ≡ bareDecision (f .icmp) (f .arriving) (records f) (bareCrossing f) (keptOf (f .area))
+  bare-is : forwardOf f ≡ bareDecision (silenced (f .facts)) (f .arriving) (records f) (bareCrossing f) (keptOf (f .area))
   unfolding forwardOf
   bare-is i =
-      decided (f .icmp)
+      decided (silenced (f .facts))
       (firstOf
       (s i
       ∷ records f
@@ -96,7 +96,7 @@ module _ (f g : Forwarding) (u : Unlabelled f g) where
   pub unlabelled-decided : forwardOf f ≡ forwardOf g
   unlabelled-decided =
       bare-is f (u .sized .0) (u .first)
-      ∙ (λ i. bareDecision (u .icmp i) (u .arriving i) (records-alike i) (bare-alike i) (u .kept i))
+      ∙ (λ i. bareDecision (silenced (u .facts i)) (u .arriving i) (records-alike i) (bare-alike i) (u .kept i))
       ∙ sym (bare-is g (u .sized .1) (u .second))
 
   pub unlabelled-written : (out out′ : List ℕ) → forwardOf f .number ≡ 0 → leavingArea f out ≡ leavingArea g out′
@@ -108,8 +108,8 @@ module _ (f g : Forwarding) (u : Unlabelled f g) where
 
 -- a delivery, by its records
 abbrev bareDelivery : Bool → Port → Host → Option Refusal → Decision
-bareDelivery icmp p h r =
-    decided icmp
+bareDelivery quiet p h r =
+    decided quiet
     (firstOf
     (none
     ∷ r
@@ -121,10 +121,10 @@ bareDelivery icmp p h r =
     ∷ []))
     (p .assigned) 0
 
-delivery-is : (d : Delivery) → deliverySizes d ≡ none → walkOf (d .area) ≡ Sound Nowhere → deliverOf d ≡ bareDelivery (d .icmp) (d .port) (d .host) (deliveryRecords d)
+delivery-is : (d : Delivery) → deliverySizes d ≡ none → walkOf (d .area) ≡ Sound Nowhere → deliverOf d ≡ bareDelivery (silenced (d .facts)) (d .port) (d .host) (deliveryRecords d)
 unfolding deliverOf hostCheck
 delivery-is d s w i =
-    decided (d .icmp)
+    decided (silenced (d .facts))
     (firstOf
     (s i
     ∷ deliveryRecords d
@@ -140,4 +140,4 @@ pub unlabelled-delivered : (d e : Delivery) → UnlabelledDelivered d e → deli
 unfolding deliveryRecords
 unlabelled-delivered d e u =
     let r : deliveryRecords d ≡ deliveryRecords e = rw (u .port, u .host) in
-    delivery-is d (u .sized .0) (u .first) ∙ (λ i. bareDelivery (u .icmp i) (u .port i) (u .host i) (r i)) ∙ sym (delivery-is e (u .sized .1) (u .second))
+    delivery-is d (u .sized .0) (u .first) ∙ (λ i. bareDelivery (silenced (u .facts i)) (u .port i) (u .host i) (r i)) ∙ sym (delivery-is e (u .sized .1) (u .second))

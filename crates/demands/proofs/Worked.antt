@@ -10,11 +10,11 @@ use Rattle.leaving.specs.Kept.{keptOf}
 use Rattle.port.specs.Port.{rangeSound, assignedSound, portSound, hostSound}
 use Rattle.label.specs.Range.{setInRange}
 use Rattle.arrival.specs.Checks.{walkCheck, requiredCheck, optionCheck, arrivingLabel, rangeCheck, deliverySizes, deliveryRecords, hostCheck}
-use Rattle.arrival.specs.Decision.{deliverOf}
+use Rattle.arrival.specs.Decision.{silenced, deliverOf}
 use Rattle.gateway.specs.Crossing.{sizes, records, numberCheck, leavingLevel, leavingRuns, leavingCheck, spellingCheck}
 use Rattle.gateway.specs.Forward.{forwardOf, outputOf}
 use Rattle.demands.specs.Worked.{WorkedDecisions}
 
 pub worked-decisions : WorkedDecisions
-unfolding subset allBelow wellFormed labelTyped atMost leq inRange isZero pieces tagFor bodyFor spelledBy spellingOf readingFor readingBy tagChecks labelIn metFrom metOf walkOf keptOf rangeSound assignedSound portSound hostSound setInRange walkCheck requiredCheck optionCheck arrivingLabel rangeCheck deliverySizes deliveryRecords hostCheck deliverOf sizes records numberCheck leavingLevel leavingRuns leavingCheck spellingCheck forwardOf outputOf
-worked-decisions = refl
+unfolding subset allBelow wellFormed labelTyped atMost leq inRange isZero pieces tagFor bodyFor spelledBy spellingOf readingFor readingBy tagChecks labelIn metFrom metOf walkOf keptOf rangeSound assignedSound portSound hostSound setInRange walkCheck requiredCheck optionCheck arrivingLabel rangeCheck deliverySizes deliveryRecords hostCheck silenced deliverOf sizes records numberCheck leavingLevel leavingRuns leavingCheck spellingCheck forwardOf outputOf
+worked-decisions = (refl, refl, refl)

@@ -24,7 +24,7 @@ use Rattle.port.specs.Port.{portSound, hostSound}
 use Rattle.table.specs.Table.{tableSound}
 use Rattle.renumber.specs.Theorems.{Far}
 use Rattle.arrival.specs.Checks.{Refusal, NoneApplies, optionAt, Delivery, deliverySizes, deliveryRecords}
-use Rattle.arrival.specs.Decision.{refused, done, deliverChecks, deliverOf}
+use Rattle.arrival.specs.Decision.{silenced, refused, done, deliverChecks, deliverOf}
 use Rattle.gateway.specs.Crossing.{Forwarding, sizes, records}
 use Rattle.gateway.specs.Forward.{forwardChecks, forwardOf, outputOf}
 
@@ -41,8 +41,8 @@ pub record FirstIs (checks : List (Option Refusal)) (x : Refusal) : Type 0 where
 pub record Demand1 : Type 0 where
   pub forward : (f : Forwarding) (x : Refusal) (out : List ℕ)
       → FirstIs (forwardChecks f) x
-      → (forwardOf f ≡ refused (f .icmp) x) × (outputOf f out ≡ out)
-  pub deliver : (d : Delivery) (x : Refusal) → FirstIs (deliverChecks d) x → deliverOf d ≡ refused (d .icmp) x
+      → (forwardOf f ≡ refused (silenced (f .facts)) x) × (outputOf f out ≡ out)
+  pub deliver : (d : Delivery) (x : Refusal) → FirstIs (deliverChecks d) x → deliverOf d ≡ refused (silenced (d .facts)) x
 
 -- Demand 2: "A datagram is forwarded exactly when its area, records and options are sound, its label (its own, or the port's if it has none and
 -- none is required) lies in the arriving port's range, every part has a number in the far domain if the domains differ, the renumbered label lies
@@ -101,13 +101,13 @@ pub record Demand2 : Type 0 where
 -- Demand 3: "One label, one spelling."
 
 -- two forwardings of areas past checks 1 to 5 whose options 134 are valid and mean one label of the arriving port's domain, with kept options in
--- order, records and ICMP mark alike; the outputs may differ
+-- order, records and facts alike; the outputs may differ
 pub record Alike (f g : Forwarding) (l : Label) : Type 0 where
   pub arriving : f .arriving ≡ g .arriving
   pub leaving : f .leaving ≡ g .leaving
   pub table : f .table ≡ g .table
   pub levels : f .levels ≡ g .levels
-  pub icmp : f .icmp ≡ g .icmp
+  pub facts : f .facts ≡ g .facts
   pub kept : keptOf (f .area) ≡ keptOf (g .area)
   pub sized : (sizes f ≡ none) × (sizes g ≡ none)
   pub sound : (records f ≡ none) × (records g ≡ none)
@@ -118,7 +118,7 @@ pub record Alike (f g : Forwarding) (l : Label) : Type 0 where
 pub record AlikeDelivered (d e : Delivery) (l : Label) : Type 0 where
   pub port : d .port ≡ e .port
   pub host : d .host ≡ e .host
-  pub icmp : d .icmp ≡ e .icmp
+  pub facts : d .facts ≡ e .facts
   pub sized : (deliverySizes d ≡ none) × (deliverySizes e ≡ none)
   pub sound : (deliveryRecords d ≡ none) × (deliveryRecords e ≡ none)
   pub first : (at : ℕ) × (walkOf (d .area) ≡ Sound (At at)) × Means (optionAt at (d .area)) l

@@ -44,13 +44,13 @@ pub record Reads (a : List ℕ) (domain : ℕ) (l : Label) (ks : List ℕ) : Typ
 abbrev pub leavingArea : Forwarding → List ℕ → List ℕ
 leavingArea f out = take (forwardOf f .count) (outputOf f out)
 
--- two datagrams without an option 134, with kept options in order, records and mark alike
+-- two datagrams without an option 134, with kept options in order, records and facts alike
 pub record Unlabelled (f g : Forwarding) : Type 0 where
   pub arriving : f .arriving ≡ g .arriving
   pub leaving : f .leaving ≡ g .leaving
   pub table : f .table ≡ g .table
   pub levels : f .levels ≡ g .levels
-  pub icmp : f .icmp ≡ g .icmp
+  pub facts : f .facts ≡ g .facts
   pub kept : keptOf (f .area) ≡ keptOf (g .area)
   pub sized : (sizes f ≡ none) × (sizes g ≡ none)
   pub first : walkOf (f .area) ≡ Sound Nowhere
@@ -59,7 +59,7 @@ pub record Unlabelled (f g : Forwarding) : Type 0 where
 pub record UnlabelledDelivered (d e : Delivery) : Type 0 where
   pub port : d .port ≡ e .port
   pub host : d .host ≡ e .host
-  pub icmp : d .icmp ≡ e .icmp
+  pub facts : d .facts ≡ e .facts
   pub sized : (deliverySizes d ≡ none) × (deliverySizes e ≡ none)
   pub first : walkOf (d .area) ≡ Sound Nowhere
   pub second : walkOf (e .area) ≡ Sound Nowhere

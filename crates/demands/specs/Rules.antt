@@ -25,7 +25,7 @@ use Rattle.port.specs.Port.{portSound, hostSound}
 use Rattle.table.specs.Table.{tableSound}
 use Rattle.arrival.specs.declared.Decision.{Decision}
 use Rattle.arrival.specs.Checks.{Refusal, badArea, placeIn, optionAt, arrivingLabel, Delivery}
-use Rattle.arrival.specs.Decision.{refused, deliverOf}
+use Rattle.arrival.specs.Decision.{silenced, refused, deliverOf}
 use Rattle.gateway.specs.Crossing.{Forwarding, sameDomain, crossing, stays, hasNumbers, leavingLevel, leavingRuns, leavingOption, noRoom}
 use Rattle.gateway.specs.Forward.{forwardOf}
 use Rattle.demands.specs.First.{NoneOf, FirstOf}
@@ -217,10 +217,10 @@ FirstRule rules r = FirstOf (λ (x : Rule). x .applies) rules r
 abbrev pub reportOf : Rule → Refusal
 reportOf r = record { number = r .number; kind = r .kind; code = r .code; pointer = r .pointer }
 
--- the decision follows the lines: the first that applies gives number, type, code and pointer (silent where marked as ICMP); 0 where none does
-pub data Follows (rules : List Rule) (icmp : Bool) (d : Decision) : Type 0 where
-  passes : NoRule rules → d .number ≡ 0 → Follows rules icmp d
-  stops : (r : Rule) → FirstRule rules r → d ≡ refused icmp (reportOf r) → Follows rules icmp d
+-- the decision follows the lines: the first that applies gives number, type, code and pointer (silent where a fact silences); 0 where none does
+pub data Follows (rules : List Rule) (quiet : Bool) (d : Decision) : Type 0 where
+  passes : NoRule rules → d .number ≡ 0 → Follows rules quiet d
+  stops : (r : Rule) → FirstRule rules r → d ≡ refused quiet (reportOf r) → Follows rules quiet d
 
 -- the option's octets are the area's from its place on, so that a place p + i is that of its octet i
 pub record StandsAt (area : List ℕ) (p : ℕ) : Type 0 where
@@ -236,8 +236,8 @@ pub record BadAt (t : ℕ) (b : List ℕ) : Type 0 where
   pub first : (k : ℕ) → k < index → badIn t b k ≡ false
 
 pub record OrderOfChecks : Type 0 where
-  pub forward : (f : Forwarding) → Follows (forwardTests f) (f .icmp) (forwardOf f)
-  pub deliver : (d : Delivery) → Follows (deliverTests d) (d .icmp) (deliverOf d)
+  pub forward : (f : Forwarding) → Follows (forwardTests f) (silenced (f .facts)) (forwardOf f)
+  pub deliver : (d : Delivery) → Follows (deliverTests d) (silenced (d .facts)) (deliverOf d)
   -- 0 exactly when none applies
   pub forwarded : (f : Forwarding) → (forwardOf f .number ≡ 0) ↔ NoRule (forwardTests f)
   pub delivered : (d : Delivery) → (deliverOf d .number ≡ 0) ↔ NoRule (deliverTests d)

@@ -1,19 +1,19 @@
 -- Document 01, "The sample program" and "Numbers to try": its two lines, and level 2.
 use mathlib.Core.Path.{_≡_}
-use mathlib.Core.Bool.{false}
 use mathlib.Core.List.{List, [], _∷_, _++_}
 use Prim.Native.Nat.{ℕ}
 use lib.ListN as lists
 use lib.ListN.{replicate}
 use Rattle.label.specs.Runs.{run}
 use Rattle.label.specs.Label.{labelOf}
+use Rattle.arrival.specs.Decision.{noFact}
 use Rattle.gateway.specs.Crossing.{Forwarding}
 use Rattle.gateway.specs.Forward.{forwardOf, outputOf}
 use Rattle.sample_records.specs.Sample.{arriving, leaving, table, levels}
 use Rattle.demands.specs.Worked.{drop, pass}
 
 abbrev pub sample : List ℕ → Forwarding
-sample area = record { arriving = arriving; leaving = leaving; table = table; levels = levels; icmp = false; area = area; room = 40 }
+sample area = record { arriving = arriving; leaving = leaving; table = table; levels = levels; facts = noFact; area = area; room = 40 }
 
 -- 860c00000005020600030000, category 0 at level 3
 abbrev pub first : List ℕ

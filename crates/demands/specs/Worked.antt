@@ -1,7 +1,7 @@
 -- Document 01, "The order of checks, and each number", "The leaving area" and "Numbers to try": worked decisions, in one table. Both ports are of
--- domain 5, so the renumbering table is not read. Every case is asked twice, unmarked and marked as ICMP.
+-- domain 5, so the renumbering table is not read. Every case is asked with no fact that silences, and as an ICMP error message.
 use mathlib.Core.Path.{_≡_}
-use mathlib.Core.Bool.{Bool, true, false}
+use mathlib.Core.Bool.{true, false}
 use mathlib.Core.List.{List, [], _∷_, _++_, map}
 use Prim.Native.Nat.{ℕ}
 use lib.ListN.{replicate}
@@ -12,8 +12,9 @@ use Rattle.port.specs.declared.Port.{Port}
 use Rattle.port.specs.declared.Host.{Host}
 use Rattle.table.specs.declared.Table.{Table}
 use Rattle.arrival.specs.declared.Decision.{Decision}
+use Rattle.arrival.specs.declared.Facts.{Facts}
 use Rattle.arrival.specs.Checks.{Delivery}
-use Rattle.arrival.specs.Decision.{deliverOf}
+use Rattle.arrival.specs.Decision.{silenced, noFact, deliverOf}
 use Rattle.gateway.specs.Crossing.{Forwarding}
 use Rattle.gateway.specs.Forward.{forwardOf, outputOf}
 
@@ -76,39 +77,63 @@ pub record Case : Type 0 where
   pub answer : Decision
   pub output : List ℕ
 
+-- each of the five facts alone; the first is that of an ICMP error message
+abbrev pub errorMessage : Facts
+errorMessage = record { error = true; group = false; link = false; fragment = false; source = false }
+
+abbrev pub eachFact : List Facts
+eachFact =
+    errorMessage
+    ∷ record { error = false; group = true; link = false; fragment = false; source = false }
+    ∷ record { error = false; group = false; link = true; fragment = false; source = false }
+    ∷ record { error = false; group = false; link = false; fragment = true; source = false }
+    ∷ record { error = false; group = false; link = false; fragment = false; source = true }
+    ∷ []
+
 -- what is decided, and what the output then holds
 pub record Answer : Type 0 where
   pub plain : Decision
-  pub marked : Decision
+  pub silent : Decision
   pub output : List ℕ
-  pub markedOutput : List ℕ
+  pub silentOutput : List ℕ
 
 abbrev pub noTable : Table
 noTable = record { from = 0; to = 0; pairs = 0; count = 0; rows = [] }
 
-abbrev pub forwarding : Port → Port → ℕ → Bool → List ℕ → Forwarding
-forwarding p q n icmp area = record { arriving = p; leaving = q; table = noTable; levels = []; icmp = icmp; area = area; room = n }
+abbrev pub forwarding : Port → Port → ℕ → Facts → List ℕ → Forwarding
+forwarding p q n facts area = record { arriving = p; leaving = q; table = noTable; levels = []; facts = facts; area = area; room = n }
 
-abbrev pub delivery : Port → Host → Bool → List ℕ → Delivery
-delivery p h icmp area = record { port = p; host = h; icmp = icmp; area = area }
+abbrev pub delivery : Port → Host → Facts → List ℕ → Delivery
+delivery p h facts area = record { port = p; host = h; facts = facts; area = area }
 
 abbrev pub answerTo : Job → Port → List ℕ → Answer
 answerTo (leave q n) p area =
     record {
-      plain = forwardOf (forwarding p q n false area);
-      marked = forwardOf (forwarding p q n true area);
-      output = outputOf (forwarding p q n false area) (replicate n 9);
-      markedOutput = outputOf (forwarding p q n true area) (replicate n 9);
+      plain = forwardOf (forwarding p q n noFact area);
+      silent = forwardOf (forwarding p q n errorMessage area);
+      output = outputOf (forwarding p q n noFact area) (replicate n 9);
+      silentOutput = outputOf (forwarding p q n errorMessage area) (replicate n 9);
     }
 answerTo (stay h) p area =
-    record { plain = deliverOf (delivery p h false area); marked = deliverOf (delivery p h true area); output = []; markedOutput = [] }
+    record {
+      plain = deliverOf (delivery p h noFact area);
+      silent = deliverOf (delivery p h errorMessage area);
+      output = [];
+      silentOutput = [];
+    }
 
--- marked as ICMP, the number stays and the report is silent
+-- silenced, the number stays and the report is silent
 abbrev pub hushed : Decision → Decision
 hushed d = record { number = d .number; kind = 0; code = 0; pointer = 0; count = d .count; label = d .label }
 
 abbrev pub awaited : Case → Answer
-awaited c = record { plain = c .answer; marked = hushed (c .answer); output = c .output; markedOutput = c .output }
+awaited c =
+    record {
+      plain = c .answer;
+      silent = hushed (c .answer);
+      output = c .output;
+      silentOutput = c .output;
+    }
 
 -- a refusal: number, type, code, pointer
 abbrev pub drop : ℕ → ℕ → ℕ → ℕ → Decision
@@ -238,5 +263,9 @@ cases = map inGateway refusals ++ (map toHost refusals ++ others)
 abbrev pub answered : Case → Answer
 answered c = answerTo (c .job) (c .port) (c .area)
 
+-- any of the five facts alone silences, and none does not
 abbrev pub WorkedDecisions : Type 0
-WorkedDecisions = map answered cases ≡ map awaited cases
+WorkedDecisions =
+    (map answered cases ≡ map awaited cases)
+    × (map silenced eachFact ≡ true ∷ true ∷ true ∷ true ∷ true ∷ [])
+    × (silenced noFact ≡ false)

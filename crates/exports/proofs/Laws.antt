@@ -12,6 +12,7 @@ use Rattle.reading.specs.Reading.{readingOf}
 use Rattle.spelling.specs.declared.Spelling.{Spelling}
 use Rattle.spelling.specs.Spelling.{spellingAnswer, spellingOut}
 use Rattle.arrival.specs.declared.Decision.{Decision}
+use Rattle.arrival.specs.declared.Facts.{Facts}
 use Rattle.gateway.specs.Crossing.{Forwarding}
 use Rattle.gateway.specs.Stages.{forwardingOf}
 use Rattle.gateway.specs.Forward.{forwardOf, outputOf}
@@ -60,10 +61,10 @@ spells-whole own l out answer out′ answer′ s q h e o a =
     }
 
 -- the records that the sample's functions answer are the sample's
-pub sample-is : (a l : Port) (t : Table) (ls : List (List ℕ)) (icmp : Bool) (area : List ℕ) (n : ℕ)
+pub sample-is : (a l : Port) (t : Table) (ls : List (List ℕ)) (facts : Facts) (area : List ℕ) (n : ℕ)
     → a ≡ sample.arriving → l ≡ sample.leaving → t ≡ sample.table → ls ≡ sample.levels
-    → forwardingOf a l t ls icmp area n ≡ sampleForwarding icmp area n
-sample-is a l t ls icmp area n ea el et els = rw (ea, el, et, els)
+    → forwardingOf a l t ls facts area n ≡ sampleForwarding facts area n
+sample-is a l t ls facts area n ea el et els = rw (ea, el, et, els)
 
 pub forwards-nothing : (f : Forwarding) (out answer runs : List ℕ) → roomy 8 answer runs ≡ false → Forwards f out answer runs out answer runs 1
 forwards-nothing f out answer runs h = record { number = rw h; numbers = rw h; keys = rw h; octets = rw h }

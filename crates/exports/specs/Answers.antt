@@ -13,6 +13,7 @@ use Rattle.reading.specs.Reading.{readingOf}
 use Rattle.spelling.specs.declared.Spelling.{Spelling}
 use Rattle.spelling.specs.Spelling.{spellingAnswer, spellingOut}
 use Rattle.arrival.specs.declared.Decision.{Decision}
+use Rattle.arrival.specs.declared.Facts.{Facts}
 use Rattle.gateway.specs.Crossing.{Forwarding}
 use Rattle.gateway.specs.Stages.{forwardingOf}
 use Rattle.gateway.specs.Forward.{forwardOf, outputOf}
@@ -58,9 +59,12 @@ pub record Spells (l : Label) (out answer out′ answer′ : List ℕ) (r : ℕ)
   pub numbers : answer′ ≡ cond (leb 2 (length answer)) (headed (spellingNumbers (spellingAnswer l (length out))) answer) answer
   pub octets : out′ ≡ cond (leb 2 (length answer)) (spellingOut l out) out
 
--- what is asked of the sample's gateway
-abbrev pub sampleForwarding : Bool → List ℕ → ℕ → Forwarding
-sampleForwarding icmp area room = forwardingOf sample.arriving sample.leaving sample.table sample.levels icmp area room
+-- what is asked of the sample's gateway, with the five facts as they are stated
+abbrev pub factsOf : Bool → Bool → Bool → Bool → Bool → Facts
+factsOf error group link fragment source = record { error = error; group = group; link = link; fragment = fragment; source = source }
+
+abbrev pub sampleForwarding : Facts → List ℕ → ℕ → Forwarding
+sampleForwarding facts area room = forwardingOf sample.arriving sample.leaving sample.table sample.levels facts area room
 
 -- An area forwarded: `out`, `answer` and `runs` at entry and at exit, and what is returned.
 pub record Forwards (f : Forwarding) (out answer runs out′ answer′ runs′ : List ℕ) (r : ℕ) : Type 0 where

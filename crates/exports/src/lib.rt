@@ -5,7 +5,8 @@
 ghost use mathlib.Core.Path.{_≡_};
 ghost use Prim.Native.Nat.{_≤_};
 ghost use lib.ListN.{length};
-ghost use Rattle.exports.specs.Answers.{headed, labelBy, sampleForwarding, Reads, Spells, Forwards};
+ghost use Rattle.exports.specs.Answers.{headed, labelBy, factsOf, sampleForwarding, Reads, Spells, Forwards};
+use arrival::Facts;
 use gateway::forward;
 use label::Label;
 use label::label_keys;
@@ -71,17 +72,21 @@ pub extern "C" fn inglebreek_spell(
     s.number
 }
 
-// Forwards an area through the sample's records; `icmp` is the mark. `answer` gets number, type, code, pointer, count, domain, level and count of
+// Forwards an area through the sample's records; the five facts are those of `Facts`, in its order. `answer` gets number, type, code, pointer, count, domain, level and count of
 // runs of the leaving label, `runs` its runs; 1 and nothing where `answer` has under 8 places or `runs` under 120.
 #[no_mangle]
 pub extern "C" fn inglebreek_forward(
-    icmp: bool,
+    error: bool,
+    group: bool,
+    link: bool,
+    fragment: bool,
+    source: bool,
     area: &[u8],
     out: &mut [u8],
     answer: &mut [u64],
     runs: &mut [u32],
 ) -> u8
-    ensures { λ r. ⌜ Forwards (sampleForwarding icmp (now (area .entry)) (length (now (out .entry)))) (now (out .entry)) (now (answer .entry)) (now (runs .entry)) (now (out .exit)) (now (answer .exit)) (now (runs .exit)) r ⌝ }
+    ensures { λ r. ⌜ Forwards (sampleForwarding (factsOf error group link fragment source) (now (area .entry)) (length (now (out .entry)))) (now (out .entry)) (now (answer .entry)) (now (runs .entry)) (now (out .exit)) (now (answer .exit)) (now (runs .exit)) r ⌝ }
 {
     if answer.len() < DECISION_NUMBERS {
         return 1;
@@ -89,7 +94,14 @@ pub extern "C" fn inglebreek_forward(
     if runs.len() < Label::MAX_RUNS {
         return 1;
     }
-    let d = forward(arriving(), leaving(), table(), levels(), icmp, area, out);
+    let facts = Facts {
+        error: error,
+        group: group,
+        link: link,
+        fragment: fragment,
+        source: source,
+    };
+    let d = forward(arriving(), leaving(), table(), levels(), facts, area, out);
     let label = d.label;
     let numbers = [
         d.number as u64,

@@ -27,7 +27,7 @@ use Rattle.table.specs.declared.Table.{Table}
 use Rattle.table.specs.Table.{tableSound}
 use Rattle.arrival.specs.declared.Decision.{Decision}
 use Rattle.arrival.specs.Checks.{Refusal, silent, barred, when, firstOf, badArea, arrivingLabel}
-use Rattle.arrival.specs.Decision.{refused, done, decided, arrivalChecks}
+use Rattle.arrival.specs.Decision.{silenced, refused, done, decided, arrivalChecks}
 use Rattle.arrival.proofs.First.{orElse, first-append, first-none, none-first, when-none, Real, real-first, real-when, not-false-yes, or-none, real-else}
 use Rattle.arrival.proofs.Arrival.{arrival-held, arrival-real}
 use Rattle.gateway.specs.Crossing.{Forwarding, sameDomain, sizes, records, Crossing, crossing, stays, hasNumbers, numberCheck, leavingLevel, leavingRuns, leavingCheck, leavingLabel, leavingOption, noRoom, spellingCheck}
@@ -116,7 +116,7 @@ pub leaving-spelled : (x : Crossing) → spelledOf (leavingLabel x) ≡ leavingO
 leaving-spelled x = rw (used-of _ _ _)
 
 -- A refusal: what is answered, and that nothing is written.
-pub forward-refused : (f : Forwarding) (x : Refusal) (out : List ℕ) → firstOf (forwardChecks f) ≡ some x → (refused (f .icmp) x ≡ forwardOf f) × (out ≡ outputOf f out)
+pub forward-refused : (f : Forwarding) (x : Refusal) (out : List ℕ) → firstOf (forwardChecks f) ≡ some x → (refused (silenced (f .facts)) x ≡ forwardOf f) × (out ≡ outputOf f out)
 unfolding forwardOf outputOf
 forward-refused f x out e = (rw e, rw e)
 

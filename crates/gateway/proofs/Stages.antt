@@ -26,7 +26,7 @@ use Rattle.renumber.specs.Renumber.{imageOf}
 use Rattle.renumber.specs.Carry.{carriedKeys, carryOf}
 use Rattle.arrival.specs.declared.Verdict.{Verdict}
 use Rattle.arrival.specs.Checks.{Refusal, silent, barred, when, firstOf, badArea, arrivingLabel}
-use Rattle.arrival.specs.Decision.{done, arrivalChecks}
+use Rattle.arrival.specs.Decision.{silenced, done, arrivalChecks}
 use Rattle.arrival.specs.Verdict.{verdictOf, stopped, going, arrivalOf, Arrives, concluded}
 use Rattle.arrival.specs.Stages.{heldBetween}
 use Rattle.arrival.proofs.First.{Late}
@@ -54,7 +54,7 @@ pub record Ran (f : Forwarding) (own own′ far far′ out out′ : List ℕ) (a
 
 module _ (f : Forwarding) (own own′ far far′ out out′ : List ℕ) (a r c h v : Verdict) (kept count : ℕ) (s : Ran f own own′ far far′ out out′ a r c h v kept count) where
   abbrev Answers : Type 0
-  Answers = (concluded v (f .leaving .domain) (f .icmp) count far′ ≡ forwardOf f) × (out′ ≡ outputOf f out)
+  Answers = (concluded v (f .leaving .domain) (silenced (f .facts)) count far′ ≡ forwardOf f) × (out′ ≡ outputOf f out)
 
   abbrev x : Crossing
   x = crossing f
@@ -77,8 +77,8 @@ module _ (f : Forwarding) (own own′ far far′ out out′ : List ℕ) (a r c h
   last y e z g =
       let n : v .number ≡ 0 → ⊥ = λ q. z (ap (λ (t : Verdict). t .number) (sym e) ∙ q) in
       let w = forward-refused f y out g in (
-        ap (λ (t : Verdict). concluded t (f .leaving .domain) (f .icmp) count far′) e
-            ∙ concluded-refused y (label .level) (label .count) (f .leaving .domain) count (f .icmp) far′ z
+        ap (λ (t : Verdict). concluded t (f .leaving .domain) (silenced (f .facts)) count far′) e
+            ∙ concluded-refused y (label .level) (label .count) (f .leaving .domain) count (silenced (f .facts)) far′ z
             ∙ w .0,
         s .writes .nothing n ∙ w .1,
       )
@@ -255,8 +255,8 @@ module _ (f : Forwarding) (own own′ far far′ out out′ : List ℕ) (a r c h
                   forward-written f (leavingLabel x) _ kept count out _ out′ (s .room) (forward-none f sized long t e (over .numbers) g (rw (le-ltb 120 (length runs) few, n))) refl (u .0) (u .1) kept-is
                   (s .writes .counted z ∙ ap (λ (b : Verdict). restCount (keysCount (f .leaving .domain) (b .level) (take (b .count) far′) (length out)) kept (keptOf (f .area)) (length (keysWritten (f .leaving .domain) (b .level) (take (b .count) far′) out))) e-v)
                   (s .writes .written z ∙ ap (λ (b : Verdict). restOf (keysCount (f .leaving .domain) (b .level) (take (b .count) far′) (length out)) kept (keptOf (f .area)) (keysWritten (f .leaving .domain) (b .level) (take (b .count) far′) out)) e-v) in (
-                    ap (λ (b : Verdict). concluded b (f .leaving .domain) (f .icmp) count far′) e-v
-                        ∙ concluded-done (leavingLevel x) (length runs) (f .leaving .domain) count (f .icmp) far′
+                    ap (λ (b : Verdict). concluded b (f .leaving .domain) (silenced (f .facts)) count far′) e-v
+                        ∙ concluded-done (leavingLevel x) (length runs) (f .leaving .domain) count (silenced (f .facts)) far′
                         ∙ ap (λ (b : Label). done b count) l
                         ∙ w .0,
                     w .1,
@@ -352,5 +352,5 @@ module _ (f : Forwarding) (own own′ far far′ out out′ : List ℕ) (a r c h
   by-size true e = by-area e
   by-size false e = by-length e (leb 40 (f .room)) refl
 
-  pub forwarded : (concluded v (f .leaving .domain) (f .icmp) count far′ ≡ forwardOf f) × (out′ ≡ outputOf f out)
+  pub forwarded : (concluded v (f .leaving .domain) (silenced (f .facts)) count far′ ≡ forwardOf f) × (out′ ≡ outputOf f out)
   forwarded = by-size (badArea (f .area)) refl

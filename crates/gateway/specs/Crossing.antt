@@ -13,6 +13,7 @@ use Rattle.option.specs.Spelling.{spellingOf}
 use Rattle.spelling.specs.Spelling.{lacking, lengthOf}
 use Rattle.port.specs.declared.Port.{Port}
 use Rattle.port.specs.Port.{portSound}
+use Rattle.arrival.specs.declared.Facts.{Facts}
 use Rattle.table.specs.declared.Table.{Table}
 use Rattle.table.specs.declared.Partner.{Partner}
 use Rattle.table.specs.Table.{usedRows, tableSound}
@@ -26,7 +27,7 @@ pub record Forwarding : Type 0 where
   pub leaving : Port
   pub table : Table
   pub levels : List (List ℕ)
-  pub icmp : Bool
+  pub facts : Facts
   pub area : List ℕ
   pub room : ℕ
 

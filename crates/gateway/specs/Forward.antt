@@ -8,7 +8,7 @@ use Rattle.leaving.specs.Kept.{keptOf, roundUp, leavingOf}
 use Rattle.arrival.specs.declared.Decision.{Decision}
 use Rattle.arrival.specs.Checks.{Refusal, firstOf, walkCheck, requiredCheck, optionCheck, rangeCheck}
 use Rattle.gateway.specs.Crossing.{Forwarding, sizes, records, numberCheck, leavingCheck, spellingCheck, crossing, leavingLabel, leavingOption}
-use Rattle.arrival.specs.Decision.{decided}
+use Rattle.arrival.specs.Decision.{silenced, decided}
 
 -- forward: the checks in the order of their numbers
 abbrev pub forwardChecks : Forwarding → List (Option Refusal)
@@ -29,7 +29,7 @@ abbrev pub leavingCount : Forwarding → ℕ
 leavingCount f = roundUp (lengthOf (leavingOption (crossing f)) + length (keptOf (f .area)))
 
 unfoldable pub forwardOf : Forwarding → Decision
-forwardOf f = decided (f .icmp) (firstOf (forwardChecks f)) (leavingLabel (crossing f)) (leavingCount f)
+forwardOf f = decided (silenced (f .facts)) (firstOf (forwardChecks f)) (leavingLabel (crossing f)) (leavingCount f)
 
 abbrev pub octetsOf : Option (List ℕ) → List ℕ
 octetsOf none = []

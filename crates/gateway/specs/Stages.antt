@@ -12,6 +12,7 @@ use Rattle.spelling.specs.Spelling.{lengthOf}
 use Rattle.spelling.specs.Keys.{keysSpelled, keysCount, keysWritten}
 use Rattle.leaving.specs.Kept.{keptOf, restCount, restOf}
 use Rattle.port.specs.declared.Port.{Port}
+use Rattle.arrival.specs.declared.Facts.{Facts}
 use Rattle.table.specs.declared.Table.{Table}
 use Rattle.table.specs.Table.{tableSound}
 use Rattle.renumber.specs.declared.Carried.{Carried}
@@ -24,9 +25,9 @@ use Rattle.arrival.specs.Stages.{heldBetween}
 use Rattle.gateway.specs.Crossing.{Forwarding, Crossing, numberCheck, leavingCheck, leavingRuns}
 
 -- the inputs of a forwarding
-abbrev pub forwardingOf : Port → Port → Table → List (List ℕ) → Bool → List ℕ → ℕ → Forwarding
-forwardingOf a l t ls icmp area room =
-    record { arriving = a; leaving = l; table = t; levels = ls; icmp = icmp; area = area; room = room }
+abbrev pub forwardingOf : Port → Port → Table → List (List ℕ) → Facts → List ℕ → ℕ → Forwarding
+forwardingOf a l t ls facts area room =
+    record { arriving = a; leaving = l; table = t; levels = ls; facts = facts; area = area; room = room }
 
 -- checks 16 and 17, and that of 18 on the runs
 abbrev pub crossingChecks : Crossing → List (Option Refusal)

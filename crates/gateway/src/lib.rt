@@ -1,5 +1,6 @@
 // Forward (document 01, "The order of checks" and "The leaving area"): the checks in the order of their numbers, and only a forwarding writes.
 use arrival::Decision;
+use arrival::Facts;
 use arrival::Verdict;
 use arrival::arrive;
 use arrival::conclude;
@@ -35,12 +36,12 @@ pub fn forward(
     leaving: Port,
     table: Table,
     levels: [[u8; 2]; 16],
-    icmp: bool,
+    facts: Facts,
     area: &[u8],
     out: &mut [u8],
 ) -> Decision
-    ensures { λ r. ⌜ r ≡ forwardOf (forwardingOf arriving leaving table levels icmp (now (area .entry)) (length (now (out .entry)))) ⌝ }
-    ensures { λ _. ⌜ now (out .exit) ≡ outputOf (forwardingOf arriving leaving table levels icmp (now (area .entry)) (length (now (out .entry)))) (now (out .entry)) ⌝ }
+    ensures { λ r. ⌜ r ≡ forwardOf (forwardingOf arriving leaving table levels facts (now (area .entry)) (length (now (out .entry)))) ⌝ }
+    ensures { λ _. ⌜ now (out .exit) ≡ outputOf (forwardingOf arriving leaving table levels facts (now (area .entry)) (length (now (out .entry)))) (now (out .entry)) ⌝ }
 {
     let mut own = [0u32; 120];
     let mut far = [0u32; 184];
@@ -61,7 +62,7 @@ pub fn forward(
     let kept = kept_by(held, area);
     let verdict = fit(held, kept, &far);
     let count = write_area(verdict, leaving.domain, kept, area, &far, &mut out[..]);
-    conclude(verdict, leaving.domain, icmp, count, &far)
+    conclude(verdict, leaving.domain, facts, count, &far)
 }
 
 // Check 1 of the output, and 2 of the leaving port: before 3 to 14 of what arrived.

@@ -4,6 +4,7 @@ ghost use Prim.Native.Nat.{_+_, _≤_};
 ghost use lib.ListN.{length};
 ghost use Rattle.lines.specs.Theorems.{Whole};
 ghost use Rattle.sample.specs.Sample.{areaLine};
+use arrival::Facts;
 use file::FileRead;
 use file::read_file;
 use fileset::Set;
@@ -75,7 +76,14 @@ fn answer(
     ensures { λ r. ⌜ Whole (now (out .entry)) n (areaLine arriving leaving table levels (now (area .entry))) (now (out .exit)) r ⌝ }
 {
     let mut space = [0u8; 40];
-    let d = forward(arriving, leaving, table, levels, false, area, &mut space);
+    let facts = Facts {
+        error: false,
+        group: false,
+        link: false,
+        fragment: false,
+        source: false,
+    };
+    let d = forward(arriving, leaving, table, levels, facts, area, &mut space);
     if d.number != 0 {
         return put_drop(out, n, d.number, d.kind, d.code, d.pointer);
     }

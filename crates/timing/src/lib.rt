@@ -2,6 +2,7 @@
 // records counts. The functions are for measuring alone; those for use are in the crate `exports`. Every answer depends on all results, by
 // fixed places of them.
 use arrival::Decision;
+use arrival::Facts;
 use gateway::forward;
 use label::Label;
 use port::Port;
@@ -94,6 +95,13 @@ fn forward_many(
         return 0;
     }
     let levels = levels();
+    let facts = Facts {
+        error: false,
+        group: false,
+        link: false,
+        fragment: false,
+        source: false,
+    };
     let last = n - size;
     let mut at: usize = 0;
     let mut total: usize = 0;
@@ -105,7 +113,7 @@ fn forward_many(
             leaving,
             table,
             levels,
-            false,
+            facts,
             &area[at..end],
             &mut out[..],
         );

@@ -1,8 +1,15 @@
 -- `arrival::conclude` meets its contract.
 use borrow.Author.Needs.{needs}
+use mathlib.Core.Path.{_∙_, ap}
+use mathlib.Core.Bool.{Bool}
+use Rattle.arrival.specs.Decision.{silenced}
+use Rattle.arrival.specs.Stages.{reported}
 use Rattle.arrival.proofs.Verdicts.{concluded-by}
 use Rattle.arrival.proofs.conclude.Statement.{statement}
 use Rattle.arrival.proofs.conclude.Tie as tie
+
+is-silenced-requires : tie.Need-is-silenced-requires
+is-silenced-requires c κs = search needs
 
 report-requires : tie.Need-report-requires
 report-requires c κs = search needs
@@ -21,11 +28,12 @@ returns c =
     let l = c .before in
     let o = l .before in
     let r = o .before in
-    let s = r .before .before in
-    concluded-by (s .args .verdict) (r .report .result) (s .args .domain) (o .owned-by .result) (s .args .count) (c .counted-by .result) (s .args .icmp) (s .args .keys .now) (l .to-label .result)
-    (r .report .ensures) (o .owned-by .ensures) (l .to-label .ensures) (c .counted-by .ensures)
+    let q = r .before in
+    let s = q .before .before in
+    concluded-by (s .args .verdict) (r .report .result) (s .args .domain) (o .owned-by .result) (s .args .count) (c .counted-by .result) (silenced (s .args .facts)) (s .args .keys .now) (l .to-label .result)
+    (r .report .ensures ∙ ap (λ (b : Bool). reported b (s .args .verdict)) (q .is-silenced .ensures)) (o .owned-by .ensures) (l .to-label .ensures) (c .counted-by .ensures)
 
 pub conclude-spec : {M : Type 1} → statement M
 conclude-spec =
     tie.close
-    (tie.spec report-requires owned-by-requires to-label-requires counted-by-requires returns)
+    (tie.spec is-silenced-requires report-requires owned-by-requires to-label-requires counted-by-requires returns)

@@ -31,7 +31,7 @@ returns c =
     let a = h .before .before .before in
     let s = a .before .before .before in
     c .conclude .ensures
-    ∙ delivered (deliveryOf (s .args .port) (s .args .host) (s .args .icmp) (s .args .area .now)) _ _ (a .arrive .result) (h .reach-host .result) (omega arith) (a .arrive .ensures) (h .reach-host .ensures)
+    ∙ delivered (deliveryOf (s .args .port) (s .args .host) (s .args .facts) (s .args .area .now)) _ _ (a .arrive .result) (h .reach-host .result) (omega arith) (a .arrive .ensures) (h .reach-host .ensures)
 
 pub deliver-spec : {M : Type 1} → statement M
 deliver-spec =

@@ -2,7 +2,7 @@
 use borrow.Author.Needs.{needs}
 use lib.ListN.{length}
 use Rattle.gateway.specs.Stages.{forwardingOf}
-use Rattle.exports.specs.Answers.{sampleForwarding}
+use Rattle.exports.specs.Answers.{factsOf, sampleForwarding}
 use Rattle.exports.proofs.Laws.{short-answer, short-runs, both-roomy, sample-is, forwards-nothing, forwards-whole}
 use Rattle.exports.proofs.inglebreek_forward.Statement.{statement}
 use Rattle.exports.proofs.inglebreek_forward.Tie as tie
@@ -80,9 +80,10 @@ returns-3 c =
     let room = arriving .before in
     let s = room .before .before .before .before .before .before in
     let n = length (s .args .out .now) in
+    let facts = factsOf (s .args .error) (s .args .group) (s .args .link) (s .args .fragment) (s .args .source) in
     forwards-whole
-    (forwardingOf (arriving .arriving .result) (leaving .leaving .result) (table .table .result) (levels .levels .result) (s .args .icmp) (s .args .area .now) n)
-    (sampleForwarding (s .args .icmp) (s .args .area .now) n)
+    (forwardingOf (arriving .arriving .result) (leaving .leaving .result) (table .table .result) (levels .levels .result) facts (s .args .area .now) n)
+    (sampleForwarding facts (s .args .area .now) n)
     (s .args .out .now)
     (s .args .answer .now)
     (s .args .runs .now)
@@ -90,7 +91,7 @@ returns-3 c =
     _
     _
     (decided .forward .result)
-    (sample-is _ _ _ _ (s .args .icmp) (s .args .area .now) n (arriving .arriving .ensures) (leaving .leaving .ensures) (table .table .ensures) (levels .levels .ensures))
+    (sample-is _ _ _ _ facts (s .args .area .now) n (arriving .arriving .ensures) (leaving .leaving .ensures) (table .table .ensures) (levels .levels .ensures))
     (both-roomy 8 (s .args .answer .now) (s .args .runs .now) (room .before .if1 .left) (room .if2 .left))
     (decided .forward .ensures .0)
     (decided .forward .ensures .1)

@@ -74,7 +74,7 @@ returns c =
     let p = a .before .before in
     let s = p .before .before .before in
     let q =
-    forwarded (forwardingOf (s .args .arriving) (s .args .leaving) (s .args .table) (s .args .levels) (s .args .icmp) (s .args .area .now) (length (s .args .out .now)))
+    forwarded (forwardingOf (s .args .arriving) (s .args .leaving) (s .args .table) (s .args .levels) (s .args .facts) (s .args .area .now) (length (s .args .out .now)))
     _ _ _ _ (s .args .out .now) _ (a .arrive .result) (r .check-leaving .result) (x .cross .result) (h .hold-leaving .result) (t .fit .result) (k .kept-by .result) (w .write-area .result)
     (record {
       room = refl;
