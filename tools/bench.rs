@@ -1,6 +1,10 @@
-// Times the box against the second program's fast variant, in one run and interleaved, on the same inputs, and holds their answers against
-// each other first. With a folder as argument it also writes the table and the plot there; with `--count` it runs each case once, with a call of
-// `count_mark` before each half, for a count of instructions.
+// Times the box against the second program's fast variant, in one run and interleaved, on the same inputs, and holds their answers against each
+// other first. tools/bench calls it three times:
+//   --time FOLDER     compares, times, and writes FOLDER/times: a line for each case with the times of both halves
+//   --count           runs each half of each case once, with a call of `count_mark` before it, for a count of instructions
+//   --render FOLDER   prints the tables of FOLDER/times and FOLDER/counts, and writes FOLDER/SPEED.md and FOLDER/speed.svg
+//
+// A new row is a `Case` in `cases`; a new kind of work is a variant of `Work` with its two halves and its comparison.
 
 #[allow(dead_code)]
 #[path = "reference/fast.rs"]
@@ -10,12 +14,42 @@ use std::fmt::Write;
 use std::hint::black_box;
 use std::time::Instant;
 
+// The crate `exports`: one call each, with the whole answer.
 extern "C" {
-    fn inglebreek_read(octets: *const u8, octets_len: usize, size: usize, times: usize) -> usize;
-    fn inglebreek_spell(octets: *const u8, octets_len: usize, out: *mut u8, out_len: usize, times: usize) -> usize;
-    fn inglebreek_forward(area: *const u8, area_len: usize, size: usize, out: *mut u8, out_len: usize, times: usize) -> usize;
-    fn inglebreek_forward_rows(
-        rows: usize,
+    fn inglebreek_read(octets: *const u8, octets_len: usize, answer: *mut u64, answer_len: usize, runs: *mut u32, runs_len: usize) -> u8;
+    fn inglebreek_spell(
+        domain: u32,
+        level: u8,
+        runs: *const u32,
+        runs_len: usize,
+        out: *mut u8,
+        out_len: usize,
+        answer: *mut u64,
+        answer_len: usize,
+    ) -> u8;
+    fn inglebreek_forward(
+        icmp: bool,
+        area: *const u8,
+        area_len: usize,
+        out: *mut u8,
+        out_len: usize,
+        answer: *mut u64,
+        answer_len: usize,
+        runs: *mut u32,
+        runs_len: usize,
+    ) -> u8;
+}
+
+// The crate `timing`: many calls in one, with a digest of fixed places.
+extern "C" {
+    fn time_read(octets: *const u8, octets_len: usize, size: usize, times: usize) -> usize;
+    fn time_spell(octets: *const u8, octets_len: usize, size: usize, out: *mut u8, out_len: usize, times: usize) -> usize;
+    fn time_forward(
+        lower: u8,
+        upper: u8,
+        high: u16,
+        rows: *const u16,
+        rows_len: usize,
         area: *const u8,
         area_len: usize,
         size: usize,
@@ -23,17 +57,17 @@ extern "C" {
         out_len: usize,
         times: usize,
     ) -> usize;
-    fn inglebreek_ports_sound(skipped: usize, times: usize) -> usize;
-    fn inglebreek_table_sound(rows: usize, times: usize) -> usize;
 }
 
-/// A multiple of the 120 places of a label, so that each is looked at.
+/// How many calls are timed together.
 const TIMES: usize = 960;
 /// All cases are gone through so often, with so many rounds each, so that each is spread over the whole run.
 const PASSES: usize = 10;
 const ROUNDS: usize = 30;
 /// How many options of one kind take turns: one fixed input would be learned by the branch predictor.
 const SLOTS: usize = 64;
+/// How many labels take turns in spelling.
+const LABELS: usize = 8;
 const OUTPUT: usize = 48;
 const FILL: u8 = 0xee;
 
@@ -84,13 +118,13 @@ fn pairs(mut ends: Vec<u16>) -> Vec<u8> {
 }
 
 struct Input {
-    name: &'static str,
+    name: String,
     options: Vec<Vec<u8>>,
 }
 
 impl Input {
-    fn new(name: &'static str, mut make: impl FnMut(usize) -> Vec<u8>) -> Input {
-        Input { name, options: (0..SLOTS).map(|slot| make(slot)).collect() }
+    fn new(name: impl Into<String>, make: impl FnMut(usize) -> Vec<u8>) -> Input {
+        Input { name: name.into(), options: (0..SLOTS).map(make).collect() }
     }
 
     fn size(&self) -> usize {
@@ -116,7 +150,8 @@ impl Input {
     }
 }
 
-fn inputs(random: &mut Random) -> Vec<Input> {
+/// The shapes of a label.
+fn shapes(random: &mut Random) -> Vec<Input> {
     vec![
         Input::new("tag 1, no categories", |slot| option(1, slot, &[])),
         Input::new("tag 1, 10 octets, 12 categories", |slot| {
@@ -124,7 +159,7 @@ fn inputs(random: &mut Random) -> Vec<Input> {
             set.push(72 + random.below(8) as u16);
             option(1, slot, &bitmap(10, set.into_iter()))
         }),
-        Input::new("tag 1, 30 octets, every other bit", |slot| option(1, slot, &[[0xaa, 0x55][slot % 2]; 30])),
+        every_other_bit("tag 1, 30 octets, every other bit"),
         Input::new("tag 2, 15 numbers", |slot| option(2, slot, &numbers(&random.ascending(15, 0, 300, 1)))),
         Input::new("tag 5, 1 pair", |slot| option(5, slot, &pairs(vec![100 + random.below(50) as u16, 200 + random.below(100) as u16]))),
         Input::new("tag 5, 7 pairs", |slot| {
@@ -135,26 +170,104 @@ fn inputs(random: &mut Random) -> Vec<Input> {
     ]
 }
 
-/// Labels for a table that spreads the categories 0 to 239.
-fn spread(random: &mut Random) -> Vec<Input> {
-    vec![
-        Input::new("1 run", |slot| option(5, slot, &pairs(vec![1 + random.below(20) as u16, 200 + random.below(40) as u16]))),
-        Input::new("30 runs", |slot| {
-            let ends = random.ascending(60, 0, 239, 2);
+fn every_other_bit(name: &str) -> Input {
+    Input::new(name, |slot| option(1, slot, &[[0xaa, 0x55][slot % 2]; 30]))
+}
+
+/// Labels of so many runs for a table that spreads the categories 0 to 239.
+fn runs(random: &mut Random, count: usize) -> Input {
+    let name = format!("{} run{}", count, if count == 1 { "" } else { "s" });
+    match count {
+        1 => Input::new(name, |slot| option(5, slot, &pairs(vec![1 + random.below(20) as u16, 200 + random.below(40) as u16]))),
+        120 => every_other_bit(&name),
+        _ => Input::new(name, |slot| {
+            let ends = random.ascending(2 * count, 0, 239, 2);
             option(1, slot, &bitmap(30, ends.chunks(2).flat_map(|run| run[0]..=run[1])))
         }),
-        Input::new("120 runs", |slot| option(1, slot, &[[0xaa, 0x55][slot % 2]; 30])),
+    }
+}
+
+/// Areas among which the dearest is looked for: a sender chooses nothing else.
+fn dear(random: &mut Random) -> Vec<Input> {
+    let empty = |slot: usize| option(1, slot, &[]);
+    vec![
+        Input::new("no categories", empty),
+        every_other_bit("every other bit"),
+        Input::new("30 octets, one bit of each two", |slot| {
+            option(1, slot, &bitmap(30, (0..120).map(|pair| 2 * pair + random.below(2) as u16).collect::<Vec<_>>().into_iter()))
+        }),
+        Input::new("30 octets at random", |slot| option(1, slot, &(0..30).map(|_| random.below(256) as u8).collect::<Vec<_>>())),
+        Input::new("15 numbers", |slot| option(2, slot, &numbers(&random.ascending(15, 0, 239, 1)))),
+        Input::new("7 pairs", |slot| option(5, slot, &pairs(random.ascending(14, 1, 239, 2)))),
+        Input::new("no categories, 15 kept options of 2 octets", |slot| [empty(slot), [0x94, 2].repeat(15)].concat()),
+        Input::new("30 octets of type 1, no categories", |slot| [vec![1; 30], empty(slot)].concat()),
+        Input::new("15 octets, every other bit, 7 kept options of 2 octets", |slot| {
+            [option(1, slot, &[[0xaa, 0x55][slot % 2]; 15]), [0x94, 2].repeat(7), vec![1]].concat()
+        }),
+        Input::new("26 octets, every other bit, refused at the last option", |slot| {
+            [option(1, slot, &[[0xaa, 0x55][slot % 2]; 26]), vec![134, 2, 0, 0]].concat()
+        }),
     ]
 }
 
-// The same work in Rust: loops and answers as the exported functions have them.
+// The records: the sample's, and a table that spreads the categories 0 to 255 over rows of equal width whose targets come in scattered order.
+
+struct Records {
+    arriving: fast::Port,
+    leaving: fast::Port,
+    table: fast::Table,
+    /// The arriving port's levels and highest category, and the rows, as `time_forward` takes them.
+    lower: u8,
+    upper: u8,
+    high: u16,
+    rows: Vec<u16>,
+}
+
+fn records(lower: u8, upper: u8, high: u16, rows: &[[u16; 3]]) -> Records {
+    let port = |domain: u32, lower: u8, upper: u8, high: u16| {
+        let lowest = fast::Label { domain, level: lower, ..fast::Label::ALL_ZERO };
+        let mut highest = fast::Label { domain, level: upper, count: 1, ..fast::Label::ALL_ZERO };
+        highest.runs[0] = fast::Run { low: 0, high };
+        fast::Port { domain, lowest, highest, required: true, assigned: fast::Label::ALL_ZERO }
+    };
+    let none = fast::Row { low: 0, high: 0, target_low: 0 };
+    let mut table = fast::Table {
+        from: 5,
+        to: 9,
+        level_count: 3,
+        levels: [[0; 2]; fast::MAX_LEVEL_PAIRS],
+        row_count: rows.len() as u16,
+        rows: [none; fast::MAX_ROWS],
+    };
+    table.levels[..3].copy_from_slice(&[[1, 2], [3, 4], [5, 6]]);
+    for (place, row) in table.rows.iter_mut().zip(rows) {
+        *place = fast::Row { low: row[0], high: row[1], target_low: row[2] };
+    }
+    Records { arriving: port(5, lower, upper, high), leaving: port(9, 0, 255, 65534), table, lower, upper, high, rows: rows.concat() }
+}
+
+fn sample_records() -> Records {
+    records(1, 5, 300, &[[0, 99, 1000], [100, 300, 0]])
+}
+
+/// The categories below 240 change places among themselves, so that a label that fits a bitmap still does.
+fn scattered_records(rows: usize) -> Records {
+    let (width, inner) = (256 / rows, rows * 15 / 16);
+    let row = |i: usize| {
+        let slot = if i < inner { i * 101 % inner } else { i };
+        [(i * width) as u16, (i * width + width - 1) as u16, (slot * width) as u16]
+    };
+    records(0, 255, 65534, &(0..rows).map(row).collect::<Vec<_>>())
+}
+
+// The same work in Rust: loops and digests as the crate `timing` has them.
 
 fn mix(total: usize, x: usize) -> usize {
     (total % 65536) * 31 + x % 65536
 }
 
-fn label_digest(label: &fast::Label, i: usize) -> usize {
-    let run = label.runs[i % 120];
+fn label_digest(label: &fast::Label) -> usize {
+    let run = label.runs[0];
     mix(mix(mix(label.level as usize, label.count as usize), run.low as usize), run.high as usize)
 }
 
@@ -170,14 +283,11 @@ fn next_place(at: usize, size: usize, last: usize) -> usize {
 fn rust_read(octets: &[u8], size: usize, times: usize) -> usize {
     let last = octets.len() - size;
     let (mut at, mut total) = (0, 0);
-    for i in 0..times {
+    for _ in 0..times {
         let reading = fast::read_option(black_box(&octets[at..at + size]));
         let digest = match black_box(&reading) {
-            Ok(label) => mix(0, label_digest(label, i)),
-            Err(refusal) => {
-                let none = fast::Label::ALL_ZERO;
-                mix(mix(refusal.number as usize, refusal.offset as usize), label_digest(&none, i))
-            }
+            Ok(label) => mix(0, label_digest(label)),
+            Err(refusal) => mix(mix(refusal.number as usize, refusal.offset as usize), label_digest(&fast::Label::ALL_ZERO)),
         };
         total = mix(total, digest);
         at = next_place(at, size, last);
@@ -186,12 +296,12 @@ fn rust_read(octets: &[u8], size: usize, times: usize) -> usize {
 }
 
 #[inline(never)]
-fn rust_spell(octets: &[u8], out: &mut [u8], times: usize) -> usize {
-    let mut label = fast::read_option(octets).unwrap_or(fast::Label::ALL_ZERO);
+fn rust_spell(octets: &[u8], size: usize, out: &mut [u8], times: usize) -> usize {
+    let labels: Vec<fast::Label> =
+        octets.chunks(size).cycle().take(LABELS).map(|option| fast::read_option(option).unwrap_or(fast::Label::ALL_ZERO)).collect();
     let mut total = 0;
     for i in 0..times {
-        label.level = (i % 256) as u8;
-        let (number, count) = match fast::spell_label(black_box(&label), out) {
+        let (number, count) = match fast::spell_label(black_box(&labels[i % LABELS]), out) {
             Ok(count) => (0, count),
             Err(number) => (number, 0),
         };
@@ -200,54 +310,22 @@ fn rust_spell(octets: &[u8], out: &mut [u8], times: usize) -> usize {
     total
 }
 
-struct Records {
-    arriving: fast::Port,
-    leaving: fast::Port,
-    table: fast::Table,
-}
-
-fn port_of(domain: u32, lower: u8, upper: u8, high: u16) -> fast::Port {
-    let lowest = fast::Label { domain, level: lower, ..fast::Label::ALL_ZERO };
-    let mut highest = fast::Label { domain, level: upper, count: 1, ..fast::Label::ALL_ZERO };
-    highest.runs[0] = fast::Run { low: 0, high };
-    fast::Port { domain, lowest, highest, required: true, assigned: fast::Label::ALL_ZERO }
-}
-
-fn table_of(rows: &[(u16, u16, u16)]) -> fast::Table {
-    let none = fast::Row { low: 0, high: 0, target_low: 0 };
-    let mut table = fast::Table { from: 5, to: 9, level_count: 3, levels: [[0; 2]; 16], row_count: rows.len() as u16, rows: [none; 64] };
-    table.levels[..3].copy_from_slice(&[[1, 2], [3, 4], [5, 6]]);
-    for (place, (low, high, target_low)) in table.rows.iter_mut().zip(rows) {
-        *place = fast::Row { low: *low, high: *high, target_low: *target_low };
-    }
-    table
-}
-
-fn sample_records() -> Records {
-    let table = table_of(&[(0, 99, 1000), (100, 300, 0)]);
-    Records { arriving: port_of(5, 1, 5, 300), leaving: port_of(9, 0, 255, 65534), table }
-}
-
-fn scattered_records(rows: usize) -> Records {
-    let (width, inner) = (256 / rows, rows * 15 / 16);
-    let row = |i: usize| {
-        let slot = if i < inner { i * 101 % inner } else { i };
-        ((i * width) as u16, (i * width + width - 1) as u16, (slot * width) as u16)
-    };
-    let table = table_of(&(0..rows).map(row).collect::<Vec<_>>());
-    Records { arriving: port_of(5, 0, 255, 65534), leaving: port_of(9, 0, 255, 65534), table }
+/// The one call of the variant's forward.
+#[inline(always)]
+fn rust_decision(records: &Records, area: &[u8], out: &mut [u8]) -> fast::Decision {
+    fast::forward(&records.arriving, &records.leaving, &records.table, false, area, out)
 }
 
 #[inline(never)]
 fn rust_forward(records: &Records, area: &[u8], size: usize, out: &mut [u8], times: usize) -> usize {
     let last = area.len() - size;
     let (mut at, mut total) = (0, 0);
-    for i in 0..times {
+    for _ in 0..times {
         let records = black_box(records);
-        let decision = fast::forward(&records.arriving, &records.leaving, &records.table, false, &area[at..at + size], out);
+        let decision = rust_decision(records, &area[at..at + size], out);
         let decision = black_box(&decision);
         let digest = mix(mix(decision.number as usize, decision.pointer as usize), decision.count as usize);
-        total = mix(total, mix(digest, label_digest(&decision.label, i)));
+        total = mix(total, mix(digest, label_digest(&decision.label)));
         at = next_place(at, size, last);
     }
     total
@@ -258,9 +336,8 @@ fn rust_forward(records: &Records, area: &[u8], size: usize, out: &mut [u8], tim
 enum Work {
     Read,
     Spell,
-    Forward,
-    /// The number of rows.
-    ForwardRows(usize, Records),
+    /// The records, and whether they are the sample's.
+    Forward(Records, bool),
 }
 
 struct Case {
@@ -272,167 +349,419 @@ struct Case {
 }
 
 impl Case {
+    fn option(group: &'static str, work: Work, input: &Input) -> Case {
+        Case { group, name: input.name.clone(), work, octets: input.joined(), size: input.size() }
+    }
+
+    fn area(group: &'static str, name: String, records: Records, sample: bool, input: &Input) -> Case {
+        Case { group, name, work: Work::Forward(records, sample), octets: input.areas(), size: input.area_size() }
+    }
+
     fn box_turn(&self, octets: &[u8], out: &mut [u8], times: usize) -> usize {
         let (at, n, to, room) = (octets.as_ptr(), octets.len(), out.as_mut_ptr(), out.len());
-        // The pointers and lengths are those of the two slices.
+        // The pointers and lengths are those of slices that do not overlap.
         unsafe {
             match &self.work {
-                Work::Read => inglebreek_read(at, n, self.size, times),
-                Work::Spell => inglebreek_spell(at, n, to, room, times),
-                Work::Forward => inglebreek_forward(at, n, self.size, to, room, times),
-                Work::ForwardRows(rows, _) => inglebreek_forward_rows(*rows, at, n, self.size, to, room, times),
+                Work::Read => time_read(at, n, self.size, times),
+                Work::Spell => time_spell(at, n, self.size, to, room, times),
+                Work::Forward(r, _) => {
+                    time_forward(r.lower, r.upper, r.high, r.rows.as_ptr(), r.rows.len(), at, n, self.size, to, room, times)
+                }
             }
         }
     }
 
-    fn rust_turn(&self, sample: &Records, octets: &[u8], out: &mut [u8], times: usize) -> usize {
+    fn rust_turn(&self, octets: &[u8], out: &mut [u8], times: usize) -> usize {
         match &self.work {
             Work::Read => rust_read(octets, self.size, times),
-            Work::Spell => rust_spell(octets, out, times),
-            Work::Forward => rust_forward(sample, octets, self.size, out, times),
-            Work::ForwardRows(_, records) => rust_forward(records, octets, self.size, out, times),
+            Work::Spell => rust_spell(octets, self.size, out, times),
+            Work::Forward(records, _) => rust_forward(records, octets, self.size, out, times),
         }
     }
 
-    /// All octets in one call; spelling takes one label in a call.
-    fn parts(&self) -> Vec<&[u8]> {
-        match self.work {
-            Work::Spell => self.octets.chunks(self.size).take(8).collect(),
-            _ => vec![&self.octets],
-        }
-    }
-
-    /// Each option alone, every place of its label and every octet of the output.
-    fn compare(&self, sample: &Records) {
+    /// Each input alone: the whole answer where the crate `exports` gives it, else the digest and every octet of the output; then the timed loops.
+    fn compare(&self) {
         for (slot, octets) in self.octets.chunks(self.size).enumerate() {
-            let (mut ours, mut theirs) = ([FILL; OUTPUT], [FILL; OUTPUT]);
-            let box_answer = self.box_turn(octets, &mut ours, 120);
-            let rust_answer = self.rust_turn(sample, octets, &mut theirs, 120);
-            if box_answer != rust_answer || ours != theirs {
-                println!("{}, {}, input {}: the answers differ", self.group, self.name, slot);
-                println!("  octets: {:02x?}", octets);
-                println!("  box:    {} {:02x?}", box_answer, ours);
-                println!("  Rust:   {} {:02x?}", rust_answer, theirs);
-                std::process::exit(1);
-            }
+            let (ours, theirs) = match &self.work {
+                Work::Read => (box_reading(octets), rust_reading(octets)),
+                Work::Spell => (box_spelling(octets), rust_spelling(octets)),
+                Work::Forward(_, true) => (box_forwarding(octets), rust_forwarding(octets)),
+                Work::Forward(_, false) => (self.alone(octets, Case::box_turn), self.alone(octets, Case::rust_turn)),
+            };
+            self.expect(ours == theirs, &format!("input {}: {:02x?}\n  box:  {}\n  Rust: {}", slot, octets, ours, theirs));
+        }
+        let (mut ours, mut theirs) = ([FILL; OUTPUT], [FILL; OUTPUT]);
+        let same = self.box_turn(&self.octets, &mut ours, TIMES) == self.rust_turn(&self.octets, &mut theirs, TIMES);
+        self.expect(same && ours == theirs, "the digests of the timed loops differ");
+    }
+
+    fn alone(&self, octets: &[u8], turn: impl Fn(&Case, &[u8], &mut [u8], usize) -> usize) -> String {
+        let mut out = [FILL; OUTPUT];
+        let digest = turn(self, octets, &mut out, 1);
+        format!("{} {:02x?}", digest, out)
+    }
+
+    fn expect(&self, same: bool, what: &str) {
+        if !same {
+            println!("{}, {}: the answers differ: {}", self.group, self.name, what);
+            std::process::exit(1);
         }
     }
 
     /// How many of the inputs are forwarded.
-    fn forwarded(&self) -> usize {
-        let written = |octets: &[u8]| {
+    fn forwarded(&self) -> String {
+        if !matches!(self.work, Work::Forward(..)) {
+            return String::from("–");
+        }
+        let written = |octets: &&[u8]| {
             let mut out = [FILL; OUTPUT];
             self.box_turn(octets, &mut out, 1);
             out[0] != FILL
         };
-        self.octets.chunks(self.size).filter(|octets| written(octets)).count()
+        format!("{} of {}", self.octets.chunks(self.size).filter(written).count(), SLOTS)
     }
 }
 
 fn cases() -> Vec<Case> {
     let mut random = Random(0x9e3779b97f4a7c15);
-    let (inputs, spread) = (inputs(&mut random), spread(&mut random));
-    let mut cases = Vec::new();
-    for input in &inputs {
-        cases.push(Case { group: "read", name: input.name.into(), work: Work::Read, octets: input.joined(), size: input.size() });
-    }
-    for input in &inputs {
-        cases.push(Case { group: "spell", name: input.name.into(), work: Work::Spell, octets: input.joined(), size: input.size() });
-    }
-    for input in &inputs {
-        cases.push(Case { group: "forward", name: input.name.into(), work: Work::Forward, octets: input.areas(), size: input.area_size() });
-    }
-    for rows in [64, 32, 16, 8] {
-        for input in &spread {
-            let work = Work::ForwardRows(rows, scattered_records(rows));
-            let name = format!("{} rows, {}", rows, input.name);
-            cases.push(Case { group: "forward, table", name, work, octets: input.areas(), size: input.area_size() });
+    let (shapes, dear) = (shapes(&mut random), dear(&mut random));
+    let mut cases: Vec<Case> = shapes.iter().map(|input| Case::option("read", Work::Read, input)).collect();
+    cases.extend(shapes.iter().map(|input| Case::option("spell", Work::Spell, input)));
+    cases.extend(shapes.iter().map(|input| Case::area("forward", input.name.clone(), sample_records(), true, input)));
+    for count in RUNS {
+        let input = runs(&mut random, count);
+        for rows in ROWS {
+            cases.push(Case::area("forward, table", growth_name(rows, count), scattered_records(rows), false, &input));
         }
+    }
+    for input in &dear {
+        cases.push(Case::area(DEAR, format!("sample's table: {}", input.name), sample_records(), true, input));
+    }
+    for input in &dear {
+        cases.push(Case::area(DEAR, format!("64 scattered rows: {}", input.name), scattered_records(64), false, input));
     }
     cases
 }
 
+const ROWS: [usize; 4] = [8, 16, 32, 64];
+const RUNS: [usize; 5] = [1, 15, 30, 60, 120];
+/// The group of areas among which the dearest is looked for.
+const DEAR: &str = "dearest";
+
+fn growth_name(rows: usize, runs: usize) -> String {
+    format!("{} rows, {} run{}", rows, runs, if runs == 1 { "" } else { "s" })
+}
+
+// Whole answers, as text.
+
+struct Lent {
+    answer: [u64; 8],
+    runs: [u32; 120],
+    out: [u8; OUTPUT],
+}
+
+fn lend() -> Lent {
+    Lent { answer: [0; 8], runs: [0; 120], out: [FILL; OUTPUT] }
+}
+
+fn keys(label: &fast::Label) -> Vec<u32> {
+    label.runs[..label.count as usize].iter().map(|run| run.low as u32 * 65536 + run.high as u32).collect()
+}
+
+fn label_numbers(label: &fast::Label) -> Vec<u64> {
+    vec![label.domain as u64, label.level as u64, label.count as u64]
+}
+
+fn whole(numbers: &[u64], runs: &[u32], out: &[u8]) -> String {
+    format!("{:?} {:x?} {:02x?}", numbers, runs, out)
+}
+
+fn box_reading(octets: &[u8]) -> String {
+    let mut lent = lend();
+    // The pointers and lengths are those of arrays that do not overlap; so too below.
+    unsafe { inglebreek_read(octets.as_ptr(), octets.len(), lent.answer.as_mut_ptr(), 8, lent.runs.as_mut_ptr(), 120) };
+    whole(&lent.answer[..5], &lent.runs[..lent.answer[4] as usize], &[])
+}
+
+fn rust_reading(octets: &[u8]) -> String {
+    let (number, pointer, label) = match fast::read_option(octets) {
+        Ok(label) => (0, 0, label),
+        Err(refusal) => (refusal.number, refusal.offset, fast::Label::ALL_ZERO),
+    };
+    whole(&[vec![number as u64, pointer as u64], label_numbers(&label)].concat(), &keys(&label), &[])
+}
+
+fn box_spelling(octets: &[u8]) -> String {
+    let label = fast::read_option(octets).unwrap_or(fast::Label::ALL_ZERO);
+    let (mut lent, keys) = (lend(), keys(&label));
+    unsafe {
+        inglebreek_spell(label.domain, label.level, keys.as_ptr(), keys.len(), lent.out.as_mut_ptr(), OUTPUT, lent.answer.as_mut_ptr(), 8)
+    };
+    whole(&lent.answer[..2], &[], &lent.out)
+}
+
+fn rust_spelling(octets: &[u8]) -> String {
+    let label = fast::read_option(octets).unwrap_or(fast::Label::ALL_ZERO);
+    let mut out = [FILL; OUTPUT];
+    let (number, count) = match fast::spell_label(&label, &mut out) {
+        Ok(count) => (0, count),
+        Err(number) => (number, 0),
+    };
+    whole(&[number as u64, count as u64], &[], &out)
+}
+
+fn box_forwarding(area: &[u8]) -> String {
+    let mut lent = lend();
+    unsafe {
+        let (out, answer, runs) = (lent.out.as_mut_ptr(), lent.answer.as_mut_ptr(), lent.runs.as_mut_ptr());
+        inglebreek_forward(false, area.as_ptr(), area.len(), out, OUTPUT, answer, 8, runs, 120)
+    };
+    whole(&lent.answer, &lent.runs[..lent.answer[7] as usize], &lent.out)
+}
+
+fn rust_forwarding(area: &[u8]) -> String {
+    let (records, mut out) = (sample_records(), [FILL; OUTPUT]);
+    let d = rust_decision(&records, area, &mut out);
+    let numbers = [d.number, d.icmp_type, d.icmp_code, d.pointer, d.count].map(u64::from);
+    whole(&[numbers.to_vec(), label_numbers(&d.label)].concat(), &keys(&d.label), &out)
+}
+
 // Timing: the shortest of many short rounds, the two halves in turn.
 
-fn shortest(best: &mut f64, calls: usize, work: impl FnOnce() -> usize) {
+fn shortest(best: &mut f64, work: impl FnOnce() -> usize) {
     let began = Instant::now();
     black_box(work());
-    *best = best.min(began.elapsed().as_nanos() as f64 / calls as f64);
+    *best = best.min(began.elapsed().as_nanos() as f64 / TIMES as f64);
 }
 
-struct Timed {
-    ours: f64,
-    theirs: f64,
-}
-
-fn time(case: &Case, sample: &Records, timed: &mut Timed) {
-    let parts = case.parts();
-    let times = TIMES / parts.len();
+fn time(cases: &[Case]) -> Vec<(f64, f64)> {
+    let mut timed = vec![(f64::MAX, f64::MAX); cases.len()];
     let mut out = [FILL; OUTPUT];
-    for _ in 0..ROUNDS {
-        shortest(&mut timed.ours, TIMES, || parts.iter().map(|octets| case.box_turn(octets, &mut out, times)).sum());
-        shortest(&mut timed.theirs, TIMES, || parts.iter().map(|octets| case.rust_turn(sample, octets, &mut out, times)).sum());
-    }
-}
-
-fn time_all(cases: &[Case], sample: &Records) -> Vec<Timed> {
-    let mut timed: Vec<Timed> = cases.iter().map(|_| Timed { ours: f64::MAX, theirs: f64::MAX }).collect();
     for _ in 0..PASSES {
-        for (case, timed) in cases.iter().zip(&mut timed) {
-            time(case, sample, timed);
+        for (case, (ours, theirs)) in cases.iter().zip(&mut timed) {
+            for _ in 0..ROUNDS {
+                shortest(ours, || case.box_turn(&case.octets, &mut out, TIMES));
+                shortest(theirs, || case.rust_turn(&case.octets, &mut out, TIMES));
+            }
         }
     }
     timed
 }
 
-fn time_part(work: impl Fn() -> usize) -> f64 {
-    let mut best = f64::MAX;
-    for _ in 0..PASSES * ROUNDS {
-        shortest(&mut best, TIMES, &work);
-    }
-    best
+#[no_mangle]
+#[inline(never)]
+pub extern "C" fn count_mark(place: usize) -> usize {
+    black_box(place)
 }
 
-fn table(cases: &[Case], timed: &[Timed]) -> String {
+/// Each half once, with a mark before it.
+fn count(cases: &[Case]) {
+    let mut out = [FILL; OUTPUT];
+    for (index, case) in cases.iter().enumerate() {
+        count_mark(2 * index);
+        black_box(case.box_turn(&case.octets, &mut out, TIMES));
+        count_mark(2 * index + 1);
+        black_box(case.rust_turn(&case.octets, &mut out, TIMES));
+        println!("{}|{}|{}", case.group, case.name, TIMES);
+    }
+    count_mark(2 * cases.len());
+}
+
+// The document.
+
+/// A line of `times` or `counts`: the two halves of a case.
+struct Measured {
+    group: String,
+    name: String,
+    ours: f64,
+    theirs: f64,
+    forwarded: String,
+}
+
+impl Measured {
+    fn ratio(&self) -> f64 {
+        self.ours / self.theirs
+    }
+}
+
+/// None where there is no such file: without valgrind nothing is counted.
+fn measured(path: &str) -> Vec<Measured> {
+    let text = std::fs::read_to_string(path).unwrap_or_default();
+    let line = |line: &str| {
+        let field: Vec<&str> = line.split('|').collect();
+        let number = |place: usize| field[place].parse().expect("a number");
+        Measured {
+            group: field[0].into(),
+            name: field[1].into(),
+            ours: number(2),
+            theirs: number(3),
+            forwarded: field.get(4).unwrap_or(&"").to_string(),
+        }
+    };
+    text.lines().map(line).collect()
+}
+
+fn times_table(times: &[Measured]) -> String {
     let mut text = String::from("| Work | Input | Box (ns) | Rust (ns) | Box / Rust | Forwarded |\n|---|---|---:|---:|---:|---:|\n");
-    for (case, time) in cases.iter().zip(timed) {
-        let forwarded = match case.work {
-            Work::Read | Work::Spell => String::from("–"),
-            _ => format!("{} of {}", case.forwarded(), SLOTS),
-        };
+    for row in times.iter().filter(|row| row.group != DEAR) {
+        writeln!(text, "| {} | {} | {:.0} | {:.0} | {:.2} | {} |", row.group, row.name, row.ours, row.theirs, row.ratio(), row.forwarded)
+            .unwrap();
+    }
+    text
+}
+
+fn counts_table(counts: &[Measured]) -> String {
+    let mut text = String::from("| Work | Input | Box (instructions) | Rust (instructions) | Box / Rust |\n|---|---|---:|---:|---:|\n");
+    for row in counts.iter().filter(|row| row.group != DEAR) {
+        writeln!(text, "| {} | {} | {:.0} | {:.0} | {:.2} |", row.group, row.name, row.ours, row.theirs, row.ratio()).unwrap();
+    }
+    text
+}
+
+fn dear_table(times: &[Measured]) -> String {
+    let mut text = String::from("| Area | Box (ns) | Rust (ns) | Forwarded |\n|---|---:|---:|---:|\n");
+    for row in times.iter().filter(|row| row.group == DEAR) {
+        writeln!(text, "| {} | {:.0} | {:.0} | {} |", row.name, row.ours, row.theirs, row.forwarded).unwrap();
+    }
+    text
+}
+
+/// The least and the greatest of some figures.
+fn span(figures: impl Iterator<Item = f64>) -> String {
+    let (least, most) = figures.fold((f64::MAX, f64::MIN), |(least, most), x| (least.min(x), most.max(x)));
+    format!("{:.2} to {:.2}", least, most)
+}
+
+/// A point of a list in lines of at most 150 characters.
+fn wrapped(point: &str) -> String {
+    let mut text = String::new();
+    let mut line = String::new();
+    for word in point.split_whitespace() {
+        if !line.is_empty() && line.chars().count() + 1 + word.chars().count() > 150 {
+            text.push_str(&line);
+            text.push('\n');
+            line = String::from(" ");
+        }
+        if !line.is_empty() {
+            line.push(' ');
+        }
+        line.push_str(word);
+    }
+    text + &line + "\n"
+}
+
+/// How box and Rust stand to each other, by one measure.
+fn ratios(rows: &[Measured], measure: &str) -> String {
+    let timed = || rows.iter().filter(|row| row.group != DEAR);
+    let mut text = format!("- **By {}**, box against Rust:", measure);
+    for (index, group) in ["read", "spell", "forward", "forward, table"].iter().enumerate() {
+        let sign = if index == 0 { "" } else { ";" };
+        write!(text, "{} {} {}", sign, group, span(timed().filter(|row| row.group == *group).map(Measured::ratio))).unwrap();
+    }
+    let forwards = || timed().filter(|row| row.group.starts_with("forward"));
+    let level = forwards().filter(|row| row.ratio() <= 1.0).count();
+    write!(
+        text,
+        ". Of the {} rows of forward {} at most 1.00.",
+        forwards().count(),
+        if level == 1 { "1 is".into() } else { format!("{} are", level) }
+    )
+    .unwrap();
+    let over: Vec<String> =
+        timed().filter(|row| row.ratio() > 1.2).map(|row| format!("{}, {} ({:.2})", row.group, row.name, row.ratio())).collect();
+    match over.len() {
+        0 => text.push_str(" No row is over 1.20."),
+        1 => write!(text, " One row is over 1.20: {}.", over[0]).unwrap(),
+        n => write!(text, " {} rows are over 1.20: {}.", n, over.join("; ")).unwrap(),
+    }
+    wrapped(&text)
+}
+
+fn growth(times: &[Measured]) -> String {
+    let ns = |rows: usize, runs: usize| times.iter().find(|row| row.name == growth_name(rows, runs)).map_or(f64::NAN, |row| row.ours);
+    let by_rows = span(RUNS.iter().map(|runs| ns(64, *runs) / ns(8, *runs)));
+    let by_runs = span(ROWS.iter().map(|rows| ns(*rows, 120) / ns(*rows, 1)));
+    let mut text = format!(
+        "From 8 to 64 rows, eight times as many, a forward takes {} times as long; from 1 to 120 runs, {} times as long (box, ns):\n\n",
+        by_rows, by_runs
+    );
+    writeln!(text, "| Rows | {} |", RUNS.map(|runs| growth_name(0, runs).replace("0 rows, ", "")).join(" | ")).unwrap();
+    writeln!(text, "|---|{}", "---:|".repeat(RUNS.len())).unwrap();
+    for rows in ROWS {
+        writeln!(text, "| {} | {} |", rows, RUNS.map(|runs| format!("{:.0}", ns(rows, runs))).join(" | ")).unwrap();
+    }
+    text
+}
+
+fn dearest(times: &[Measured]) -> String {
+    let mut text = String::new();
+    for table in ["sample's table", "64 scattered rows"] {
+        let among = || times.iter().filter(|row| row.group == DEAR && row.name.starts_with(table));
+        let plain = among().next().map_or(f64::NAN, |row| row.ours);
+        let Some(most) = among().max_by(|a, b| a.ours.total_cmp(&b.ours)) else { continue };
+        let area = most.name.split(": ").nth(1).unwrap_or("");
         writeln!(
             text,
-            "| {} | {} | {:.0} | {:.0} | {:.2} | {} |",
-            case.group,
-            case.name,
-            time.ours,
-            time.theirs,
-            time.ours / time.theirs,
-            forwarded
+            "- {}: the dearest area found is \"{}\", {:.0} ns, {:.1} times a label with no categories ({:.0} ns).",
+            table,
+            area,
+            most.ours,
+            most.ours / plain,
+            plain
         )
         .unwrap();
     }
     text
 }
 
-fn parts_table() -> String {
-    // The functions take numbers alone.
-    let ports = time_part(|| unsafe { inglebreek_ports_sound(black_box(TIMES + 1), TIMES) });
-    let tables = [0, 8, 16, 32, 64].map(|rows| time_part(|| unsafe { inglebreek_table_sound(black_box(rows), TIMES) }));
-    let mut text = String::from("| Part of a forward, box alone | ns |\n|---|---:|\n");
-    writeln!(text, "| the sample's two ports sound | {:.0} |", ports).unwrap();
-    let names = ["the sample's 2 rows", "8 scattered rows", "16", "32", "64"];
-    for (name, time) in names.iter().zip(tables) {
-        writeln!(text, "| table sound, {} | {:.0} |", name, time).unwrap();
+const ABOUT: &str = "# Speed
+
+`tools/bench --record` made this page and the plot: tables, figures and the rows that the text names are those of one run. `tools/bench` alone prints
+the tables. It links the box's static libraries (the crates `exports` and `timing`) and the second program's fast variant (`tools/reference/fast.rs`,
+ordinary Rust over runs, without the heap) into one program and holds their answers against each other first: every input alone, with every place of
+the label and every octet of the output, then the timed loops. (Through other tables than the sample's the output and a digest stand for the label.)
+
+- Each time is that of one call, in the shortest of 300 rounds of 960 calls; box and Rust take turns, round by round, in one run, and all cases are
+  gone through ten times.
+- 64 inputs of a kind take turns, so that the branch predictor does not learn one of them; the seed is fixed. Spelling takes 8 labels in turn.
+- The loops of the box are in the crate `timing`, those of Rust in `tools/bench.rs`; both run over records built once, with an output of 48 octets. Of
+  every answer the same fixed places go into a number that is returned.
+- A forward checks both ports and the table on every call, in both. Where the renumbered label has no spelling, the answer is 18 and the work up to
+  there is the same; the last column says how many of the inputs are forwarded.
+- The table with rows spreads the categories 0 to 255 over rows of equal width whose targets come in scattered order, those below 240 among
+  themselves.
+- The box is compiled as `rt staticlib` does it, the Rust variant with `rustc -O`; neither is told of a processor. Instructions are counted by
+  callgrind, for one call.
+
+![box and Rust side by side](speed.svg)
+";
+
+fn document(times: &[Measured], counts: &[Measured]) -> String {
+    let mut text = format!("{}\n## What the tables say\n\n{}", ABOUT, ratios(times, "time"));
+    if !counts.is_empty() {
+        text.push_str(&ratios(counts, "instructions"));
+    }
+    write!(text, "\n## Growth\n\n{}", growth(times)).unwrap();
+    write!(
+        text,
+        "\n## The dearest datagram\n\nA sender chooses the area alone. Areas of these kinds were tried:\n\n{}\n{}",
+        dearest(times),
+        dear_table(times)
+    )
+    .unwrap();
+    write!(text, "\n## Times\n\n{}", times_table(times)).unwrap();
+    if !counts.is_empty() {
+        write!(text, "\n## Instructions\n\n{}", counts_table(counts)).unwrap();
     }
     text
 }
 
 /// A bar for each half of each case; each group has its own scale.
-fn plot(cases: &[Case], timed: &[Timed]) -> String {
-    let mut groups: Vec<&str> = cases.iter().map(|case| case.group).collect();
+fn plot(times: &[Measured]) -> String {
+    let shown: Vec<&Measured> = times.iter().filter(|row| row.group != DEAR).collect();
+    let mut groups: Vec<&str> = shown.iter().map(|row| row.group.as_str()).collect();
     groups.dedup();
-    let height = 60 + cases.len() * 34 + groups.len() * 34;
+    let height = 60 + shown.len() * 34 + groups.len() * 34;
     let mut svg = format!(
         "<svg xmlns=\"http://www.w3.org/2000/svg\" width=\"900\" height=\"{}\" font-family=\"sans-serif\" font-size=\"12\">\n",
         height
@@ -443,14 +772,14 @@ fn plot(cases: &[Case], timed: &[Timed]) -> String {
     svg.push_str("<text x=\"420\" y=\"24\">ns for one call; each group has its own scale</text>\n");
     let mut y = 40;
     for group in groups {
-        let members = || cases.iter().zip(timed).filter(|(case, _)| case.group == group);
-        let longest = members().map(|(_, time)| time.ours.max(time.theirs)).fold(1.0, f64::max);
+        let members = || shown.iter().filter(|row| row.group == group);
+        let longest = members().map(|row| row.ours.max(row.theirs)).fold(1.0, f64::max);
         writeln!(svg, "<text x=\"10\" y=\"{}\" font-weight=\"bold\">{}</text>", y + 18, group).unwrap();
         y += 28;
-        for (case, time) in members() {
-            writeln!(svg, "<text x=\"280\" y=\"{}\" text-anchor=\"end\">{}</text>", y + 16, case.name).unwrap();
-            let ratio = format!(" ({:.2})", time.ours / time.theirs);
-            for (value, colour, offset, after) in [(time.ours, "#1f5fa8", 0, ratio.as_str()), (time.theirs, "#e08a2c", 13, "")] {
+        for row in members() {
+            writeln!(svg, "<text x=\"280\" y=\"{}\" text-anchor=\"end\">{}</text>", y + 16, row.name).unwrap();
+            let ratio = format!(" ({:.2})", row.ratio());
+            for (value, colour, offset, after) in [(row.ours, "#1f5fa8", 0, ratio.as_str()), (row.theirs, "#e08a2c", 13, "")] {
                 let width = 480.0 * value / longest;
                 writeln!(svg, "<rect x=\"290\" y=\"{}\" width=\"{:.1}\" height=\"12\" fill=\"{}\"/>", y + offset, width, colour).unwrap();
                 writeln!(svg, "<text x=\"{:.1}\" y=\"{}\" font-size=\"11\">{:.0}{}</text>", 296.0 + width, y + offset + 10, value, after)
@@ -463,41 +792,37 @@ fn plot(cases: &[Case], timed: &[Timed]) -> String {
     svg
 }
 
-#[no_mangle]
-#[inline(never)]
-pub extern "C" fn count_mark(place: usize) -> usize {
-    black_box(place)
+fn write_times(folder: &str, cases: &[Case]) {
+    let mut text = String::new();
+    for (case, (ours, theirs)) in cases.iter().zip(time(cases)) {
+        writeln!(text, "{}|{}|{}|{}|{}", case.group, case.name, ours, theirs, case.forwarded()).unwrap();
+    }
+    std::fs::write(format!("{}/times", folder), text).expect("the times are written");
 }
 
-/// Each half once, with a mark before it.
-fn count(cases: &[Case], sample: &Records) {
-    let mut out = [FILL; OUTPUT];
-    for (index, case) in cases.iter().enumerate() {
-        let parts = case.parts();
-        let times = TIMES / parts.len();
-        count_mark(2 * index);
-        black_box(parts.iter().map(|octets| case.box_turn(octets, &mut out, times)).sum::<usize>());
-        count_mark(2 * index + 1);
-        black_box(parts.iter().map(|octets| case.rust_turn(sample, octets, &mut out, times)).sum::<usize>());
-        println!("{}|{}|{}", case.group, case.name, TIMES);
+fn render(folder: &str) {
+    let (times, counts) = (measured(&format!("{}/times", folder)), measured(&format!("{}/counts", folder)));
+    println!("{}\n{}\n{}\n{}", times_table(&times), dear_table(&times), dearest(&times), ratios(&times, "time"));
+    if !counts.is_empty() {
+        println!("{}\n{}", counts_table(&counts), ratios(&counts, "instructions"));
     }
-    count_mark(2 * cases.len());
+    std::fs::write(format!("{}/SPEED.md", folder), document(&times, &counts)).expect("the page is written");
+    std::fs::write(format!("{}/speed.svg", folder), plot(&times)).expect("the plot is written");
 }
 
 fn main() {
-    let argument = std::env::args().nth(1);
-    let (cases, sample) = (cases(), sample_records());
-    if argument.as_deref() == Some("--count") {
-        return count(&cases, &sample);
-    }
-    for case in &cases {
-        case.compare(&sample);
-    }
-    let timed = time_all(&cases, &sample);
-    let text = format!("{}\n{}", table(&cases, &timed), parts_table());
-    print!("{}", text);
-    if let Some(folder) = argument {
-        std::fs::write(format!("{}/speed.table", folder), &text).expect("the table is written");
-        std::fs::write(format!("{}/speed.svg", folder), plot(&cases, &timed)).expect("the plot is written");
+    let arguments: Vec<String> = std::env::args().skip(1).collect();
+    match arguments.iter().map(String::as_str).collect::<Vec<_>>()[..] {
+        ["--time", folder] => {
+            let cases = cases();
+            cases.iter().for_each(Case::compare);
+            write_times(folder, &cases);
+        }
+        ["--count"] => count(&cases()),
+        ["--render", folder] => render(folder),
+        _ => {
+            eprintln!("bench --time FOLDER | --count | --render FOLDER");
+            std::process::exit(2);
+        }
     }
 }

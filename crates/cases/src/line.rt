@@ -1,4 +1,9 @@
-// The parts of a line.
+// The words of a line: each function puts its words behind the octets that wait, and answers the place behind them.
+ghost use mathlib.Core.List.{_++_};
+ghost use Rattle.label.specs.Label.{used};
+ghost use Rattle.lines.specs.Put.{Puts};
+ghost use Rattle.lines.specs.Line.{next};
+ghost use Rattle.cases.specs.Line.{answerWord, brokenWord, runsWords, labelWords, outputWord, decisionWords};
 use crate::field::LONGEST;
 use crate::field::octets_of;
 use arrival::Decision;
@@ -11,7 +16,9 @@ use lines::put_octet;
 use lines::put_word;
 
 // YES or NO.
-pub fn put_answer(out: &mut [u8], n: usize, yes: bool) -> usize {
+pub fn put_answer(out: &mut [u8], n: usize, yes: bool) -> usize
+    ensures { λ r. ⌜ Puts (now (out .entry)) n (answerWord yes) (now (out .exit)) r ⌝ }
+{
     if yes {
         return put_word(out, n, b"YES");
     }
@@ -19,14 +26,18 @@ pub fn put_answer(out: &mut [u8], n: usize, yes: bool) -> usize {
 }
 
 // A label: domain, level, count and its first `count` runs, no more than 120.
-pub fn put_label(out: &mut [u8], n: usize, label: Label) -> usize {
+pub fn put_label(out: &mut [u8], n: usize, label: Label) -> usize
+    ensures { λ r. ⌜ Puts (now (out .entry)) n (labelWords label) (now (out .exit)) r ⌝ }
+{
     let named = put_next(out, n, label.domain as u64);
     let levelled = put_next(out, named, label.level as u64);
     let counted = put_next(out, levelled, label.count as u64);
     put_runs(out, counted, label)
 }
 
-fn put_runs(out: &mut [u8], n: usize, label: Label) -> usize {
+fn put_runs(out: &mut [u8], n: usize, label: Label) -> usize
+    ensures { λ r. ⌜ Puts (now (out .entry)) n (runsWords (used label)) (now (out .exit)) r ⌝ }
+{
     let mut k = n;
     let mut i: usize = 0;
     while i < label.count {
@@ -40,22 +51,33 @@ fn put_runs(out: &mut [u8], n: usize, label: Label) -> usize {
     k
 }
 
-fn put_run(out: &mut [u8], n: usize, run: Run) -> usize {
+fn put_run(out: &mut [u8], n: usize, run: Run) -> usize
+    ensures { λ r. ⌜ Puts (now (out .entry)) n (next (run .low) ++ next (run .high)) (now (out .exit)) r ⌝ }
+{
     let k = put_next(out, n, run.low as u64);
     put_next(out, k, run.high as u64)
 }
 
-// An output of `room` octets: all of them in hex, or `-` where it has none.
-pub fn put_output(out: &mut [u8], n: usize, space: &[u8; LONGEST], room: usize) -> usize {
+// An output: all its octets in hex, or `-` where it has none.
+fn put_output(out: &mut [u8], n: usize, octets: &[u8]) -> usize
+    ensures { λ r. ⌜ Puts (now (out .entry)) n (outputWord (now (octets .entry))) (now (out .exit)) r ⌝ }
+{
     let k = put_octet(out, n, b' ');
-    if room == 0 {
+    if octets.len() == 0 {
         return put_octet(out, k, b'-');
     }
-    put_hex(out, k, octets_of(space, 0, room))
+    put_hex(out, k, octets)
+}
+
+// A lent output of `room` octets.
+pub fn put_lent(out: &mut [u8], n: usize, space: &[u8; LONGEST], room: usize) -> usize {
+    put_output(out, n, octets_of(space, 0, room))
 }
 
 // A decision: number, type, code, pointer, count and the label.
-pub fn put_decision(out: &mut [u8], n: usize, d: Decision) -> usize {
+pub fn put_decision(out: &mut [u8], n: usize, d: Decision) -> usize
+    ensures { λ r. ⌜ Puts (now (out .entry)) n (decisionWords d) (now (out .exit)) r ⌝ }
+{
     let numbered = put_decimal(out, n, d.number as u64);
     let typed = put_next(out, numbered, d.kind as u64);
     let coded = put_next(out, typed, d.code as u64);
@@ -63,4 +85,11 @@ pub fn put_decision(out: &mut [u8], n: usize, d: Decision) -> usize {
     let counted = put_next(out, pointed, d.count as u64);
     let label = d.label;
     put_label(out, counted, label)
+}
+
+// The word of a case that does not parse.
+pub fn put_broken(out: &mut [u8], n: usize) -> usize
+    ensures { λ r. ⌜ Puts (now (out .entry)) n brokenWord (now (out .exit)) r ⌝ }
+{
+    put_word(out, n, b"BROKEN")
 }

@@ -5,13 +5,16 @@
 ghost use Prim.Native.Nat.{_≤_};
 ghost use lib.ListN.{length};
 
+mod decision_entries;
 mod entry;
 mod field;
+mod label_entries;
 mod line;
+mod option_entries;
 mod record;
 
 use entry::answer;
-use entry::put_broken;
+use line::put_broken;
 use lines::put_octet;
 use stream::Place;
 use stream::begin;

@@ -25,7 +25,7 @@ use Rattle.area.proofs.Laws.{area-refused, area-placed}
 use Rattle.leaving.specs.Kept.{keptOf}
 use Rattle.port.specs.declared.Port.{Port}
 use Rattle.port.specs.Port.{portSound, hostSound}
-use Rattle.renumber.specs.Renumber.{setInRange}
+use Rattle.label.specs.Range.{setInRange}
 use Rattle.arrival.specs.Checks.{Refusal, silent, faulty, barred, when, firstOf, badArea, walkRefusal, walkCheck, placeIn, optionAt, requiredBy, requiredCheck, optionBy, optionCheck, arrivingLabel, rangeCheck, Delivery, deliverySizes, deliveryRecords, hostCheck}
 use Rattle.arrival.specs.Decision.{decided, deliverChecks, deliverOf}
 use Rattle.arrival.proofs.Arrival.{placed-framed}

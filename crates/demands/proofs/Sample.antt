@@ -29,7 +29,8 @@ use Rattle.arrival.specs.Checks.{walkCheck, requiredCheck, optionCheck, arrivin
 use Rattle.gateway.specs.Crossing.{sizes, records, numberCheck}
 use Rattle.gateway.specs.Forward.{forwardOf}
 use Rattle.demands.specs.Demands.{own, Forwards}
-use Rattle.demands.specs.Sample.{arriving, leaving, table, levels, sample, first, SampleLines}
+use Rattle.sample_records.specs.Sample.{arriving, leaving, table, levels}
+use Rattle.demands.specs.Sample.{sample, first, SampleLines}
 use Rattle.demands.proofs.Second.{demand2}
 
 abbrev near : Label

@@ -8,7 +8,7 @@ use Rattle.reading.specs.Reading.{readingFor, readingBy, tagChecks, labelIn}
 use Rattle.area.specs.Area.{walkFrom, walkOf}
 use Rattle.leaving.specs.Kept.{keptFrom, keptOf}
 use Rattle.port.specs.Port.{rangeSound, assignedSound, portSound, hostSound}
-use Rattle.renumber.specs.Renumber.{setInRange}
+use Rattle.label.specs.Range.{setInRange}
 use Rattle.arrival.specs.Checks.{walkCheck, requiredCheck, optionCheck, arrivingLabel, rangeCheck, deliverySizes, deliveryRecords, hostCheck}
 use Rattle.arrival.specs.Decision.{deliverOf}
 use Rattle.gateway.specs.Crossing.{sizes, records, numberCheck, leavingLevel, leavingRuns, leavingCheck, spellingCheck}

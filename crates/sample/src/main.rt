@@ -4,12 +4,14 @@ ghost use lib.ListN.{length};
 ghost use Rattle.lines.specs.Theorems.{Whole};
 ghost use Rattle.sample.specs.Sample.{areaLine};
 use gateway::forward;
-use label::Label;
-use label::Run;
 use lines::put_broken;
 use lines::put_drop;
 use lines::put_forward;
 use port::Port;
+use sample_records::arriving;
+use sample_records::leaving;
+use sample_records::levels;
+use sample_records::table;
 use stream::Place;
 use stream::begin;
 use stream::feed;
@@ -17,7 +19,6 @@ use stream::flush;
 use stream::go_on;
 use stream::spare;
 use stream::stop;
-use table::Row;
 use table::Table;
 
 // How much of the input is held at a time: some 1,600 records of the longest area that can pass.
@@ -26,71 +27,6 @@ const INPUT: usize = 65536;
 const OUTPUT: usize = 65536;
 // The most octets of a line (crate `lines`, `Longest`): there is room for so many before one is put.
 const LINE: usize = 110;
-
-// The label with the categories from 0 to the highest.
-fn up_to(domain: u32, level: u8, highest: u16) -> Label {
-    let mut label = Label::empty(domain, level);
-    label.runs[0] = Run {
-        low: 0,
-        high: highest,
-    };
-    label.count = 1;
-    label
-}
-
-fn arriving() -> Port {
-    Port {
-        domain: 5,
-        lowest: Label::empty(5, 1),
-        highest: up_to(5, 5, 300),
-        required: true,
-        assigned: Label::empty(0, 0),
-    }
-}
-
-fn leaving() -> Port {
-    Port {
-        domain: 9,
-        lowest: Label::empty(9, 0),
-        highest: up_to(9, 255, Label::MAX_CATEGORY),
-        required: true,
-        assigned: Label::empty(0, 0),
-    }
-}
-
-fn table() -> Table {
-    let none = Row {
-        low: 0,
-        high: 0,
-        target: 0,
-    };
-    let mut table = Table {
-        from: 5,
-        to: 9,
-        pairs: 3,
-        count: 2,
-        rows: [none; 64],
-    };
-    table.rows[0] = Row {
-        low: 0,
-        high: 99,
-        target: 1000,
-    };
-    table.rows[1] = Row {
-        low: 100,
-        high: 300,
-        target: 0,
-    };
-    table
-}
-
-fn levels() -> [[u8; 2]; 16] {
-    let mut levels = [[0u8; 2]; 16];
-    levels[0] = [1, 2];
-    levels[1] = [3, 4];
-    levels[2] = [5, 6];
-    levels
-}
 
 // The line of one area, behind the octets that wait.
 fn answer(

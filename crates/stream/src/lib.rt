@@ -5,7 +5,6 @@ mod place;
 
 pub use input::Window;
 pub use input::hold;
-pub use output::send;
 pub use place::Place;
 pub use place::begin;
 pub use place::feed;

@@ -1,74 +1,78 @@
 -- `exports::inglebreek_read` meets its contract.
 use borrow.Author.Needs.{needs}
-use Prim.Native.Nat.{_≤_, _-_}
+use Rattle.exports.proofs.Laws.{short-answer, short-runs, both-roomy, reads-nothing, reads-whole}
 use Rattle.exports.proofs.inglebreek_read.Statement.{statement}
 use Rattle.exports.proofs.inglebreek_read.Tie as tie
 
-abbrev Inv-loop : tie.InvT-loop
-Inv-loop octets size times n last at₀ total₀ i₀ at total i = (i ≤ times) × (at ≤ last)
+returns : tie.Need-returns
+returns c =
+    let s = c .before .before .before .before in
+    reads-nothing (s .args .octets .now) (s .args .answer .now) (s .args .runs .now) (short-answer 5 (s .args .answer .now) (s .args .runs .now) (c .if1 .taken))
 
-abbrev μ-loop : tie.MeasureT-loop
-μ-loop octets size times n last at₀ total₀ i₀ at total i = times - i
+returns-2 : tie.Need-returns-2
+returns-2 c =
+    let s = c .before .before .before .before .before in
+    reads-nothing (s .args .octets .now) (s .args .answer .now) (s .args .runs .now) (short-runs 5 (s .args .answer .now) (s .args .runs .now) (c .if2 .taken))
 
-returns : tie.Need-returns Inv-loop μ-loop
-returns c = search needs
-
-loop-holds : tie.Need-loop-holds Inv-loop μ-loop
-loop-holds c = search needs
-
-add-end : tie.Need-add-end Inv-loop μ-loop
-add-end c = search needs
-
-sub-read-option : tie.Need-sub-read-option Inv-loop μ-loop
-sub-read-option c = search needs
-
-part-read-option-start : tie.Need-part-read-option-start Inv-loop μ-loop
-part-read-option-start c = search needs
-
-part-read-option-end : tie.Need-part-read-option-end Inv-loop μ-loop
-part-read-option-end c = search needs
-
-read-option-requires : tie.Need-read-option-requires Inv-loop μ-loop
+read-option-requires : tie.Need-read-option-requires
 read-option-requires c κs = search needs
 
-reading-digest-requires : tie.Need-reading-digest-requires Inv-loop μ-loop
-reading-digest-requires c κs = search needs
+cast-t9 : tie.Need-cast-t9
+cast-t9 c = search needs
 
-mix-requires : tie.Need-mix-requires Inv-loop μ-loop
-mix-requires c κs = search needs
+cast-t11 : tie.Need-cast-t11
+cast-t11 c = search needs
 
-next-place-requires : tie.Need-next-place-requires Inv-loop μ-loop
-next-place-requires c κs = search needs
+cast-t12 : tie.Need-cast-t12
+cast-t12 c = search needs
 
-add-i : tie.Need-add-i Inv-loop μ-loop
-add-i c = search needs
+slice-aggregate-put-numbers : tie.Need-slice-aggregate-put-numbers
+slice-aggregate-put-numbers c = search needs
 
-loop-less : tie.Need-loop-less Inv-loop μ-loop
-loop-less c = search needs
+put-numbers-requires : tie.Need-put-numbers-requires
+put-numbers-requires c κs = search needs
 
-loop-again : tie.Need-loop-again Inv-loop μ-loop
-loop-again c = search needs
+label-keys-requires : tie.Need-label-keys-requires
+label-keys-requires c κs = search needs
 
-returns-2 : tie.Need-returns-2 Inv-loop μ-loop
-returns-2 c = search needs
+same-length : tie.Need-same-length
+same-length c = search needs
+
+same-length-2 : tie.Need-same-length-2
+same-length-2 c = search needs
+
+returns-3 : tie.Need-returns-3
+returns-3 c =
+    let keys = c .before .before in
+    let put = keys .before .before .before .before in
+    let read = put .before .before .before .before .before .before .before in
+    let room = read .before in
+    let s = room .before .before .before .before .before in
+    reads-whole
+    (s .args .octets .now)
+    (s .args .answer .now)
+    (s .args .runs .now)
+    _
+    _
+    (read .read-option .result)
+    (both-roomy 5 (s .args .answer .now) (s .args .runs .now) (room .before .if1 .left) (room .if2 .left))
+    (read .read-option .ensures)
+    (put .put-numbers .ensures)
+    (keys .label-keys .ensures .1)
 
 pub inglebreek-read-spec : {M : Type 1} → statement M
 inglebreek-read-spec =
     tie.close
     (tie.spec
-    Inv-loop
-    μ-loop
     returns
-    loop-holds
-    add-end
-    sub-read-option
-    part-read-option-start
-    part-read-option-end
+    returns-2
     read-option-requires
-    reading-digest-requires
-    mix-requires
-    next-place-requires
-    add-i
-    loop-less
-    loop-again
-    returns-2)
+    cast-t9
+    cast-t11
+    cast-t12
+    slice-aggregate-put-numbers
+    put-numbers-requires
+    label-keys-requires
+    same-length
+    same-length-2
+    returns-3)

@@ -1,68 +1,71 @@
 -- `exports::inglebreek_spell` meets its contract.
 use borrow.Author.Needs.{needs}
+use native.Mathlib.Omega.{arith}
 use mathlib.Core.Path.{_≡_}
-use Prim.Native.Nat.{_≤_, _-_}
 use lib.ListN.{length}
+use lib.Seq.{take-all}
+use Rattle.exports.specs.Answers.{labelBy}
+use Rattle.exports.proofs.Laws.{spells-nothing, spells-whole}
 use Rattle.exports.proofs.inglebreek_spell.Statement.{statement}
 use Rattle.exports.proofs.inglebreek_spell.Tie as tie
 
-abbrev Inv-loop : tie.InvT-loop
-Inv-loop octets out₀ times label₀ total₀ i₀ out label total i = (i ≤ times) × (length out ≡ length out₀)
+returns : tie.Need-returns
+returns c = spells-nothing _ _ _ (c .if1 .taken)
 
-abbrev μ-loop : tie.MeasureT-loop
-μ-loop octets out₀ times label₀ total₀ i₀ out label total i = times - i
+to-label-requires : tie.Need-to-label-requires
+to-label-requires c κs = search needs
 
-read-option-requires : tie.Need-read-option-requires Inv-loop μ-loop
-read-option-requires c κs = search needs
-
-loop-holds : tie.Need-loop-holds Inv-loop μ-loop
-loop-holds c = search needs
-
-cast-label : tie.Need-cast-label Inv-loop μ-loop
-cast-label c = search needs
-
-spell-label-requires : tie.Need-spell-label-requires Inv-loop μ-loop
+spell-label-requires : tie.Need-spell-label-requires
 spell-label-requires c κs = search needs
 
-cast-mix : tie.Need-cast-mix Inv-loop μ-loop
-cast-mix c = search needs
+cast-t13 : tie.Need-cast-t13
+cast-t13 c = search needs
 
-mix-requires : tie.Need-mix-requires Inv-loop μ-loop
-mix-requires c κs = search needs
+slice-aggregate-put-numbers : tie.Need-slice-aggregate-put-numbers
+slice-aggregate-put-numbers c = search needs
 
-mix-requires-2 : tie.Need-mix-requires-2 Inv-loop μ-loop
-mix-requires-2 c κs = search needs
+put-numbers-requires : tie.Need-put-numbers-requires
+put-numbers-requires c κs = search needs
 
-add-i : tie.Need-add-i Inv-loop μ-loop
-add-i c = search needs
+same-length : tie.Need-same-length
+same-length c = search needs
 
-loop-less : tie.Need-loop-less Inv-loop μ-loop
-loop-less c = search needs
+same-length-2 : tie.Need-same-length-2
+same-length-2 c = search needs
 
-loop-again : tie.Need-loop-again Inv-loop μ-loop
-loop-again c = search needs
-
-same-length : tie.Need-same-length Inv-loop μ-loop
-same-length c = c .before .loop .inv .1
-
-returns : tie.Need-returns Inv-loop μ-loop
-returns c = search needs
+returns-2 : tie.Need-returns-2
+returns-2 c =
+    let put = c .before .before in
+    let spelled = put .before .before .before .before .before .before in
+    let to = spelled .before .before in
+    let s = to .before .before .before .before .before in
+    let keys = s .args .runs .now in
+    let same : to .to-label .result ≡ labelBy (s .args .domain) (s .args .level) keys =
+    rw (take-all (length keys) keys (omega arith)) at (to .to-label .ensures) in
+    spells-whole
+    (to .to-label .result)
+    (labelBy (s .args .domain) (s .args .level) keys)
+    (s .args .out .now)
+    (s .args .answer .now)
+    _
+    _
+    (spelled .spell-label .result)
+    same
+    (to .before .if1 .left)
+    (spelled .spell-label .ensures .0)
+    (spelled .spell-label .ensures .1)
+    (put .put-numbers .ensures)
 
 pub inglebreek-spell-spec : {M : Type 1} → statement M
 inglebreek-spell-spec =
     tie.close
     (tie.spec
-    Inv-loop
-    μ-loop
-    read-option-requires
-    loop-holds
-    cast-label
+    returns
+    to-label-requires
     spell-label-requires
-    cast-mix
-    mix-requires
-    mix-requires-2
-    add-i
-    loop-less
-    loop-again
+    cast-t13
+    slice-aggregate-put-numbers
+    put-numbers-requires
     same-length
-    returns)
+    same-length-2
+    returns-2)

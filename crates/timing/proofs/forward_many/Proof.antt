@@ -1,10 +1,10 @@
--- `exports::forward_many` meets its contract.
+-- `timing::forward_many` meets its contract.
 use borrow.Author.Needs.{needs}
 use mathlib.Core.Path.{_≡_}
 use Prim.Native.Nat.{_≤_, _-_}
 use lib.ListN.{length}
-use Rattle.exports.proofs.forward_many.Statement.{statement}
-use Rattle.exports.proofs.forward_many.Tie as tie
+use Rattle.timing.proofs.forward_many.Statement.{statement}
+use Rattle.timing.proofs.forward_many.Tie as tie
 
 abbrev Inv-loop : tie.InvT-loop
 Inv-loop arriving leaving table area size out₀ times n levels last at₀ total₀ i₀ out at total i = (i ≤ times) × (at ≤ last) × (length out ≡ length out₀)
@@ -15,8 +15,8 @@ abbrev μ-loop : tie.MeasureT-loop
 returns : tie.Need-returns Inv-loop μ-loop
 returns c = search needs
 
-level-pairs-requires : tie.Need-level-pairs-requires Inv-loop μ-loop
-level-pairs-requires c κs = search needs
+levels-requires : tie.Need-levels-requires Inv-loop μ-loop
+levels-requires c κs = search needs
 
 loop-holds : tie.Need-loop-holds Inv-loop μ-loop
 loop-holds c = search needs
@@ -67,7 +67,7 @@ forward-many-spec =
     Inv-loop
     μ-loop
     returns
-    level-pairs-requires
+    levels-requires
     loop-holds
     add-end
     sub-forward

@@ -1,0 +1,38 @@
+-- The words of the lines that `cases` writes: a decision, a label, an output, yes or no.
+use Prim.Native.Nat.{ℕ}
+use mathlib.Core.Bool.{Bool, cond}
+use mathlib.Core.List.{List, [], _∷_, _++_}
+use lib.ListN.{length}
+use lib.Dec.{eqb}
+use Rattle.label.specs.declared.Run.{Run}
+use Rattle.label.specs.declared.Label.{Label}
+use Rattle.label.specs.Label.{used}
+use Rattle.arrival.specs.declared.Decision.{Decision}
+use Rattle.lines.specs.Text.{decimal, hexOf}
+use Rattle.lines.specs.Line.{next}
+
+-- YES or NO
+unfoldable pub answerWord : Bool → List ℕ
+answerWord b = cond b (89 ∷ 69 ∷ 83 ∷ []) (78 ∷ 79 ∷ [])
+
+-- BROKEN
+abbrev pub brokenWord : List ℕ
+brokenWord = 66 ∷ 82 ∷ 79 ∷ 75 ∷ 69 ∷ 78 ∷ []
+
+-- low and high of each run
+unfoldable pub runsWords : List Run → List ℕ
+runsWords [] = []
+runsWords (r ∷ rs) = (next (r .low) ++ next (r .high)) ++ runsWords rs
+
+-- domain, level, count, and the first `count` runs
+unfoldable pub labelWords : Label → List ℕ
+labelWords l = ((next (l .domain) ++ next (l .level)) ++ next (l .count)) ++ runsWords (used l)
+
+-- an output: all its octets in hex, or `-` where it has none
+unfoldable pub outputWord : List ℕ → List ℕ
+outputWord octets = (32 ∷ []) ++ cond (eqb (length octets) 0) (45 ∷ []) (hexOf octets)
+
+-- entries 6 and 7: number, type, code, pointer, count, label
+unfoldable pub decisionWords : Decision → List ℕ
+decisionWords d =
+    ((((decimal (d .number) ++ next (d .kind)) ++ next (d .code)) ++ next (d .pointer)) ++ next (d .count)) ++ labelWords (d .label)

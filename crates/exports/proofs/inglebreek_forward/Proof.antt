@@ -1,0 +1,123 @@
+-- `exports::inglebreek_forward` meets its contract.
+use borrow.Author.Needs.{needs}
+use lib.ListN.{length}
+use Rattle.gateway.specs.Stages.{forwardingOf}
+use Rattle.exports.specs.Answers.{sampleForwarding}
+use Rattle.exports.proofs.Laws.{short-answer, short-runs, both-roomy, sample-is, forwards-nothing, forwards-whole}
+use Rattle.exports.proofs.inglebreek_forward.Statement.{statement}
+use Rattle.exports.proofs.inglebreek_forward.Tie as tie
+
+returns : tie.Need-returns
+returns c =
+    let s = c .before .before .before .before .before in
+    forwards-nothing _ (s .args .out .now) (s .args .answer .now) (s .args .runs .now) (short-answer 8 (s .args .answer .now) (s .args .runs .now) (c .if1 .taken))
+
+returns-2 : tie.Need-returns-2
+returns-2 c =
+    let s = c .before .before .before .before .before .before in
+    forwards-nothing _ (s .args .out .now) (s .args .answer .now) (s .args .runs .now) (short-runs 8 (s .args .answer .now) (s .args .runs .now) (c .if2 .taken))
+
+arriving-requires : tie.Need-arriving-requires
+arriving-requires c κs = search needs
+
+leaving-requires : tie.Need-leaving-requires
+leaving-requires c κs = search needs
+
+table-requires : tie.Need-table-requires
+table-requires c κs = search needs
+
+levels-requires : tie.Need-levels-requires
+levels-requires c κs = search needs
+
+forward-requires : tie.Need-forward-requires
+forward-requires c κs = search needs
+
+cast-t17 : tie.Need-cast-t17
+cast-t17 c = search needs
+
+cast-t18 : tie.Need-cast-t18
+cast-t18 c = search needs
+
+cast-t19 : tie.Need-cast-t19
+cast-t19 c = search needs
+
+cast-t20 : tie.Need-cast-t20
+cast-t20 c = search needs
+
+cast-t22 : tie.Need-cast-t22
+cast-t22 c = search needs
+
+cast-t23 : tie.Need-cast-t23
+cast-t23 c = search needs
+
+slice-aggregate-put-numbers : tie.Need-slice-aggregate-put-numbers
+slice-aggregate-put-numbers c = search needs
+
+put-numbers-requires : tie.Need-put-numbers-requires
+put-numbers-requires c κs = c .before .before .before .before .before .before .before .before .before .before .before .before .before .before .before .before .before .before .if1 .left
+
+label-keys-requires : tie.Need-label-keys-requires
+label-keys-requires c κs = search needs
+
+same-length : tie.Need-same-length
+same-length c = search needs
+
+same-length-2 : tie.Need-same-length-2
+same-length-2 c = search needs
+
+same-length-3 : tie.Need-same-length-3
+same-length-3 c = search needs
+
+returns-3 : tie.Need-returns-3
+returns-3 c =
+    let keys = c .before .before in
+    let put = keys .before .before .before .before in
+    let decided = put .before .before .before .before .before .before .before .before .before .before .before .before in
+    let levels = decided .before .before in
+    let table = levels .before in
+    let leaving = table .before in
+    let arriving = leaving .before in
+    let room = arriving .before in
+    let s = room .before .before .before .before .before .before in
+    let n = length (s .args .out .now) in
+    forwards-whole
+    (forwardingOf (arriving .arriving .result) (leaving .leaving .result) (table .table .result) (levels .levels .result) (s .args .icmp) (s .args .area .now) n)
+    (sampleForwarding (s .args .icmp) (s .args .area .now) n)
+    (s .args .out .now)
+    (s .args .answer .now)
+    (s .args .runs .now)
+    _
+    _
+    _
+    (decided .forward .result)
+    (sample-is _ _ _ _ (s .args .icmp) (s .args .area .now) n (arriving .arriving .ensures) (leaving .leaving .ensures) (table .table .ensures) (levels .levels .ensures))
+    (both-roomy 8 (s .args .answer .now) (s .args .runs .now) (room .before .if1 .left) (room .if2 .left))
+    (decided .forward .ensures .0)
+    (decided .forward .ensures .1)
+    (put .put-numbers .ensures)
+    (keys .label-keys .ensures .1)
+
+pub inglebreek-forward-spec : {M : Type 1} → statement M
+inglebreek-forward-spec =
+    tie.close
+    (tie.spec
+    returns
+    returns-2
+    arriving-requires
+    leaving-requires
+    table-requires
+    levels-requires
+    forward-requires
+    cast-t17
+    cast-t18
+    cast-t19
+    cast-t20
+    cast-t22
+    cast-t23
+    slice-aggregate-put-numbers
+    put-numbers-requires
+    label-keys-requires
+    same-length
+    same-length-2
+    same-length-3
+    returns-3)

@@ -1,0 +1,70 @@
+-- What the functions for C and Rust answer, in numbers: what is lent stays as it was behind what is written, and where it is too short for the
+-- answer nothing is written and the number is 1 (house).
+use Prim.Native.Nat.{ℕ}
+use mathlib.Core.Path.{_≡_}
+use mathlib.Core.Bool.{Bool, cond, _&&_}
+use mathlib.Core.List.{List, [], _∷_, _++_}
+use lib.ListN.{length, drop}
+use lib.Dec.{leb}
+use Rattle.label.specs.declared.Label.{Label}
+use Rattle.label.specs.Keys.{keyRuns, labelFrom, withKeys}
+use Rattle.reading.specs.declared.Reading.{Reading}
+use Rattle.reading.specs.Reading.{readingOf}
+use Rattle.spelling.specs.declared.Spelling.{Spelling}
+use Rattle.spelling.specs.Spelling.{spellingAnswer, spellingOut}
+use Rattle.arrival.specs.declared.Decision.{Decision}
+use Rattle.gateway.specs.Crossing.{Forwarding}
+use Rattle.gateway.specs.Stages.{forwardingOf}
+use Rattle.gateway.specs.Forward.{forwardOf, outputOf}
+use Rattle.sample_records.specs.Sample as sample
+
+-- numbers at the head of what is lent
+unfoldable pub headed : List ℕ → List ℕ → List ℕ
+headed numbers lent = numbers ++ drop (length numbers) lent
+
+-- a label's domain, level and count of runs; the runs themselves stand in a list of their own, as keys
+abbrev pub labelNumbers : Label → List ℕ
+labelNumbers l = l .domain ∷ l .level ∷ l .count ∷ []
+
+-- number, pointer, label
+abbrev pub readingNumbers : Reading → List ℕ
+readingNumbers r = r .number ∷ r .pointer ∷ labelNumbers (r .label)
+
+-- number, length of the option
+abbrev pub spellingNumbers : Spelling → List ℕ
+spellingNumbers s = s .number ∷ s .count ∷ []
+
+-- number, type, code, pointer, count, label
+abbrev pub decisionNumbers : Decision → List ℕ
+decisionNumbers d = d .number ∷ d .kind ∷ d .code ∷ d .pointer ∷ d .count ∷ labelNumbers (d .label)
+
+-- there is room for the numbers, and for the runs of any label
+abbrev pub roomy : ℕ → List ℕ → List ℕ → Bool
+roomy n answer runs = leb n (length answer) && leb 120 (length runs)
+
+-- One option read: `answer` and `runs` at entry and at exit, and what is returned.
+pub record Reads (octets answer runs answer′ runs′ : List ℕ) (r : ℕ) : Type 0 where
+  pub number : r ≡ cond (roomy 5 answer runs) (readingOf octets .number) 1
+  pub numbers : answer′ ≡ cond (roomy 5 answer runs) (headed (readingNumbers (readingOf octets)) answer) answer
+  pub keys : runs′ ≡ cond (roomy 5 answer runs) (withKeys (readingOf octets .label) runs) runs
+
+-- the label that numbers stand for: with over 120 runs the all-zero one, which is ill-formed
+abbrev pub labelBy : ℕ → ℕ → List ℕ → Label
+labelBy domain level runs = labelFrom domain level (keyRuns runs)
+
+-- A label spelled: `out` and `answer` at entry and at exit, and what is returned.
+pub record Spells (l : Label) (out answer out′ answer′ : List ℕ) (r : ℕ) : Type 0 where
+  pub number : r ≡ cond (leb 2 (length answer)) (spellingAnswer l (length out) .number) 1
+  pub numbers : answer′ ≡ cond (leb 2 (length answer)) (headed (spellingNumbers (spellingAnswer l (length out))) answer) answer
+  pub octets : out′ ≡ cond (leb 2 (length answer)) (spellingOut l out) out
+
+-- what is asked of the sample's gateway
+abbrev pub sampleForwarding : Bool → List ℕ → ℕ → Forwarding
+sampleForwarding icmp area room = forwardingOf sample.arriving sample.leaving sample.table sample.levels icmp area room
+
+-- An area forwarded: `out`, `answer` and `runs` at entry and at exit, and what is returned.
+pub record Forwards (f : Forwarding) (out answer runs out′ answer′ runs′ : List ℕ) (r : ℕ) : Type 0 where
+  pub number : r ≡ cond (roomy 8 answer runs) (forwardOf f .number) 1
+  pub numbers : answer′ ≡ cond (roomy 8 answer runs) (headed (decisionNumbers (forwardOf f)) answer) answer
+  pub keys : runs′ ≡ cond (roomy 8 answer runs) (withKeys (forwardOf f .label) runs) runs
+  pub octets : out′ ≡ cond (roomy 8 answer runs) (outputOf f out) out
