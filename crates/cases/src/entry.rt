@@ -8,6 +8,7 @@ use crate::label_entries::ask_within;
 use crate::line::put_broken;
 use crate::option_entries::ask_read;
 use crate::option_entries::ask_spell;
+use crate::table_entries::ask_reverse;
 
 // The line of one case.
 pub fn answer(case: &[u8], out: &mut [u8], n: usize) -> usize {
@@ -22,6 +23,7 @@ pub fn answer(case: &[u8], out: &mut [u8], n: usize) -> usize {
         5 => ask_read(case, at, out, n),
         6 => ask_forward(case, at, out, n),
         7 => ask_deliver(case, at, out, n),
+        22 => ask_reverse(case, at, out, n),
         _ => put_broken(out, n),
     }
 }

@@ -1,5 +1,6 @@
 // The records of a case: labels, ports, a host, and the table with its level pairs.
 use crate::field::take_flag;
+use crate::field::take_limited;
 use crate::field::take_octet;
 use crate::field::take_part;
 use crate::field::take_short;
@@ -124,15 +125,55 @@ pub fn take_table(case: &[u8], at: usize) -> TakenTable {
     }
 }
 
+// A wide table: the same, with two octets for each count and for each number of what is stored.
+pub fn take_wide_table(case: &[u8], at: usize) -> TakenTable {
+    let from = take_word(case, at);
+    let to = take_word(case, from.next);
+    let pairs = take_short(case, to.next);
+    let stored = take_limited(case, pairs.next, 16);
+    let n = stored.value as usize;
+    let levels = take_part(case, stored.next, n * 2);
+    let count = take_short(case, levels.next);
+    let lent = take_limited(case, count.next, 64);
+    let t = rows_at(case, lent.next, count.value as usize, lent.value as usize);
+    let mut table = t.table;
+    table.from = from.value;
+    table.to = to.value;
+    table.pairs = pairs.value as usize;
+    TakenTable {
+        table: table,
+        levels: levels.from,
+        stored: n,
+        next: t.next,
+    }
+}
+
 // Row count, and the rows that are stored; the other fields are 0.
 fn take_rows(case: &[u8], at: usize) -> TakenTable {
     let count = take_short(case, at);
     let stored = take_stored(case, count.next, 64);
-    let mut table = empty_table(count.value as usize);
-    let n = stored.value as usize;
-    let mut next = stored.next;
+    rows_at(
+        case,
+        stored.next,
+        count.value as usize,
+        stored.value as usize,
+    )
+}
+
+// The first `stored` rows from a place of the case on, in a table of `count` rows.
+fn rows_at(case: &[u8], at: usize, count: usize, stored: usize) -> TakenTable {
+    let mut table = empty_table(count);
+    let mut next = at;
     let mut i: usize = 0;
-    while i < n {
+    while i < stored {
+        if 64 <= i {
+            return TakenTable {
+                table: table,
+                levels: 0,
+                stored: 0,
+                next: next,
+            };
+        }
         let low = take_short(case, next);
         let high = take_short(case, low.next);
         let target = take_short(case, high.next);
