@@ -10,22 +10,38 @@
 //   5 read       n (1), n octets                                            number, pointer, label
 //   6 forward    port, port, table, mark (1), n (1), n octets, output       number, type, code, pointer, count, label, output
 //   7 deliver    port, host, mark (1), n (1), n octets                      number, type, code, pointer, count, label
+//   8 forward    as 6 with facts for the mark                               as 6
+//   9 deliver    as 7 with facts for the mark                               as 7
+//   10 read a file      n (2), n octets                                     ACCEPTED and the numbers of ports and tables, REFUSED and the
+//                                                                           place, or VERSION and the version octet
+//   11 read and write   n (2), n octets, output                             as 10 where it is not accepted; else number, count, output
+//   12 write a file     port count (1), stored (1, at most 16), that many wide ports, table count (1), stored (1, at most 8),
+//                       that many wide tables, output                       number, count, output
+//   22 reverse          wide table, room (2, at most 1024 rows)             number, from, to, pair count, each pair, row count, each row
+//   24 bitmap    n (1), n octets                                            number, count, low and high of each run
 //
 //   label    domain (4), level (1), count (1), stored (1, at most 120), that many runs of low (2) and high (2)
 //   port     domain (4), lowest label, highest label, required (1), assigned label
 //   host     lowest label, highest label
 //   table    from (4), to (4), level pair count (1), stored (1, at most 16), that many pairs (1 + 1),
 //            row count (2), stored (1, at most 64), that many rows of low (2), high (2), target low (2)
-//   output   length (2, at most 512), the octet that fills it (1)
+//   mark     0 or 1, the first of the facts; the others are 0
+//   facts    five octets, each 0 or 1, in document 02's order
+//   wide port     a port, then one octet of groups: 0 until later wishes add some
+//   wide table    from (4), to (4), level pair count (2), stored (2, at most 16), that many pairs (1 + 1),
+//                 row count (2), lent (2, at most 64), that many rows of low (2), high (2), target low (2)
+//   output   length (2, at most 512, in entries 11 and 12 at most 65535), the octet that fills it (1)
 //
 // Places that are not stored are 0. Counts are free: a count over its limit is what the entries must refuse.
 
 use std::io::{self, Read, Write};
 
-use crate::decision::{deliver, forward, Decision};
+use crate::decision::{deliver, forward, Decision, Facts};
+use crate::entries::Entries;
+use crate::file::{self, Refusal, SetRecord, MAX_PORTS, MAX_TABLES};
 use crate::label::{HeldLabel, Run, MAX_RUNS};
-use crate::option::{read_alone, spell_alone};
-use crate::records::{renumber_alone, HostRecord, PortRecord, Row, TableRecord, MAX_LEVEL_PAIRS, MAX_ROWS};
+use crate::option::{read_alone, read_bitmap_alone, spell_alone};
+use crate::records::{renumber_alone, reverse, HostRecord, PortRecord, Row, TableRecord, MAX_LEVEL_PAIRS, MAX_ROWS};
 
 pub const CONTAINS: u8 = 1;
 pub const WITHIN: u8 = 2;
@@ -34,8 +50,18 @@ pub const SPELL: u8 = 4;
 pub const READ: u8 = 5;
 pub const FORWARD: u8 = 6;
 pub const DELIVER: u8 = 7;
+pub const FORWARD_FACTS: u8 = 8;
+pub const DELIVER_FACTS: u8 = 9;
+pub const READ_FILE: u8 = 10;
+pub const READ_AND_WRITE: u8 = 11;
+pub const WRITE_FILE: u8 = 12;
+pub const REVERSE: u8 = 22;
+pub const BITMAP: u8 = 24;
 
 pub const MAX_OUTPUT: usize = 512;
+pub const MAX_FILE_OUTPUT: usize = 65_535;
+/// Rows that are lent for a reverse table.
+pub const MAX_ROOM: usize = 1024;
 pub const BROKEN: &str = "BROKEN";
 
 #[derive(Clone, Copy)]
@@ -49,7 +75,7 @@ pub struct ForwardCase {
     pub arriving: PortRecord,
     pub leaving: PortRecord,
     pub table: TableRecord,
-    pub icmp_mark: bool,
+    pub facts: Facts,
     pub area: Vec<u8>,
     pub output: Output,
 }
@@ -58,7 +84,7 @@ pub struct ForwardCase {
 pub struct DeliverCase {
     pub port: PortRecord,
     pub host: HostRecord,
-    pub icmp_mark: bool,
+    pub facts: Facts,
     pub area: Vec<u8>,
 }
 
@@ -71,6 +97,13 @@ pub enum Case {
     Read(Vec<u8>),
     Forward(Box<ForwardCase>),
     Deliver(Box<DeliverCase>),
+    ForwardFacts(Box<ForwardCase>),
+    DeliverFacts(Box<DeliverCase>),
+    ReadFile(Vec<u8>),
+    ReadAndWrite(Vec<u8>, Output),
+    WriteFile(Box<SetRecord>, Output),
+    Reverse(TableRecord, usize),
+    Bitmap(Vec<u8>),
 }
 
 /// Takes fields from the front of a case. None where a field is cut off or a number is over its limit.
@@ -112,6 +145,14 @@ impl<'a> Fields<'a> {
         }
     }
 
+    fn mark(&mut self) -> Option<Facts> {
+        self.flag().map(Facts::marked)
+    }
+
+    fn facts(&mut self) -> Option<Facts> {
+        Some(Facts::in_order([self.flag()?, self.flag()?, self.flag()?, self.flag()?, self.flag()?]))
+    }
+
     fn counted_octets(&mut self) -> Option<Vec<u8>> {
         let count = self.one()? as usize;
         self.octets(count).map(|octets| octets.to_vec())
@@ -142,7 +183,7 @@ impl<'a> Fields<'a> {
 
     fn table(&mut self) -> Option<TableRecord> {
         let mut table = TableRecord { from: self.four()?, to: self.four()?, ..TableRecord::ALL_ZERO };
-        table.level_count = self.one()?;
+        table.level_count = self.one()? as u16;
         for place in 0..self.stored(MAX_LEVEL_PAIRS)? {
             table.levels[place] = [self.one()?, self.one()?];
         }
@@ -154,37 +195,98 @@ impl<'a> Fields<'a> {
     }
 
     fn output(&mut self) -> Option<Output> {
+        self.output_up_to(MAX_OUTPUT)
+    }
+
+    fn output_up_to(&mut self, limit: usize) -> Option<Output> {
         let length = self.two()? as usize;
-        if length > MAX_OUTPUT {
+        if length > limit {
             return None;
         }
         Some(Output { length, fill: self.one()? })
     }
+
+    fn long_octets(&mut self) -> Option<Vec<u8>> {
+        let count = self.two()? as usize;
+        self.octets(count).map(|octets| octets.to_vec())
+    }
+
+    /// "A group that is not built yet doesn't parse", and none is.
+    fn wide_port(&mut self) -> Option<PortRecord> {
+        let port = self.port()?;
+        if self.one()? != 0 {
+            return None;
+        }
+        Some(port)
+    }
+
+    fn long_stored(&mut self, limit: usize) -> Option<usize> {
+        self.two().map(|stored| stored as usize).filter(|stored| *stored <= limit)
+    }
+
+    fn wide_table(&mut self) -> Option<TableRecord> {
+        let mut table = TableRecord { from: self.four()?, to: self.four()?, ..TableRecord::ALL_ZERO };
+        table.level_count = self.two()?;
+        for place in 0..self.long_stored(MAX_LEVEL_PAIRS)? {
+            table.levels[place] = [self.one()?, self.one()?];
+        }
+        table.row_count = self.two()?;
+        for place in 0..self.long_stored(MAX_ROWS)? {
+            table.rows[place] = Row { low: self.two()?, high: self.two()?, target_low: self.two()? };
+        }
+        Some(table)
+    }
+
+    fn set(&mut self) -> Option<SetRecord> {
+        let mut set = SetRecord { port_count: self.one()?, ..SetRecord::empty() };
+        for place in 0..self.stored(MAX_PORTS)? {
+            set.ports[place] = self.wide_port()?;
+        }
+        set.table_count = self.one()?;
+        for place in 0..self.stored(MAX_TABLES)? {
+            set.tables[place] = self.wide_table()?;
+        }
+        Some(set)
+    }
+
+    fn forward(&mut self, facts: impl Fn(&mut Self) -> Option<Facts>) -> Option<ForwardCase> {
+        Some(ForwardCase {
+            arriving: self.port()?,
+            leaving: self.port()?,
+            table: self.table()?,
+            facts: facts(self)?,
+            area: self.counted_octets()?,
+            output: self.output()?,
+        })
+    }
+
+    fn deliver(&mut self, facts: impl Fn(&mut Self) -> Option<Facts>) -> Option<DeliverCase> {
+        Some(DeliverCase { port: self.port()?, host: self.host()?, facts: facts(self)?, area: self.counted_octets()? })
+    }
 }
 
-/// The case that the octets after a length mean, or none where they don't parse.
-pub fn parse(octets: &[u8]) -> Option<Case> {
+/// The case that the octets after a length mean, or none where they don't parse or their entry is not among the given ones.
+pub fn parse(octets: &[u8], entries: &Entries) -> Option<Case> {
     let mut fields = Fields { rest: octets };
-    let case = match fields.one()? {
+    let entry = fields.one()?;
+    if !entries.has(entry) {
+        return None;
+    }
+    let case = match entry {
         CONTAINS => Case::Contains(fields.label()?, fields.two()?),
         WITHIN => Case::Within(fields.label()?, fields.label()?),
         RENUMBER => Case::Renumber(fields.label()?, fields.table()?),
         SPELL => Case::Spell(fields.label()?, fields.output()?),
         READ => Case::Read(fields.counted_octets()?),
-        FORWARD => Case::Forward(Box::new(ForwardCase {
-            arriving: fields.port()?,
-            leaving: fields.port()?,
-            table: fields.table()?,
-            icmp_mark: fields.flag()?,
-            area: fields.counted_octets()?,
-            output: fields.output()?,
-        })),
-        DELIVER => Case::Deliver(Box::new(DeliverCase {
-            port: fields.port()?,
-            host: fields.host()?,
-            icmp_mark: fields.flag()?,
-            area: fields.counted_octets()?,
-        })),
+        FORWARD => Case::Forward(Box::new(fields.forward(Fields::mark)?)),
+        DELIVER => Case::Deliver(Box::new(fields.deliver(Fields::mark)?)),
+        FORWARD_FACTS => Case::ForwardFacts(Box::new(fields.forward(Fields::facts)?)),
+        DELIVER_FACTS => Case::DeliverFacts(Box::new(fields.deliver(Fields::facts)?)),
+        READ_FILE => Case::ReadFile(fields.long_octets()?),
+        READ_AND_WRITE => Case::ReadAndWrite(fields.long_octets()?, fields.output_up_to(MAX_FILE_OUTPUT)?),
+        WRITE_FILE => Case::WriteFile(Box::new(fields.set()?), fields.output_up_to(MAX_FILE_OUTPUT)?),
+        REVERSE => Case::Reverse(fields.wide_table()?, fields.long_stored(MAX_ROOM)?),
+        BITMAP => Case::Bitmap(fields.counted_octets()?),
         _ => return None,
     };
     if fields.rest.is_empty() {
@@ -240,21 +342,15 @@ impl Encoder {
     fn table(&mut self, table: &TableRecord) {
         self.four(table.from);
         self.four(table.to);
-        let needed = table.levels.iter().rposition(|pair| *pair != [0, 0]).map_or(0, |last| last + 1);
-        let stored = self.stored(needed, MAX_LEVEL_PAIRS);
-        self.octets.extend([table.level_count, stored as u8]);
+        let stored = self.stored(table.pairs_needed(), MAX_LEVEL_PAIRS);
+        self.octets.extend([table.level_count as u8, stored as u8]);
         for pair in &table.levels[..stored] {
             self.octets.extend(pair);
         }
-        let needed = table.rows.iter().rposition(|row| *row != Row::ZERO).map_or(0, |last| last + 1);
-        let stored = self.stored(needed, MAX_ROWS);
+        let stored = self.stored(table.rows_needed(), MAX_ROWS);
         self.two(table.row_count);
         self.octets.push(stored as u8);
-        for row in &table.rows[..stored] {
-            self.two(row.low);
-            self.two(row.high);
-            self.two(row.target_low);
-        }
+        self.rows(&table.rows[..stored]);
     }
 
     fn counted_octets(&mut self, octets: &[u8]) {
@@ -265,6 +361,71 @@ impl Encoder {
     fn output(&mut self, output: Output) {
         self.two(output.length as u16);
         self.octets.push(output.fill);
+    }
+
+    fn long_octets(&mut self, octets: &[u8]) {
+        self.two(octets.len() as u16);
+        self.octets.extend(octets);
+    }
+
+    fn wide_port(&mut self, port: &PortRecord) {
+        self.port(port);
+        self.octets.push(0);
+    }
+
+    fn wide_table(&mut self, table: &TableRecord) {
+        self.four(table.from);
+        self.four(table.to);
+        let (pairs, rows) = (self.stored(table.pairs_needed(), MAX_LEVEL_PAIRS), self.stored(table.rows_needed(), MAX_ROWS));
+        self.two(table.level_count);
+        self.two(pairs as u16);
+        self.octets.extend(table.levels[..pairs].concat());
+        self.two(table.row_count);
+        self.two(rows as u16);
+        self.rows(&table.rows[..rows]);
+    }
+
+    fn rows(&mut self, rows: &[Row]) {
+        for row in rows {
+            self.two(row.low);
+            self.two(row.high);
+            self.two(row.target_low);
+        }
+    }
+
+    fn set(&mut self, set: &SetRecord) {
+        let needed = set.ports.iter().rposition(|port| *port != PortRecord::ALL_ZERO).map_or(0, |last| last + 1);
+        let stored = self.stored(needed, MAX_PORTS);
+        self.octets.extend([set.port_count, stored as u8]);
+        for port in &set.ports[..stored] {
+            self.wide_port(port);
+        }
+        let needed = set.tables.iter().rposition(|table| *table != TableRecord::ALL_ZERO).map_or(0, |last| last + 1);
+        let stored = self.stored(needed, MAX_TABLES);
+        self.octets.extend([set.table_count, stored as u8]);
+        for table in &set.tables[..stored] {
+            self.wide_table(table);
+        }
+    }
+
+    fn flags(&mut self, flags: &[bool]) {
+        self.octets.extend(flags.iter().map(|flag| *flag as u8));
+    }
+
+    fn forward(&mut self, case: &ForwardCase, facts: &[bool]) {
+        self.port(&case.arriving);
+        self.port(&case.leaving);
+        self.table(&case.table);
+        self.flags(facts);
+        self.counted_octets(&case.area);
+        self.output(case.output);
+    }
+
+    fn deliver(&mut self, case: &DeliverCase, facts: &[bool]) {
+        self.port(&case.port);
+        self.host(&case.host);
+        self.flags(facts);
+        self.counted_octets(&case.area);
     }
 }
 
@@ -298,19 +459,42 @@ pub fn encode(case: &Case, spare: usize) -> Vec<u8> {
         }
         Case::Forward(case) => {
             encoder.octets.push(FORWARD);
-            encoder.port(&case.arriving);
-            encoder.port(&case.leaving);
-            encoder.table(&case.table);
-            encoder.octets.push(case.icmp_mark as u8);
-            encoder.counted_octets(&case.area);
-            encoder.output(case.output);
+            encoder.forward(case, &case.facts.listed()[..1]);
         }
         Case::Deliver(case) => {
             encoder.octets.push(DELIVER);
-            encoder.port(&case.port);
-            encoder.host(&case.host);
-            encoder.octets.push(case.icmp_mark as u8);
-            encoder.counted_octets(&case.area);
+            encoder.deliver(case, &case.facts.listed()[..1]);
+        }
+        Case::ForwardFacts(case) => {
+            encoder.octets.push(FORWARD_FACTS);
+            encoder.forward(case, &case.facts.listed());
+        }
+        Case::DeliverFacts(case) => {
+            encoder.octets.push(DELIVER_FACTS);
+            encoder.deliver(case, &case.facts.listed());
+        }
+        Case::ReadFile(octets) => {
+            encoder.octets.push(READ_FILE);
+            encoder.long_octets(octets);
+        }
+        Case::ReadAndWrite(octets, output) => {
+            encoder.octets.push(READ_AND_WRITE);
+            encoder.long_octets(octets);
+            encoder.output(*output);
+        }
+        Case::WriteFile(set, output) => {
+            encoder.octets.push(WRITE_FILE);
+            encoder.set(set);
+            encoder.output(*output);
+        }
+        Case::Reverse(table, room) => {
+            encoder.octets.push(REVERSE);
+            encoder.wide_table(table);
+            encoder.two(*room as u16);
+        }
+        Case::Bitmap(octets) => {
+            encoder.octets.push(BITMAP);
+            encoder.counted_octets(octets);
         }
     }
     encoder.octets
@@ -342,7 +526,11 @@ impl Line {
         self.number(label.domain as usize);
         self.number(label.level as usize);
         self.number(label.count as usize);
-        for run in label.places.iter().take(label.count as usize) {
+        self.runs(&label.places[..MAX_RUNS.min(label.count as usize)]);
+    }
+
+    pub fn runs(&mut self, runs: &[Run]) {
+        for run in runs {
             self.number(run.low as usize);
             self.number(run.high as usize);
         }
@@ -355,6 +543,43 @@ impl Line {
         } else {
             self.word(&hex(output));
         }
+    }
+
+    fn table(&mut self, table: &TableRecord) {
+        self.number(table.from as usize);
+        self.number(table.to as usize);
+        self.number(table.level_count as usize);
+        for level in table.levels[..table.level_count as usize].iter().flatten() {
+            self.number(*level as usize);
+        }
+        self.number(table.row_count as usize);
+        for row in &table.rows[..table.row_count as usize] {
+            self.number(row.low as usize);
+            self.number(row.high as usize);
+            self.number(row.target_low as usize);
+        }
+    }
+
+    fn refusal(&mut self, refusal: Refusal) {
+        match refusal {
+            Refusal::Place(place) => {
+                self.word("REFUSED");
+                self.number(place);
+            }
+            Refusal::Version(version) => {
+                self.word("VERSION");
+                self.number(version as usize);
+            }
+        }
+    }
+
+    /// What the writer of files answers, and the output that it leaves.
+    fn written(&mut self, set: &SetRecord, output: Output) {
+        let mut octets = vec![output.fill; output.length];
+        let (number, count) = file::write(set, &mut octets);
+        self.number(number as usize);
+        self.number(count);
+        self.output(&octets);
     }
 
     fn decision(&mut self, decision: &Decision) {
@@ -412,23 +637,50 @@ pub fn answer(case: &Case) -> String {
             line.number(pointer);
             line.label(&held);
         }
-        Case::Forward(case) => {
+        Case::Forward(case) | Case::ForwardFacts(case) => {
             let mut octets = vec![case.output.fill; case.output.length];
-            let decision = forward(&case.arriving, &case.leaving, &case.table, case.icmp_mark, &case.area, &mut octets);
+            let decision = forward(&case.arriving, &case.leaving, &case.table, &case.facts, &case.area, &mut octets);
             line.decision(&decision);
             line.output(&octets);
         }
-        Case::Deliver(case) => {
-            let decision = deliver(&case.port, &case.host, case.icmp_mark, &case.area);
+        Case::Deliver(case) | Case::DeliverFacts(case) => {
+            let decision = deliver(&case.port, &case.host, &case.facts, &case.area);
             line.decision(&decision);
+        }
+        Case::ReadFile(octets) => match file::read(octets) {
+            Ok(set) => {
+                line.word("ACCEPTED");
+                line.number(set.port_count as usize);
+                line.number(set.table_count as usize);
+            }
+            Err(refusal) => line.refusal(refusal),
+        },
+        Case::ReadAndWrite(octets, output) => match file::read(octets) {
+            Ok(set) => line.written(&set, *output),
+            Err(refusal) => line.refusal(refusal),
+        },
+        Case::WriteFile(set, output) => line.written(set, *output),
+        Case::Reverse(table, room) => {
+            let (number, reversed) = match reverse(table, *room) {
+                Ok(reversed) => (0, reversed),
+                Err(number) => (number, TableRecord::ALL_ZERO),
+            };
+            line.number(number as usize);
+            line.table(&reversed);
+        }
+        Case::Bitmap(octets) => {
+            let (number, runs) = read_bitmap_alone(octets);
+            line.number(number as usize);
+            line.number(runs.len());
+            line.runs(&runs);
         }
     }
     line.text
 }
 
 /// The line for the octets after a length.
-pub fn line_of(octets: &[u8]) -> String {
-    match parse(octets) {
+pub fn line_of(octets: &[u8], entries: &Entries) -> String {
+    match parse(octets, entries) {
         Some(case) => answer(&case),
         None => BROKEN.to_string(),
     }
@@ -469,10 +721,10 @@ pub fn next_case(input: &mut impl Read) -> io::Result<Next> {
 }
 
 /// Answers every case of the input with one line.
-pub fn run(input: &mut impl Read, output: &mut impl Write) -> io::Result<()> {
+pub fn run(input: &mut impl Read, output: &mut impl Write, entries: &Entries) -> io::Result<()> {
     loop {
         match next_case(input)? {
-            Next::Whole(octets) => writeln!(output, "{}", line_of(&octets))?,
+            Next::Whole(octets) => writeln!(output, "{}", line_of(&octets, entries))?,
             Next::CutOff(_) => return writeln!(output, "{}", BROKEN),
             Next::End => return Ok(()),
         }

@@ -19,6 +19,41 @@ const UNREACHABLE: u8 = 3;
 const OPTION_MISSING: u8 = 1;
 const MISSING_TYPE: u8 = 134;
 
+/// What the caller states of a datagram. Document 02, wish 2: "no error goes out about an ICMP error message, a broadcast or multicast
+/// destination, a link-layer broadcast, a fragment other than the first, or a source that isn't one host".
+#[derive(Clone, Copy, PartialEq, Eq)]
+pub struct Facts {
+    pub icmp_error: bool,
+    pub broadcast_destination: bool,
+    pub link_broadcast: bool,
+    pub later_fragment: bool,
+    pub source_not_one_host: bool,
+}
+
+impl Facts {
+    pub const NONE: Facts = Facts::in_order([false; 5]);
+
+    /// The five in document 02's order.
+    pub const fn in_order(facts: [bool; 5]) -> Facts {
+        let [icmp_error, broadcast_destination, link_broadcast, later_fragment, source_not_one_host] = facts;
+        Facts { icmp_error, broadcast_destination, link_broadcast, later_fragment, source_not_one_host }
+    }
+
+    /// Document 01's mark is the first fact.
+    pub fn marked(mark: bool) -> Facts {
+        Facts { icmp_error: mark, ..Facts::NONE }
+    }
+
+    pub fn listed(&self) -> [bool; 5] {
+        [self.icmp_error, self.broadcast_destination, self.link_broadcast, self.later_fragment, self.source_not_one_host]
+    }
+
+    /// "any of them silences"
+    pub fn silence(&self) -> bool {
+        self.icmp_error || self.broadcast_destination || self.link_broadcast || self.later_fragment || self.source_not_one_host
+    }
+}
+
 pub struct Decision {
     pub number: u8,
     pub icmp_type: u8,
@@ -44,8 +79,9 @@ fn report_of(fault: Fault, job_code: u8) -> (u8, u8, u8) {
 }
 
 /// "If the datagram is marked as ICMP, the number stays and the report is silent. A refusal [...] returns count 0 and an all-zero label".
-fn refused(fault: Fault, job_code: u8, icmp_mark: bool) -> Decision {
-    let (icmp_type, icmp_code, pointer) = if icmp_mark { (0, 0, 0) } else { report_of(fault, job_code) };
+/// The mark is since wish 2 any of five facts.
+fn refused(fault: Fault, job_code: u8, facts: &Facts) -> Decision {
+    let (icmp_type, icmp_code, pointer) = if facts.silence() { (0, 0, 0) } else { report_of(fault, job_code) };
     Decision { number: fault.number, icmp_type, icmp_code, pointer, count: 0, label: HeldLabel::ALL_ZERO }
 }
 
@@ -79,7 +115,7 @@ fn arrive<'a>(area: &'a [u8], port: &Port) -> Result<(Label, Walk<'a>), Fault> {
 fn decide_forward(
     arriving: &PortRecord,
     leaving: &PortRecord,
-    table: &TableRecord,
+    table: Option<&TableRecord>,
     area: &[u8],
     output_length: usize,
 ) -> Result<(Label, Vec<u8>), Fault> {
@@ -93,20 +129,21 @@ fn decide_forward(
         _ => return refuse(2),
     };
     let domains_differ = arriving.domain != leaving.domain;
-    let table = if domains_differ {
-        match table.sound() {
+    let table = match table {
+        Some(table) if domains_differ => match table.sound() {
             Some(table) => Some(table),
             None => return refuse(2),
-        }
-    } else {
-        None
+        },
+        _ => None,
     };
     // 3 to 14.
     let (label, met) = arrive(area, &arriving)?;
     // 16: "forward, domains differ: table's domains aren't the two ports', or a level or category has no number". "With equal port
     // domains the table isn't read and the label stays."
     let label = match table {
-        None => label,
+        None if !domains_differ => label,
+        // Wish 1: "no table where one is read: 16".
+        None => return refuse(16),
         Some(table) => {
             if table.from != arriving.domain || table.to != leaving.domain {
                 return refuse(16);
@@ -133,16 +170,16 @@ fn decide_forward(
 }
 
 /// "forward (gateway, two ports)". "Octets from the count to 39 are 0, octets from 40 on are unchanged." A refusal writes nothing.
-pub fn forward(
+pub fn forward<'a>(
     arriving: &PortRecord,
     leaving: &PortRecord,
-    table: &TableRecord,
-    icmp_mark: bool,
+    table: impl Into<Option<&'a TableRecord>>,
+    facts: &Facts,
     area: &[u8],
     output: &mut [u8],
 ) -> Decision {
-    match decide_forward(arriving, leaving, table, area, output.len()) {
-        Err(fault) => refused(fault, GATEWAY_CODE, icmp_mark),
+    match decide_forward(arriving, leaving, table.into(), area, output.len()) {
+        Err(fault) => refused(fault, GATEWAY_CODE, facts),
         Ok((label, octets)) => {
             output[..MAX_OCTETS].fill(0);
             output[..octets.len()].copy_from_slice(&octets);
@@ -177,9 +214,9 @@ fn decide_deliver(port: &PortRecord, host: &HostRecord, area: &[u8]) -> Result<L
 }
 
 /// "deliver (host, one port and a host range; nothing is built)". "a delivery returns its label and count 0".
-pub fn deliver(port: &PortRecord, host: &HostRecord, icmp_mark: bool, area: &[u8]) -> Decision {
+pub fn deliver(port: &PortRecord, host: &HostRecord, facts: &Facts, area: &[u8]) -> Decision {
     match decide_deliver(port, host, area) {
-        Err(fault) => refused(fault, HOST_CODE, icmp_mark),
+        Err(fault) => refused(fault, HOST_CODE, facts),
         Ok(label) => {
             let held = label.held().expect("a label that was read or assigned has at most 120 runs");
             done(held, 0)

@@ -1,7 +1,9 @@
 // Holds the fast variant against the plain reference on generated cases of the entries that it has.
 
-use crate::cases::{hex, parse, Case, Line};
+use crate::cases::{hex, parse, Case, Line, Output};
+use crate::entries::Entries;
 use crate::fast;
+use crate::file::SetRecord;
 use crate::generator::Generator;
 use crate::label::{HeldLabel, Run};
 use crate::records::{PortRecord, TableRecord};
@@ -37,6 +39,47 @@ fn table(record: &TableRecord) -> fast::Table {
     }
 }
 
+fn set(record: &SetRecord) -> fast::file::Set {
+    let mut set = fast::file::Set { port_count: record.port_count, table_count: record.table_count, ..fast::file::Set::EMPTY };
+    for (place, record) in set.ports.iter_mut().zip(&record.ports) {
+        *place = port(record);
+    }
+    for (place, record) in set.tables.iter_mut().zip(&record.tables) {
+        *place = table(record);
+    }
+    set
+}
+
+fn read_file(octets: &[u8]) -> Result<fast::file::Set, fast::file::Refusal> {
+    let mut set = fast::file::Set::EMPTY;
+    fast::file::read_file(octets, &mut set)?;
+    Ok(set)
+}
+
+fn add_refusal(line: &mut Line, refusal: fast::file::Refusal) {
+    match refusal {
+        fast::file::Refusal::Place(place) => {
+            line.word("REFUSED");
+            line.number(place);
+        }
+        fast::file::Refusal::Version(version) => {
+            line.word("VERSION");
+            line.number(version as usize);
+        }
+    }
+}
+
+fn add_written(line: &mut Line, set: &fast::file::Set, output: Output) {
+    let mut octets = vec![output.fill; output.length];
+    let (number, count) = match fast::file::write_file(set, &mut octets) {
+        Ok(count) => (0, count),
+        Err(number) => (number, 0),
+    };
+    line.number(number as usize);
+    line.number(count);
+    line.output(&octets);
+}
+
 /// The line for a label that is returned, whose unused places must be 0 also where the line does not show them.
 fn add_label(line: &mut Line, returned: &fast::Label) {
     line.label(&held(returned));
@@ -68,15 +111,42 @@ fn answer(case: &Case) -> Option<String> {
             line.number(pointer as usize);
             add_label(&mut line, &label);
         }
-        Case::Forward(case) => {
+        Case::Forward(case) | Case::ForwardFacts(case) => {
             let mut octets = vec![case.output.fill; case.output.length];
             let (arriving, leaving, table) = (port(&case.arriving), port(&case.leaving), table(&case.table));
-            let decision = fast::forward(&arriving, &leaving, &table, case.icmp_mark, &case.area, &mut octets);
+            let decision = fast::forward(&arriving, &leaving, &table, case.facts.silence(), &case.area, &mut octets);
             for number in [decision.number, decision.icmp_type, decision.icmp_code, decision.pointer, decision.count] {
                 line.number(number as usize);
             }
             add_label(&mut line, &decision.label);
             line.output(&octets);
+        }
+        Case::ReadFile(octets) => match read_file(octets) {
+            Ok(read) => {
+                line.word("ACCEPTED");
+                line.number(read.port_count as usize);
+                line.number(read.table_count as usize);
+            }
+            Err(refusal) => add_refusal(&mut line, refusal),
+        },
+        Case::ReadAndWrite(octets, output) => match read_file(octets) {
+            Ok(read) => add_written(&mut line, &read, *output),
+            Err(refusal) => add_refusal(&mut line, refusal),
+        },
+        Case::WriteFile(record, output) => add_written(&mut line, &set(record), *output),
+        Case::Bitmap(octets) => {
+            let mut runs = fast::Label::ALL_ZERO.runs;
+            match fast::read_bitmap_alone(octets, &mut runs) {
+                Ok(count) => {
+                    line.number(0);
+                    line.number(count as usize);
+                    line.runs(&runs[..count as usize].iter().map(|run| Run { low: run.low, high: run.high }).collect::<Vec<_>>());
+                }
+                Err(number) => {
+                    line.number(number as usize);
+                    line.number(0);
+                }
+            }
         }
         _ => return None,
     }
@@ -85,11 +155,12 @@ fn answer(case: &Case) -> Option<String> {
 
 /// Goes through `count` generated cases. True where there is no difference.
 pub fn run(count: usize, seed: u64) -> bool {
-    let mut generator = Generator::new(seed);
+    let entries = Entries::known();
+    let mut generator = Generator::new(seed, &entries);
     let mut compared = 0;
     for number in 1..=count {
         let (octets, expected) = generator.next();
-        let found = match parse(&octets).as_ref().and_then(answer) {
+        let found = match parse(&octets, &entries).as_ref().and_then(answer) {
             Some(line) => line,
             None => continue,
         };
@@ -102,6 +173,6 @@ pub fn run(count: usize, seed: u64) -> bool {
             return false;
         }
     }
-    println!("{} cases, {} of entries 4, 5 and 6 compared, no difference", count, compared);
+    println!("{} cases, {} of entries that the fast variant has compared, no difference", count, compared);
     true
 }

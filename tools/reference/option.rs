@@ -153,6 +153,17 @@ pub fn read_alone(octets: &[u8]) -> Result<Label, Fault> {
     read(octets, |_| true)
 }
 
+/// The longest bitmap of tag 1.
+const BITMAP_OCTETS: usize = BITMAP_CATEGORIES as usize / 8;
+
+/// Document 02, wish 12: the runs of a bitmap alone, "over 30 octets: 10".
+pub fn read_bitmap_alone(octets: &[u8]) -> (u8, Vec<Run>) {
+    if octets.len() > BITMAP_OCTETS {
+        return (10, Vec::new());
+    }
+    (0, read_bitmap(octets).runs())
+}
+
 fn assemble(label: &Label, tag: u8, categories: &[u8]) -> Vec<u8> {
     let mut option = vec![CIPSO, (CATEGORIES_AT + categories.len()) as u8];
     option.extend(label.domain.to_be_bytes());

@@ -29,6 +29,9 @@ pub struct Port {
 }
 
 impl PortRecord {
+    pub const ALL_ZERO: PortRecord =
+        PortRecord { domain: 0, lowest: HeldLabel::ALL_ZERO, highest: HeldLabel::ALL_ZERO, required: false, assigned: HeldLabel::ALL_ZERO };
+
     /// "Sound: nonzero domain, all labels used are well formed and of that domain, lowest ≤ highest. If a label isn't required, the
     /// assigned label is in range; if it is required, the assigned label is all zero."
     pub fn sound(&self) -> Option<Port> {
@@ -119,7 +122,7 @@ impl Row {
 pub struct TableRecord {
     pub from: u32,
     pub to: u32,
-    pub level_count: u8,
+    pub level_count: u16,
     pub levels: [[u8; 2]; MAX_LEVEL_PAIRS],
     pub row_count: u16,
     pub rows: [Row; MAX_ROWS],
@@ -136,6 +139,15 @@ pub struct Table {
 impl TableRecord {
     pub const ALL_ZERO: TableRecord =
         TableRecord { from: 0, to: 0, level_count: 0, levels: [[0, 0]; MAX_LEVEL_PAIRS], row_count: 0, rows: [Row::ZERO; MAX_ROWS] };
+
+    /// The places up to the last one that is not zero.
+    pub fn pairs_needed(&self) -> usize {
+        self.levels.iter().rposition(|pair| *pair != [0, 0]).map_or(0, |last| last + 1)
+    }
+
+    pub fn rows_needed(&self) -> usize {
+        self.rows.iter().rposition(|row| *row != Row::ZERO).map_or(0, |last| last + 1)
+    }
 
     /// "from and to domain, neither 0; [...] Counts keep to their limits, unused places are 0".
     pub fn sound(&self) -> Option<Table> {
@@ -193,6 +205,25 @@ impl Table {
         }
         Some(Label { domain: self.to, level, categories })
     }
+}
+
+/// Document 02, wish 11: "the reverse table, each row turned round: [...] an unsound table is 2, then short lent room 24". The rows are in
+/// the order of their new sources. The error is the number.
+pub fn reverse(record: &TableRecord, room: usize) -> Result<TableRecord, u8> {
+    let table = record.sound().ok_or(2)?;
+    if room < table.rows.len() {
+        return Err(24);
+    }
+    let turned = |row: &Row| Row { low: row.target_low, high: row.target_high() as u16, target_low: row.low };
+    let mut rows: Vec<Row> = table.rows.iter().map(turned).collect();
+    rows.sort_by_key(|row| row.low);
+    let mut reversed = TableRecord { from: table.to, to: table.from, ..TableRecord::ALL_ZERO };
+    (reversed.level_count, reversed.row_count) = (record.level_count, record.row_count);
+    for (place, [source, target]) in table.levels.iter().enumerate() {
+        reversed.levels[place] = [*target, *source];
+    }
+    reversed.rows[..rows.len()].copy_from_slice(&rows);
+    Ok(reversed)
 }
 
 /// "Renumbering gives 2 (for an unsound table too), then 16 (also for a foreign domain), then 18 over 120 runs. [...] These refusals

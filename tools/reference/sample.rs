@@ -5,7 +5,8 @@
 use std::io::{self, Read, Write};
 
 use crate::cases::{hex, read_up_to, BROKEN};
-use crate::decision::forward;
+use crate::decision::{forward, Facts};
+use crate::file;
 use crate::label::{HeldLabel, Run, HIGHEST_CATEGORY};
 use crate::option::MAX_OCTETS;
 use crate::records::{PortRecord, Row, TableRecord};
@@ -44,18 +45,28 @@ pub fn table() -> TableRecord {
 pub struct Sample {
     arriving: PortRecord,
     leaving: PortRecord,
-    table: TableRecord,
+    table: Option<TableRecord>,
 }
 
 impl Sample {
     pub fn new() -> Sample {
-        Sample { arriving: arriving(), leaving: leaving(), table: table() }
+        Sample { arriving: arriving(), leaving: leaving(), table: Some(table()) }
+    }
+
+    /// Wish 1: "uses the first two ports and first table of a file". None for one that is "refused or under two ports".
+    pub fn of_file(octets: &[u8]) -> Option<Sample> {
+        let set = file::read(octets).ok()?;
+        if set.port_count < 2 {
+            return None;
+        }
+        let table = if set.table_count > 0 { Some(set.tables[0].clone()) } else { None };
+        Some(Sample { arriving: set.ports[0].clone(), leaving: set.ports[1].clone(), table })
     }
 
     /// "The job is forward, no datagram is marked as ICMP". "Each record gives one line, each word a fixed string."
     pub fn line_of(&self, area: &[u8]) -> String {
         let mut output = [0; MAX_OCTETS];
-        let decision = forward(&self.arriving, &self.leaving, &self.table, false, area, &mut output);
+        let decision = forward(&self.arriving, &self.leaving, self.table.as_ref(), &Facts::NONE, area, &mut output);
         if decision.number == 0 {
             format!("FORWARD {} {}", decision.count, hex(&output[..decision.count]))
         } else {
@@ -86,9 +97,12 @@ pub fn next_record(input: &mut impl Read) -> io::Result<Next> {
     Ok(Next::Whole(area))
 }
 
-/// "A record cut short gives `BROKEN` and ends."
-pub fn run(input: &mut impl Read, output: &mut impl Write) -> io::Result<()> {
-    let sample = Sample::new();
+/// "A record cut short gives `BROKEN` and ends." So does a file without a sample, whatever the input.
+pub fn run(input: &mut impl Read, output: &mut impl Write, sample: Option<&Sample>) -> io::Result<()> {
+    let sample = match sample {
+        Some(sample) => sample,
+        None => return writeln!(output, "{}", BROKEN),
+    };
     loop {
         match next_record(input)? {
             Next::Whole(area) => writeln!(output, "{}", sample.line_of(&area))?,

@@ -1,22 +1,23 @@
 -- The walk of an area that starts with a whole option 134.
-use Prim.Native.Nat.{ℕ, _+_, _≤_, _<_}
-use mathlib.Core.Path.{_≡_, refl, sym, ap, _∙_}
-use mathlib.Core.List.{List, [], _∷_, _++_}
+use Prim.Native.Nat.{ℕ, _+_, _≤_}
+use mathlib.Core.Path.{_≡_, ap, _∙_}
+use mathlib.Core.List.{List, _++_}
 use native.Mathlib.Nat.{zero-add}
 use native.Mathlib.Omega.{arith}
 use borrow.Author.Tests.{le-ltb, le-leb}
-use lib.ListN.{length, getD, drop, length-append, List·getD-append}
+use lib.ListN.{length, getD, length-append, List·getD-append}
 use lib.Seq.{drop-append-seam}
 use Rattle.area.specs.declared.Kind.the-variants.{Cipso}
 use Rattle.area.specs.declared.Size.the-variants.{Whole}
 use Rattle.area.specs.declared.Place.the-variants.{Nowhere, At}
 use Rattle.area.specs.declared.Turn.the-variants.{On}
-use Rattle.area.specs.Area.{kindOf, sizeOf, turnOf, walkFrom, walkOf}
+use Rattle.area.specs.Area.{kindOf, sizeOf, metFrom, metOf, judged, walkOf}
+use Rattle.area.specs.Stages.{turnOf}
 use Rattle.area.proofs.Laws.{walk-turn, afterTurn}
 
 pub label-first : (o rest : List ℕ) → getD o 0 0 ≡ 134 → getD o 1 0 ≡ length o → 2 ≤ length o
-    → walkOf (o ++ rest) ≡ walkFrom rest 0 (length o) (At 0)
-unfolding walkOf
+    → walkOf (o ++ rest) ≡ judged (metFrom rest 0 (length o)) (At 0)
+unfolding walkOf metOf
 label-first o rest h0 h1 h2 =
     let la : length (o ++ rest) ≡ length o + length rest = length-append o rest in
     let g1 : getD (o ++ rest) 1 0 ≡ length o = List·getD-append o rest 0 1 (omega arith) ∙ h1 in

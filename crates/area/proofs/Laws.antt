@@ -2,13 +2,13 @@
 use Prim.Native.Nat.{ℕ, zero, suc, pred, _+_, _-_, _≤_, _<_}
 use mathlib.Core.Path.{_≡_, refl, sym, ap, subst, _∙_}
 use mathlib.Core.Logic.{_⊎_, inl, inr}
-use mathlib.Core.List.{List, [], _∷_}
+use mathlib.Core.List.{List, [], _∷_, _++_}
 use mathlib.Core.Bool.{Bool, true, false, cond}
-use native.Mathlib.Nat.{add-zero, zero-add}
+use native.Mathlib.Nat.{add-zero}
 use native.Mathlib.Omega.{arith}
-use borrow.Author.Tests.{ltb-true, ltb-false, leb-true, eqb-true}
+use borrow.Author.Tests.{ltb-false, leb-true, eqb-true}
 use lib.ListN.{length, getD, take, drop, length-drop, drop-of-length-le}
-use lib.Seq.{take-all}
+use lib.Seq.{take-all, getD-drop}
 use lib.Dec.{ltb, leb, eqb}
 use Rattle.area.specs.declared.Kind.{Kind}
 use Rattle.area.specs.declared.Kind.the-variants.{End, NoOperation, Basic, Extended, Cipso, Other}
@@ -20,7 +20,10 @@ use Rattle.area.specs.declared.Walk.{Walk}
 use Rattle.area.specs.declared.Walk.the-variants.{Sound, Refused}
 use Rattle.area.specs.declared.Turn.{Turn}
 use Rattle.area.specs.declared.Turn.the-variants.{Done, On}
-use Rattle.area.specs.Area.{kindOf, sizeOf, turnOf, turnLabel, walkFrom, walkOf, LabelAt, placedIn}
+use Rattle.area.specs.Area.{kindOf, sizeOf, Met, spanOf, frontOf, metFrom, metOf, judge, judged, walkOf, LabelAt, placedIn}
+use Rattle.area.specs.Meets.{StandIn}
+use Rattle.area.specs.Stages.{turnOf}
+use Rattle.area.proofs.Meets.{met-stand}
 
 -- an option of n octets is at least 2 long, and in the list
 pub size-whole : (l : List ℕ) (n : ℕ) → sizeOf l ≡ Whole n → (2 ≤ n) × (n ≤ length l)
@@ -39,169 +42,178 @@ size-whole l n e = go (ltb (length l) 2) (ltb (getD l 1 0) 2) (leb (getD l 1 0) 
         let q : getD l 1 0 ≡ n = cc in
         (omega (arith, ltb-false (getD l 1 0) 2 pb), omega (arith, leb-true (getD l 1 0) (length l) pd))
 
--- a turn that goes on passes over one octet or over a whole option
-turn-on : (k : Kind) (l : List ℕ) (z : Size) (at : ℕ) (seen : Place) (n : ℕ) (s : Place)
-    → sizeOf l ≡ z → 0 < length l → turnOf k z at seen ≡ On n s → (1 ≤ n) × (n ≤ length l)
-turn-on End l z at seen n s p h e = let z : _≡_ {A = ℕ} 0 1 = cc in omega arith
-turn-on NoOperation l z at seen n s p h e = let q : 1 ≡ n = cc in omega arith
-turn-on Basic l (Whole m) at seen n s p h e = let z : _≡_ {A = ℕ} 0 1 = cc in omega arith
-turn-on Extended l (Whole m) at seen n s p h e = let z : _≡_ {A = ℕ} 0 1 = cc in omega arith
-turn-on Basic l Bad at seen n s p h e = let z : _≡_ {A = ℕ} 0 1 = cc in omega arith
-turn-on Extended l Bad at seen n s p h e = let z : _≡_ {A = ℕ} 0 1 = cc in omega arith
-turn-on Cipso l (Whole m) at Nowhere n s p h e = let q : m ≡ n = cc in omega (arith, size-whole l m p)
-turn-on Cipso l (Whole m) at (At x) n s p h e = let z : _≡_ {A = ℕ} 0 1 = cc in omega arith
-turn-on Cipso l Bad at seen n s p h e = let z : _≡_ {A = ℕ} 0 1 = cc in omega arith
-turn-on Other l (Whole m) at seen n s p h e = let q : m ≡ n = cc in omega (arith, size-whole l m p)
-turn-on Other l Bad at seen n s p h e = let z : _≡_ {A = ℕ} 0 1 = cc in omega arith
+-- an option reaches over at least one octet, and stays in the list
+pub span-on : (k : Kind) (l : List ℕ) (z : Size) (n : ℕ) → sizeOf l ≡ z → 0 < length l → spanOf k z ≡ Whole n → (1 ≤ n) × (n ≤ length l)
+span-on End l z n p h e = let z : _≡_ {A = ℕ} 0 1 = cc in omega arith
+span-on NoOperation l z n p h e = let q : 1 ≡ n = cc in omega arith
+span-on Basic l z n p h e = omega (arith, size-whole l n (p ∙ e))
+span-on Extended l z n p h e = omega (arith, size-whole l n (p ∙ e))
+span-on Cipso l z n p h e = omega (arith, size-whole l n (p ∙ e))
+span-on Other l z n p h e = omega (arith, size-whole l n (p ∙ e))
 
-pub walk-skip : (l : List ℕ) (k at : ℕ) (seen : Place) → walkFrom l k at seen ≡ walkFrom (drop k l) 0 (at + k) seen
-unfolding walkFrom
-walk-skip [] zero at seen = refl
-walk-skip [] (suc k) at seen = refl
-walk-skip (t ∷ r) zero at seen = rw add-zero
-walk-skip (t ∷ r) (suc k) at seen = walk-skip r k (suc at) seen ∙ ap (λ (m : ℕ). walkFrom (drop k r) 0 m seen) (omega arith)
+met-skip : (l : List ℕ) (k at : ℕ) → metFrom l k at ≡ metFrom (drop k l) 0 (at + k)
+unfolding metFrom
+met-skip [] zero at = refl
+met-skip [] (suc k) at = refl
+met-skip (t ∷ r) zero at = ap (metFrom (t ∷ r) 0) (sym (add-zero at))
+met-skip (t ∷ r) (suc k) at = met-skip r k (suc at) ∙ ap (λ (m : ℕ). metFrom (drop k r) 0 m) (omega arith)
 
--- what follows a turn
+-- the options met behind one that reaches so far
+abbrev pub behind : List ℕ → ℕ → Size → List Met
+behind l at Bad = []
+behind l at (Whole n) = metFrom (drop n l) 0 (at + n)
+
+met-behind : (t : ℕ) (r : List ℕ) (at : ℕ) (z : Size) → ((n : ℕ) → z ≡ Whole n → 1 ≤ n)
+    → elim z as (λ _. List Met) [ Whole n ↦ metFrom r (pred n) (suc at) | Bad ↦ [] ] ≡ behind (t ∷ r) at z
+met-behind t r at Bad h = refl
+met-behind t r at (Whole zero) h = let z = h zero refl in absurd (omega arith)
+met-behind t r at (Whole (suc n)) h = met-skip r n (suc at) ∙ ap (λ (m : ℕ). metFrom (drop n r) 0 m) (omega arith)
+
+-- the options of a list: the one in front, and those behind it
+pub met-turn : (l : List ℕ) (at : ℕ) → 0 < length l
+    → metFrom l 0 at ≡ frontOf (kindOf (getD l 0 0)) (sizeOf l) at ++ behind l at (spanOf (kindOf (getD l 0 0)) (sizeOf l))
+unfolding metFrom
+met-turn [] at h = absurd (omega arith)
+met-turn (t ∷ r) at h =
+    ap (λ (ms : List Met). frontOf (kindOf t) (sizeOf (t ∷ r)) at ++ ms)
+    (met-behind t r at (spanOf (kindOf t) (sizeOf (t ∷ r))) (λ n e. span-on (kindOf t) (t ∷ r) (sizeOf (t ∷ r)) n refl h e .0))
+
+pub met-end : (area : List ℕ) (at : ℕ) → length area ≤ at → metFrom (drop at area) 0 at ≡ []
+unfolding metFrom
+met-end area at h = rw (drop-of-length-le area h)
+
+-- what follows a turn of the walk
 abbrev pub afterTurn : List ℕ → ℕ → Turn → Walk
 afterTurn l at (Done w) = w
-afterTurn l at (On n s) = walkFrom (drop n l) 0 (at + n) s
+afterTurn l at (On n s) = judged (metFrom (drop n l) 0 (at + n)) s
 
-walk-after : (t : ℕ) (r : List ℕ) (at : ℕ) (u : Turn) → ((n : ℕ) (s : Place) → u ≡ On n s → 1 ≤ n)
-    → elim u as (λ _. Walk) [ Done w ↦ w | On n s ↦ walkFrom r (pred n) (suc at) s ] ≡ afterTurn (t ∷ r) at u
-walk-after t r at (Done w) h = refl
-walk-after t r at (On zero s) h = let z = h zero s refl in absurd (omega arith)
-walk-after t r at (On (suc n) s) h = walk-skip r n (suc at) s ∙ ap (λ (m : ℕ). walkFrom (drop n r) 0 m s) (omega arith)
+judged-front : (l : List ℕ) (at : ℕ) (k : Kind) (z : Size) (seen : Place)
+    → judged (frontOf k z at ++ behind l at (spanOf k z)) seen ≡ afterTurn l at (turnOf k z at seen)
+judged-front l at End z seen = refl
+judged-front l at NoOperation z seen = refl
+judged-front l at Basic (Whole n) seen = refl
+judged-front l at Basic Bad seen = refl
+judged-front l at Extended (Whole n) seen = refl
+judged-front l at Extended Bad seen = refl
+judged-front l at Cipso (Whole n) Nowhere = refl
+judged-front l at Cipso (Whole n) (At p) = refl
+judged-front l at Cipso Bad seen = refl
+judged-front l at Other (Whole n) seen = refl
+judged-front l at Other Bad seen = refl
 
 pub walk-turn : (l : List ℕ) (at : ℕ) (seen : Place) → 0 < length l
-    → walkFrom l 0 at seen ≡ afterTurn l at (turnOf (kindOf (getD l 0 0)) (sizeOf l) at seen)
-unfolding walkFrom
-walk-turn [] at seen h = absurd (omega arith)
-walk-turn (t ∷ r) at seen h = walk-after t r at (turnOf (kindOf t) (sizeOf (t ∷ r)) at seen) (λ n s e. turn-on (kindOf t) (t ∷ r) (sizeOf (t ∷ r)) at seen n s refl h e .0)
+    → judged (metFrom l 0 at) seen ≡ afterTurn l at (turnOf (kindOf (getD l 0 0)) (sizeOf l) at seen)
+walk-turn l at seen h = ap (λ (ms : List Met). judged ms seen) (met-turn l at h) ∙ judged-front l at (kindOf (getD l 0 0)) (sizeOf l) seen
 
 -- the part `&l[a..]`
 pub tail-is : (l : List ℕ) (a : ℕ) → take (length l - a) (drop a l) ≡ drop a l
 tail-is l a = take-all (length l - a) (drop a l) (simp length-drop (omega arith))
+
+-- a turn that goes on passes over the whole option
+turn-on : (k : Kind) (z : Size) (at : ℕ) (seen : Place) (n : ℕ) (s : Place) → turnOf k z at seen ≡ On n s → spanOf k z ≡ Whole n
+turn-on End z at seen n s e = let z : _≡_ {A = ℕ} 0 1 = cc in absurd (omega arith)
+turn-on NoOperation z at seen n s e = cc
+turn-on Basic (Whole m) at seen n s e = let z : _≡_ {A = ℕ} 0 1 = cc in absurd (omega arith)
+turn-on Basic Bad at seen n s e = let z : _≡_ {A = ℕ} 0 1 = cc in absurd (omega arith)
+turn-on Extended (Whole m) at seen n s e = let z : _≡_ {A = ℕ} 0 1 = cc in absurd (omega arith)
+turn-on Extended Bad at seen n s e = let z : _≡_ {A = ℕ} 0 1 = cc in absurd (omega arith)
+turn-on Cipso (Whole m) at Nowhere n s e = cc
+turn-on Cipso (Whole m) at (At x) n s e = let z : _≡_ {A = ℕ} 0 1 = cc in absurd (omega arith)
+turn-on Cipso Bad at seen n s e = let z : _≡_ {A = ℕ} 0 1 = cc in absurd (omega arith)
+turn-on Other (Whole m) at seen n s e = cc
+turn-on Other Bad at seen n s e = let z : _≡_ {A = ℕ} 0 1 = cc in absurd (omega arith)
 
 -- one turn of the loop, from what the calls gave: k the kind, z the size, u the turn
 module _ (area : List ℕ) (at : ℕ) (seen : Place) (k : Kind) (z : Size) (u : Turn) (h : at < length area)
     (ez : z ≡ sizeOf (take (length area - at) (drop at area))) (eu : u ≡ turnOf k z at seen) where
   pub turn-here :
       k ≡ kindOf (getD (take (length area - at) (drop at area)) 0 0)
-      → walkFrom (drop at area) 0 at seen ≡ afterTurn (drop at area) at u
+      → judged (metFrom (drop at area) 0 at) seen ≡ afterTurn (drop at area) at u
   turn-here ek = rw (eu, ek, ez, tail-is) (walk-turn (drop at area) at seen (simp length-drop (omega arith)))
 
   pub turn-moves : (n : ℕ) (s : Place) → u ≡ On n s → (1 ≤ n) × (at + n ≤ length area)
   turn-moves n s e =
       let ez′ : z ≡ sizeOf (drop at area) = rw tail-is at ez in
-      let q = turn-on k (drop at area) z at seen n s (sym ez′) (simp length-drop (omega arith)) (sym eu ∙ e) in
+      let q = span-on k (drop at area) z n (sym ez′) (simp length-drop (omega arith)) (turn-on k z at seen n s (sym eu ∙ e)) in
       omega (arith, length-drop at area)
 
-pub walk-end : (area : List ℕ) (at : ℕ) (seen : Place) → length area ≤ at → walkFrom (drop at area) 0 at seen ≡ Sound seen
-unfolding walkFrom
-walk-end area at seen h = rw (drop-of-length-le area h)
+pub walk-end : (area : List ℕ) (at : ℕ) (seen : Place) → length area ≤ at → judged (metFrom (drop at area) 0 at) seen ≡ Sound seen
+walk-end area at seen h = ap (λ (ms : List Met). judged ms seen) (met-end area at h)
 
-turn-refused : (k : Kind) (z : Size) (at : ℕ) (seen : Place) (num p : ℕ) → turnOf k z at seen ≡ Done (Refused num p) → (3 ≤ num) × (p ≡ at)
-turn-refused End z at seen num p e = let z : _≡_ {A = ℕ} 0 1 = cc in omega arith
-turn-refused NoOperation z at seen num p e = let z : _≡_ {A = ℕ} 0 1 = cc in omega arith
-turn-refused Basic (Whole m) at seen num p e = let q : 4 ≡ num = cc in let r : at ≡ p = cc in omega arith
-turn-refused Extended (Whole m) at seen num p e = let q : 4 ≡ num = cc in let r : at ≡ p = cc in omega arith
-turn-refused Basic Bad at seen num p e = let q : 3 ≡ num = cc in let r : at ≡ p = cc in omega arith
-turn-refused Extended Bad at seen num p e = let q : 3 ≡ num = cc in let r : at ≡ p = cc in omega arith
-turn-refused Cipso (Whole m) at Nowhere num p e = let z : _≡_ {A = ℕ} 0 1 = cc in omega arith
-turn-refused Cipso (Whole m) at (At x) num p e = let q : 5 ≡ num = cc in let r : at ≡ p = cc in omega arith
-turn-refused Cipso Bad at seen num p e = let q : 3 ≡ num = cc in let r : at ≡ p = cc in omega arith
-turn-refused Other (Whole m) at seen num p e = let z : _≡_ {A = ℕ} 0 1 = cc in omega arith
-turn-refused Other Bad at seen num p e = let q : 3 ≡ num = cc in let r : at ≡ p = cc in omega arith
+-- a refusal has a number from 3 on, and the option's place
+judge-refused : (k : Kind) (z : Size) (at : ℕ) (seen : Place) (num p : ℕ) → judge k z at seen ≡ Refused num p → (3 ≤ num) × (at ≡ p)
+judge-refused k Bad at seen num p e = let q : 3 ≡ num = cc in (omega arith, cc)
+judge-refused End (Whole m) at seen num p e = let z : _≡_ {A = ℕ} 0 1 = cc in absurd (omega arith)
+judge-refused NoOperation (Whole m) at seen num p e = let z : _≡_ {A = ℕ} 0 1 = cc in absurd (omega arith)
+judge-refused Basic (Whole m) at seen num p e = let q : 4 ≡ num = cc in (omega arith, cc)
+judge-refused Extended (Whole m) at seen num p e = let q : 4 ≡ num = cc in (omega arith, cc)
+judge-refused Cipso (Whole m) at Nowhere num p e = let z : _≡_ {A = ℕ} 0 1 = cc in absurd (omega arith)
+judge-refused Cipso (Whole m) at (At x) num p e = let q : 5 ≡ num = cc in (omega arith, cc)
+judge-refused Other (Whole m) at seen num p e = let z : _≡_ {A = ℕ} 0 1 = cc in absurd (omega arith)
 
--- a refusal of the walk has a number from 3 on, and a place in the area
-refused-by : (r : List ℕ) (at num p : ℕ) (u : Turn)
-    → (u ≡ Done (Refused num p) → (3 ≤ num) × (p ≡ at))
-    → ((n : ℕ) (s : Place) → walkFrom r (pred n) (suc at) s ≡ Refused num p → (3 ≤ num) × (p < suc at + length r))
-    → elim u as (λ _. Walk) [ Done w ↦ w | On n s ↦ walkFrom r (pred n) (suc at) s ] ≡ Refused num p
-    → (3 ≤ num) × (p < suc at + length r)
-refused-by r at num p (Done w) f g e = let q = f (ap Done e) in omega arith
-refused-by r at num p (On n s) f g e = g n s e
+-- where the place comes from: it was seen before, or the option is a whole 134
+judge-placed : (k : Kind) (z : Size) (at : ℕ) (seen s : Place) → judge k z at seen ≡ Sound s
+    → (seen ≡ s) ⊎ ((At at ≡ s) × (k ≡ Cipso) × (n : ℕ) × (z ≡ Whole n))
+judge-placed k Bad at seen s e = let z : _≡_ {A = ℕ} 0 1 = cc in absurd (omega arith)
+judge-placed End (Whole m) at seen s e = inl cc
+judge-placed NoOperation (Whole m) at seen s e = inl cc
+judge-placed Basic (Whole m) at seen s e = let z : _≡_ {A = ℕ} 0 1 = cc in absurd (omega arith)
+judge-placed Extended (Whole m) at seen s e = let z : _≡_ {A = ℕ} 0 1 = cc in absurd (omega arith)
+judge-placed Cipso (Whole m) at Nowhere s e = inr (cc, refl, m, refl)
+judge-placed Cipso (Whole m) at (At x) s e = let z : _≡_ {A = ℕ} 0 1 = cc in absurd (omega arith)
+judge-placed Other (Whole m) at seen s e = inl cc
 
-walk-refused : (l : List ℕ) (k at : ℕ) (seen : Place) (num p : ℕ) → walkFrom l k at seen ≡ Refused num p → (3 ≤ num) × (p < at + length l)
-unfolding walkFrom
-walk-refused [] k at seen num p e = let z : _≡_ {A = ℕ} 0 1 = cc in omega arith
-walk-refused (t ∷ r) (suc k) at seen num p e = let q = walk-refused r k (suc at) seen num p e in omega arith
-walk-refused (t ∷ r) zero at seen num p e =
-    let q = refused-by r at num p (turnOf (kindOf t) (sizeOf (t ∷ r)) at seen)
-    (turn-refused (kindOf t) (sizeOf (t ∷ r)) at seen num p)
-    (λ n s f. walk-refused r (pred n) (suc at) s num p f) e in
-    omega arith
+-- the same of options that stand in an area
+judged-refused : (area : List ℕ) (ms : List Met) (seen : Place) (num p : ℕ) → StandIn area ms → judged ms seen ≡ Refused num p
+    → (3 ≤ num) × (p < length area)
+judged-refused area [] seen num p s e = let z : _≡_ {A = ℕ} 0 1 = cc in absurd (omega arith)
+judged-refused area (m ∷ ms) seen num p s e = go (judge (m .kind) (m .size) (m .at) seen) refl (λ q f. judged-refused area ms q num p (s .3) f) e
+  where
+    go : (w : Walk) → judge (m .kind) (m .size) (m .at) seen ≡ w
+        → ((q : Place) → judged ms q ≡ Refused num p → (3 ≤ num) × (p < length area))
+        → elim w as (λ _. Walk) [ Sound q ↦ judged ms q | Refused n at ↦ Refused n at ] ≡ Refused num p → (3 ≤ num) × (p < length area)
+    go (Sound q) ew g e = g q e
+    go (Refused n at) ew g e =
+        let q = judge-refused (m .kind) (m .size) (m .at) seen num p (ew ∙ e) in
+        omega (arith, s .0)
 
 pub area-refused : (area : List ℕ) (num p : ℕ) → walkOf area ≡ Refused num p → (3 ≤ num) × (p < length area)
 unfolding walkOf
-area-refused area num p e = let q = walk-refused area 0 0 Nowhere num p e in omega arith
+area-refused area num p e = judged-refused area (metOf area) Nowhere num p (met-stand area) e
 
--- where the place that the walk answers comes from: it was seen before, or it is in the list
-data Placed (l : List ℕ) (at p : ℕ) (seen : Place) : Type 0 where
-  before : seen ≡ At p → Placed l at p seen
-  inside : (i : ℕ) → p ≡ at + i → LabelAt l i → Placed l at p seen
+label-at : (area : List ℕ) (m : Met) (n : ℕ) → m .kind ≡ kindOf (getD area (m .at) 0)
+    → m .size ≡ spanOf (m .kind) (sizeOf (drop (m .at) area)) → m .kind ≡ Cipso → m .size ≡ Whole n → LabelAt area (m .at)
+label-at area m n ek ez k z =
+    let g : getD (drop (m .at) area) 0 0 ≡ getD area (m .at) 0 = getD-drop (m .at) area 0 0 ∙ ap (λ (i : ℕ). getD area i 0) (add-zero (m .at)) in
+    record { size = n; whole = sym (ap (λ (x : Kind). spanOf x (sizeOf (drop (m .at) area))) k) ∙ sym ez ∙ z; kind = ap kindOf g ∙ sym ek ∙ k }
 
-turn-placed : (k : Kind) (z : Size) (at : ℕ) (seen : Place) (n : ℕ) (s : Place) → turnOf k z at seen ≡ On n s
-    → (s ≡ seen) ⊎ ((s ≡ At at) × (k ≡ Cipso) × (z ≡ Whole n))
-turn-placed End z at seen n s e = let z : _≡_ {A = ℕ} 0 1 = cc in absurd (omega arith)
-turn-placed NoOperation z at seen n s e = inl cc
-turn-placed Basic (Whole m) at seen n s e = let z : _≡_ {A = ℕ} 0 1 = cc in absurd (omega arith)
-turn-placed Extended (Whole m) at seen n s e = let z : _≡_ {A = ℕ} 0 1 = cc in absurd (omega arith)
-turn-placed Basic Bad at seen n s e = let z : _≡_ {A = ℕ} 0 1 = cc in absurd (omega arith)
-turn-placed Extended Bad at seen n s e = let z : _≡_ {A = ℕ} 0 1 = cc in absurd (omega arith)
-turn-placed Cipso (Whole m) at Nowhere n s e = inr (cc, refl, cc)
-turn-placed Cipso (Whole m) at (At x) n s e = let z : _≡_ {A = ℕ} 0 1 = cc in absurd (omega arith)
-turn-placed Cipso Bad at seen n s e = let z : _≡_ {A = ℕ} 0 1 = cc in absurd (omega arith)
-turn-placed Other (Whole m) at seen n s e = inl cc
-turn-placed Other Bad at seen n s e = let z : _≡_ {A = ℕ} 0 1 = cc in absurd (omega arith)
-
-turn-sound : (k : Kind) (z : Size) (at : ℕ) (seen : Place) (q : Place) → turnOf k z at seen ≡ Done (Sound q) → seen ≡ q
-turn-sound End z at seen q e = cc
-turn-sound NoOperation z at seen q e = let z : _≡_ {A = ℕ} 0 1 = cc in absurd (omega arith)
-turn-sound Basic (Whole m) at seen q e = let z : _≡_ {A = ℕ} 0 1 = cc in absurd (omega arith)
-turn-sound Extended (Whole m) at seen q e = let z : _≡_ {A = ℕ} 0 1 = cc in absurd (omega arith)
-turn-sound Basic Bad at seen q e = let z : _≡_ {A = ℕ} 0 1 = cc in absurd (omega arith)
-turn-sound Extended Bad at seen q e = let z : _≡_ {A = ℕ} 0 1 = cc in absurd (omega arith)
-turn-sound Cipso (Whole m) at Nowhere q e = let z : _≡_ {A = ℕ} 0 1 = cc in absurd (omega arith)
-turn-sound Cipso (Whole m) at (At x) q e = let z : _≡_ {A = ℕ} 0 1 = cc in absurd (omega arith)
-turn-sound Cipso Bad at seen q e = let z : _≡_ {A = ℕ} 0 1 = cc in absurd (omega arith)
-turn-sound Other (Whole m) at seen q e = let z : _≡_ {A = ℕ} 0 1 = cc in absurd (omega arith)
-turn-sound Other Bad at seen q e = let z : _≡_ {A = ℕ} 0 1 = cc in absurd (omega arith)
-
--- one octet further on
-placed-suc : (t : ℕ) (r : List ℕ) (at p : ℕ) (seen : Place) → Placed r (suc at) p seen → Placed (t ∷ r) at p seen
-placed-suc t r at p seen (before e) = before e
-placed-suc t r at p seen (inside i e o) = inside (suc i) (e ∙ omega arith) (record { size = o .size; whole = o .whole; kind = o .kind })
-
-placed-by : (t : ℕ) (r : List ℕ) (at p : ℕ) (seen : Place) (u : Turn) → turnOf (kindOf t) (sizeOf (t ∷ r)) at seen ≡ u
-    → ((n : ℕ) (s : Place) → walkFrom r (pred n) (suc at) s ≡ Sound (At p) → Placed r (suc at) p s)
-    → elim u as (λ _. Walk) [ Done w ↦ w | On n s ↦ walkFrom r (pred n) (suc at) s ] ≡ Sound (At p)
-    → Placed (t ∷ r) at p seen
-placed-by t r at p seen (Done w) eu g e = before (turn-sound (kindOf t) (sizeOf (t ∷ r)) at seen (At p) (eu ∙ ap Done e))
-placed-by t r at p seen (On n s) eu g e = go (placed-suc t r at p s (g n s e)) (turn-placed (kindOf t) (sizeOf (t ∷ r)) at seen n s eu)
+judged-placed : (area : List ℕ) (ms : List Met) (seen : Place) (p : ℕ) → StandIn area ms → judged ms seen ≡ Sound (At p)
+    → (seen ≡ At p) ⊎ LabelAt area p
+judged-placed area [] seen p s e = inl cc
+judged-placed area (m ∷ ms) seen p s e = go (judge (m .kind) (m .size) (m .at) seen) refl (λ q f. judged-placed area ms q p (s .3) f) e
   where
-    go : Placed (t ∷ r) at p s → (s ≡ seen) ⊎ ((s ≡ At at) × (kindOf t ≡ Cipso) × (sizeOf (t ∷ r) ≡ Whole n)) → Placed (t ∷ r) at p seen
-    go (inside i f o) q = inside i f o
-    go (before f) (inl q) = before (sym q ∙ f)
-    go (before f) (inr q) =
-        let ep : at ≡ p = cc (q .0) in
-        inside 0 (omega arith) (record { size = n; whole = q .2; kind = q .1 })
+    here : (q : Place) → (seen ≡ q) ⊎ ((At (m .at) ≡ q) × (m .kind ≡ Cipso) × (n : ℕ) × (m .size ≡ Whole n))
+        → (q ≡ At p) ⊎ LabelAt area p → (seen ≡ At p) ⊎ LabelAt area p
+    here q x (inr o) = inr o
+    here q (inl x) (inl y) = inl (x ∙ y)
+    here q (inr x) (inl y) =
+        let i : m .at ≡ p = cc (x .0) in
+        inr (subst (LabelAt area) i (label-at area m (x .2) (s .1) (s .2) (x .1) (x .3)))
 
-walk-placed : (l : List ℕ) (k at : ℕ) (seen : Place) (p : ℕ) → walkFrom l k at seen ≡ Sound (At p) → Placed l at p seen
-unfolding walkFrom
-walk-placed [] k at seen p e = before cc
-walk-placed (t ∷ r) (suc k) at seen p e = placed-suc t r at p seen (walk-placed r k (suc at) seen p e)
-walk-placed (t ∷ r) zero at seen p e =
-    placed-by t r at p seen (turnOf (kindOf t) (sizeOf (t ∷ r)) at seen) refl (λ n s f. walk-placed r (pred n) (suc at) s p f) e
+    go : (w : Walk) → judge (m .kind) (m .size) (m .at) seen ≡ w
+        → ((q : Place) → judged ms q ≡ Sound (At p) → (q ≡ At p) ⊎ LabelAt area p)
+        → elim w as (λ _. Walk) [ Sound q ↦ judged ms q | Refused n at ↦ Refused n at ] ≡ Sound (At p) → (seen ≡ At p) ⊎ LabelAt area p
+    go (Sound q) ew g e = here q (judge-placed (m .kind) (m .size) (m .at) seen q ew) (g q e)
+    go (Refused n at) ew g e = let z : _≡_ {A = ℕ} 0 1 = cc in absurd (omega arith)
 
 -- the place that the walk answers is that of a whole option 134
 pub area-placed : (area : List ℕ) (p : ℕ) → walkOf area ≡ Sound (At p) → LabelAt area p
 unfolding walkOf
-area-placed area p e = go (walk-placed area 0 0 Nowhere p e)
+area-placed area p e = go (judged-placed area (metOf area) Nowhere p (met-stand area) e)
   where
-    go : Placed area 0 p Nowhere → LabelAt area p
-    go (before f) = let z : _≡_ {A = ℕ} 0 1 = cc in absurd (omega arith)
-    go (inside i f o) = subst (LabelAt area) (sym (f ∙ zero-add i)) o
+    go : (Nowhere ≡ At p) ⊎ LabelAt area p → LabelAt area p
+    go (inl f) = let z : _≡_ {A = ℕ} 0 1 = cc in absurd (omega arith)
+    go (inr o) = o
 
 pub sound-placed : (area : List ℕ) (q : Place) → walkOf area ≡ Sound q → placedIn q area
 sound-placed area Nowhere e = tt

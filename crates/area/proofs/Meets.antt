@@ -1,4 +1,4 @@
--- What the walk answers follows from the options that it meets.
+-- The options that the walk meets stand in the area.
 use Prim.Native.Nat.{ℕ, zero, suc, pred, _+_, _<_}
 use mathlib.Core.Path.{_≡_, refl, sym, ap, _∙_}
 use mathlib.Core.List.{List, [], _∷_, _++_}
@@ -10,34 +10,8 @@ use Rattle.area.specs.declared.Kind.{Kind}
 use Rattle.area.specs.declared.Kind.the-variants.{End, NoOperation, Basic, Extended, Cipso, Other}
 use Rattle.area.specs.declared.Size.{Size}
 use Rattle.area.specs.declared.Size.the-variants.{Whole, Bad}
-use Rattle.area.specs.declared.Place.{Place}
-use Rattle.area.specs.declared.Place.the-variants.{Nowhere, At}
-use Rattle.area.specs.declared.Walk.{Walk}
-use Rattle.area.specs.declared.Turn.the-variants.{Done, On}
-use Rattle.area.specs.Area.{kindOf, sizeOf, turnOf, walkFrom, walkOf}
-use Rattle.area.specs.Meets.{Met, spanOf, frontOf, metFrom, metOf, judged, StandIn, OneWalk}
-
-walk-by : (r : List ℕ) (at : ℕ) (k : Kind) (z : Size) (seen : Place)
-    → ((n : ℕ) (s : Place) → walkFrom r (pred n) (suc at) s ≡ judged (metFrom r (pred n) (suc at)) s)
-    → elim (turnOf k z at seen) as (λ _. Walk) [ Done w ↦ w | On n s ↦ walkFrom r (pred n) (suc at) s ]
-    ≡ judged (frontOf k z at ++ elim (spanOf k z) as (λ _. List Met) [ Whole n ↦ metFrom r (pred n) (suc at) | Bad ↦ [] ]) seen
-walk-by r at End z seen g = refl
-walk-by r at NoOperation z seen g = g 1 seen
-walk-by r at Basic (Whole n) seen g = refl
-walk-by r at Basic Bad seen g = refl
-walk-by r at Extended (Whole n) seen g = refl
-walk-by r at Extended Bad seen g = refl
-walk-by r at Cipso (Whole n) Nowhere g = g n (At at)
-walk-by r at Cipso (Whole n) (At p) g = refl
-walk-by r at Cipso Bad seen g = refl
-walk-by r at Other (Whole n) seen g = g n seen
-walk-by r at Other Bad seen g = refl
-
-pub walk-met : (l : List ℕ) (k at : ℕ) (seen : Place) → walkFrom l k at seen ≡ judged (metFrom l k at) seen
-unfolding walkFrom metFrom
-walk-met [] k at seen = refl
-walk-met (t ∷ r) (suc k) at seen = walk-met r k (suc at) seen
-walk-met (t ∷ r) zero at seen = walk-by r at (kindOf t) (sizeOf (t ∷ r)) seen (λ n s. walk-met r (pred n) (suc at) s)
+use Rattle.area.specs.Area.{kindOf, sizeOf, Met, spanOf, frontOf, metFrom, metOf}
+use Rattle.area.specs.Meets.{StandIn, MetStand}
 
 -- one octet further on
 pub next-octet : (area : List ℕ) (at t : ℕ) (r : List ℕ) → drop at area ≡ t ∷ r → drop (suc at) area ≡ r
@@ -79,6 +53,6 @@ stand-from area (t ∷ r) (suc k) at e = stand-from area r k (suc at) (next-octe
 stand-from area (t ∷ r) zero at e =
     stand-by area r at t (kindOf t) (sizeOf (t ∷ r)) e refl refl (λ n. stand-from area r (pred n) (suc at) (next-octet area at t r e))
 
-pub one-walk : OneWalk
-unfolding walkOf metOf
-one-walk = record { answer = λ area. walk-met area 0 0 Nowhere; stand = λ area. stand-from area area 0 0 refl }
+pub met-stand : MetStand
+unfolding metOf
+met-stand area = stand-from area area 0 0 refl

@@ -1,6 +1,7 @@
 // The options area of an IPv4 header (RFC 791; document 01, "The order of checks"): the types of options, and the walk.
 ghost use mathlib.Core.Path.{_≡_};
-ghost use Rattle.area.specs.Area.{kindOf, sizeOf, turnOf, walkOf};
+ghost use Rattle.area.specs.Area.{kindOf, sizeOf, walkOf};
+ghost use Rattle.area.specs.Stages.{turnOf};
 ghost use Prim.Native.Nat.{_<_, _≤_};
 ghost use lib.ListN.{length};
 
@@ -71,7 +72,7 @@ pub fn read_size(rest: &[u8]) -> Size
 }
 
 // One option of the walk, which stands at an octet: within it 3 comes first, then 4, then 5.
-pub fn take_turn(kind: Kind, size: Size, at: usize, seen: Place) -> Turn
+fn take_turn(kind: Kind, size: Size, at: usize, seen: Place) -> Turn
     ensures { λ r. ⌜ r ≡ turnOf kind size at seen ⌝ }
 {
     match kind {

@@ -1,41 +1,44 @@
 -- Laws of checks 3 to 14: the walk, the option and the arriving port's range.
 use mathlib.Core.Path.{_≡_, refl, sym, _∙_, ap}
-use mathlib.Core.Bool.{Bool, true, false, not, _&&_, _||_, true≢false}
+use mathlib.Core.Bool.{Bool, true, false, cond, not, _||_, true≢false}
 use mathlib.Core.List.{List, [], _∷_}
 use mathlib.Core.Option.{Option, none, some}
 use Prim.Native.Nat.{ℕ, suc, _+_, _-_, _%_, _≤_, _<_}
 use native.Mathlib.Omega.{arith}
-use lib.Dec.{leb, ltb, eqb}
+use lib.Dec.{ltb, eqb}
 use lib.ListN.{length, getD, take, drop, length-drop, length-take, List·getD-eq-default}
 use mathlib.Core.Logic.{_⊎_, inl, inr}
 use lib.Seq.{getD-drop, getD-take, length-take-le}
-use borrow.Author.Tests.{eqb-false, eq-eqb, ne-eqb, le-leb, ltb-false}
+use borrow.Author.Tests.{eqb-false, eq-eqb, ne-eqb, le-leb, le-ltb, ltb-false}
+use Rattle.label.specs.declared.Run.{Run}
 use Rattle.label.specs.declared.Label.{Label}
-use Rattle.label.specs.Label.{wellFormed, leq, inRange}
+use Rattle.label.specs.Label.{used, wellFormed, leq, inRange}
+use Rattle.label.specs.Keys.{keyRuns, withKeys}
 use Rattle.label.proofs.Bools.{and-left, less-or}
-use Rattle.label.proofs.Labels.{leq-says}
-use Rattle.option.specs.Option.{Octets, Means}
+use Rattle.label.proofs.Labels.{leq-says, used-of}
+use Rattle.option.specs.Option.{Octets}
 use Rattle.reading.specs.declared.Reading.{Reading}
+use Rattle.reading.specs.declared.KeyReading.{KeyReading}
 use Rattle.reading.specs.Reading.{framed, readingFor}
+use Rattle.reading.specs.Keys.{keyed, labelled, keyReadingFor, keysAfter, ReadsKeys}
 use Rattle.reading.proofs.Theorems.{reads}
-use Rattle.area.specs.declared.Kind.{Kind}
-use Rattle.area.specs.declared.Kind.the-variants.{Cipso}
-use Rattle.area.specs.declared.Size.the-variants.{Whole}
 use Rattle.area.specs.declared.Place.{Place}
 use Rattle.area.specs.declared.Place.the-variants.{Nowhere, At}
 use Rattle.area.specs.declared.Walk.{Walk}
 use Rattle.area.specs.declared.Walk.the-variants.{Sound, Refused}
-use Rattle.area.specs.Area.{kindOf, sizeOf, walkOf, LabelAt}
+use Rattle.area.specs.Area.{walkOf, LabelAt}
 use Rattle.area.proofs.Laws.{area-refused, label-in, whole-size, cipso-octet}
 use Rattle.port.specs.declared.Port.{Port}
 use Rattle.port.specs.Port.{portSound}
 use Rattle.port.proofs.Laws.{sound}
 use Rattle.arrival.specs.Checks.{Refusal, faulty, barred, when, firstOf, badArea, walkRefusal, walkCheck, placeIn, optionAt, requiredBy, requiredCheck, optionBy, optionCheck, labelBy, arrivingLabel, rangeCheck}
-use Rattle.arrival.specs.declared.Decision.{Decision}
-use Rattle.arrival.specs.Decision.{decided, arrivalChecks}
-use Rattle.arrival.specs.Stages.{placeChecks}
-use Rattle.arrival.proofs.Pointer.{reading-pointer}
-use Rattle.arrival.proofs.First.{Real, AllReal, real-first, real-when, first-none, when-none, not-false-yes}
+use Rattle.arrival.specs.declared.Verdict.{Verdict}
+use Rattle.arrival.specs.Decision.{arrivalChecks}
+use Rattle.arrival.specs.Verdict.{verdictOf, stopped, going, keysBy, arrivalOf, arrivalKeys, Arrives}
+use Rattle.arrival.specs.Stages.{placeChecks, heldBetween, ArrivesAt}
+use Rattle.arrival.proofs.Pointer.{reading-pointer, reading-number}
+use Rattle.arrival.proofs.First.{Real, Late, late-first, late-when, late-real, first-none, when-none, not-false-yes}
+use Rattle.arrival.proofs.Verdicts.{held-in-range, label-stands}
 
 -- The walk's answer decides which checks are left.
 pub arrival-refused : (p : Port) (area : List ℕ) (code n at : ℕ) → walkOf area ≡ Refused n at → firstOf (arrivalChecks p area code) ≡ some (faulty n at)
@@ -47,35 +50,36 @@ pub arrival-placed : (p : Port) (area : List ℕ) (code : ℕ) (q : Place) → w
 unfolding walkCheck requiredCheck optionCheck rangeCheck arrivingLabel
 arrival-placed p area code q e = (rw e, rw e)
 
--- Every refusal has a number.
+-- Every refusal has a number, 3 or above.
 
-walk-real : (area : List ℕ) (w : Walk) → walkOf area ≡ w → Real (walkRefusal w)
-walk-real area (Sound q) e = tt
-walk-real area (Refused n at) e = λ z. (let q = area-refused area n at e in omega arith)
+walk-late : (area : List ℕ) (w : Walk) → walkOf area ≡ w → Late (walkRefusal w)
+walk-late area (Sound q) e = tt
+walk-late area (Refused n at) e = area-refused area n at e .0
 
-number-real : (n at : ℕ) → Real (when (not (eqb n 0)) (faulty n at))
-number-real n at = go (eqb n 0) refl
+option-late : (q : Place) (p : Port) (area : List ℕ) → Late (optionBy q p area)
+option-late Nowhere p area = tt
+option-late (At i) p area = go (eqb (readingFor (p .domain) (optionAt i area) .number) 0) refl
   where
-    go : (b : Bool) → eqb n 0 ≡ b → Real (when (not b) (faulty n at))
+    go : (b : Bool) → eqb (readingFor (p .domain) (optionAt i area) .number) 0 ≡ b
+        → Late (when (not b) (faulty (readingFor (p .domain) (optionAt i area) .number) (i + readingFor (p .domain) (optionAt i area) .pointer)))
     go true e = tt
-    go false e = eqb-false n 0 e
+    go false e = omega (arith, reading-number (p .domain) (optionAt i area) (eqb-false _ _ e))
 
-option-real : (q : Place) (p : Port) (area : List ℕ) → Real (optionBy q p area)
-option-real Nowhere p area = tt
-option-real (At i) p area = number-real (readingFor (p .domain) (optionAt i area) .number) (i + readingFor (p .domain) (optionAt i area) .pointer)
+required-late : (q : Place) (p : Port) → Late (requiredBy q p)
+required-late Nowhere p = late-when (p .required) _ (omega arith)
+required-late (At i) p = tt
 
-required-real : (q : Place) (p : Port) → Real (requiredBy q p)
-required-real Nowhere p = real-when (p .required) _ (λ z. omega arith)
-required-real (At i) p = tt
+fourteen : _≤_ 3 14
+fourteen = omega arith
 
-fourteen : _≡_ {A = ℕ} 14 0 → ⊥
-fourteen z = omega arith
+pub arrival-late : (p : Port) (area : List ℕ) (code : ℕ) → Late (firstOf (arrivalChecks p area code))
+unfolding walkCheck requiredCheck optionCheck rangeCheck
+arrival-late p area code =
+    late-first (arrivalChecks p area code)
+    (walk-late area (walkOf area) refl, (required-late (placeIn (walkOf area)) p, (option-late (placeIn (walkOf area)) p area, (late-when (not (inRange (p .lowest) (p .highest) (arrivingLabel p area))) (barred 14 code) fourteen, tt))))
 
 pub arrival-real : (p : Port) (area : List ℕ) (code : ℕ) → Real (firstOf (arrivalChecks p area code))
-unfolding walkCheck requiredCheck optionCheck rangeCheck
-arrival-real p area code =
-    real-first (arrivalChecks p area code)
-    (walk-real area (walkOf area) refl, (required-real (placeIn (walkOf area)) p, (option-real (placeIn (walkOf area)) p area, (real-when (not (inRange (p .lowest) (p .highest) (arrivingLabel p area))) (barred 14 code) fourteen, tt))))
+arrival-real p area code = late-real (firstOf (arrivalChecks p area code)) (arrival-late p area code)
 
 -- A label that has passed is in the port's range, so it is well formed and of the port's domain.
 pub record Held (p : Port) (l : Label) : Type 0 where
@@ -157,17 +161,118 @@ module _ (p : Port) (area : List ℕ) (at code : ℕ) (r : Reading) (is : r ≡ 
       let q : r .pointer ≤ length (optionAt at area) + 10 = rw (r-is) (reading-pointer (p .domain) (optionAt at area)) in
       omega (arith, f .size, f .inside)
 
--- what is decided with the option at a place
-abbrev pub placeDecided : Port → List ℕ → ℕ → Place → Decision
-placeDecided p area code q = decided false (firstOf (placeChecks q p area code)) (labelBy q p area) 0
+-- The option is read into keys: what is answered, and what the keys hold.
+module _ (p : Port) (area keys keys′ : List ℕ) (at code : ℕ) (r : KeyReading)
+    (is : ReadsKeys (p .domain) (take (at + getD area (at + 1) 0 - at) (drop at area)) keys keys′ r) (room : 120 ≤ length keys) where
+  abbrev whole : Reading
+  whole = labelled (p .domain) r keys′
 
--- No option: the assigned label of a sound port is in its range.
-pub none-required : (p : Port) (area : List ℕ) (code : ℕ) → p .required ≡ true
-    → firstOf (placeChecks Nowhere p area code) ≡ some (record { number = 6; kind = 12; code = 1; pointer = 134 })
-none-required p area code e = rw e
+  abbrev rs : List Run
+  rs = keyRuns (take (r .count) keys′)
 
-pub none-assigned : (p : Port) (area : List ℕ) (code : ℕ) → portSound p ≡ true → p .required ≡ false → firstOf (placeChecks Nowhere p area code) ≡ none
-none-assigned p area code s e = rw (e, sound p s .assigned e)
+  here : at + getD area (at + 1) 0 - at ≡ getD area (at + 1) 0
+  here = omega arith
+
+  left-is : keys′ ≡ keysBy (At at) p area keys
+  left-is = is .left ∙ ap (λ (k : ℕ). keysAfter (p .domain) (take k (drop at area)) keys) here
+
+  answer-is : r ≡ keyed (readingFor (p .domain) (optionAt at area))
+  unfolding keyReadingFor
+  answer-is = (rw (le-ltb (length keys) 120 room) at (is .answer)) ∙ ap (λ (k : ℕ). keyed (readingFor (p .domain) (take k (drop at area)))) here
+
+  reading-is : whole ≡ readingFor (p .domain) (optionAt at area)
+  reading-is = is .reading room ∙ ap (λ (k : ℕ). readingFor (p .domain) (take k (drop at area))) here
+
+  pub keys-refused : (r .number ≡ 0 → ⊥) → ArrivesAt (At at) p area code keys keys′ (stopped (r .number) 12 0 (20 + (at + r .pointer)))
+  keys-refused h =
+      record {
+        answer = ap (λ (o : Option Refusal). verdictOf o (labelBy (At at) p area .level) (labelBy (At at) p area .count)) (sym (read-refused p area at code whole (is .reading room) h));
+        left = left-is;
+        stands = λ z. absurd (h z);
+      }
+
+  pub keys-point : LabelAt area at → length area ≤ 40 → r .pointer ≤ 50
+  keys-point o h = read-points p area at code whole (is .reading room) o h
+
+  module _ (o : LabelAt area at) (oct : Octets (optionAt at area)) (s : portSound p ≡ true) (z : r .number ≡ 0) where
+    formed-is : wellFormed (whole .label) ≡ true
+    formed-is = read-formed p area at code whole (is .reading room) o oct s z
+
+    used-is : used (whole .label) ≡ rs
+    used-is = used-of (cond (eqb (r .number) 0) (p .domain) 0) (r .level) rs
+
+    owner-is : whole .label .domain ≡ p .domain
+    owner-is = rw (eq-eqb (r .number) 0 z)
+
+    held-is : heldBetween (p .lowest) (p .highest) (going (r .level) (r .count)) keys′ ≡ inRange (p .lowest) (p .highest) (whole .label)
+    held-is =
+        let g = sound p s .range in
+        held-in-range (p .lowest) (p .highest) (whole .label) (going (r .level) (r .count)) keys′ (g .low-formed) (g .high-formed) formed-is
+        (g .low-domain ∙ sym owner-is) (owner-is ∙ sym (g .high-domain)) refl (sym used-is)
+
+    pub keys-held : ArrivesAt (At at) p area code keys keys′
+        (cond (heldBetween (p .lowest) (p .highest) (going (r .level) (r .count)) keys′) (going (r .level) (r .count)) (stopped 14 3 code 0))
+    keys-held = go (heldBetween (p .lowest) (p .highest) (going (r .level) (r .count)) keys′) refl
+      where
+        go : (b : Bool) → heldBetween (p .lowest) (p .highest) (going (r .level) (r .count)) keys′ ≡ b
+            → ArrivesAt (At at) p area code keys keys′ (cond b (going (r .level) (r .count)) (stopped 14 3 code 0))
+        go true e =
+            record {
+              answer = ap (λ (x : KeyReading). going (x .level) (x .count)) answer-is
+                  ∙ ap (λ (o : Option Refusal). verdictOf o (labelBy (At at) p area .level) (labelBy (At at) p area .count)) (sym (read-inside p area at code whole (is .reading room) z (sym held-is ∙ e) .0));
+              left = left-is;
+              stands = λ w. sym used-is ∙ ap (λ (x : Reading). used (x .label)) reading-is;
+            }
+        go false e =
+            record {
+              answer = ap (λ (o : Option Refusal). verdictOf o (labelBy (At at) p area .level) (labelBy (At at) p area .count)) (sym (read-outside p area at code whole (is .reading room) z (sym held-is ∙ e)));
+              left = left-is;
+              stands = λ w. absurd (omega arith);
+            }
+
+-- No option: 6, or the assigned label, which is in the range of a sound port.
+pub none-required : (p : Port) (area keys : List ℕ) (code : ℕ) → p .required ≡ true → ArrivesAt Nowhere p area code keys keys (stopped 6 12 1 134)
+none-required p area keys code e = record { answer = rw e; left = rw e; stands = λ z. absurd (omega arith) }
+
+pub none-assigned : (p : Port) (area keys keys′ : List ℕ) (code : ℕ) → portSound p ≡ true → p .required ≡ false → 120 ≤ length keys → keys′ ≡ withKeys (p .assigned) keys
+    → ArrivesAt Nowhere p area code keys keys′ (going (p .assigned .level) (p .assigned .count))
+none-assigned p area keys keys′ code s e h w =
+    record {
+      answer = rw (e, sound p s .assigned e);
+      left = rw e w;
+      stands = λ z. rw w (label-stands (p .assigned) keys (sound p s .assigned-formed e) h);
+    }
+
+-- Checks 1 and 2, and then those of the walk.
+module _ (p : Port) (area keys : List ℕ) (code : ℕ) where
+  pub port-sized : (badArea area || ltb (length keys) 120) ≡ true → Arrives p area code keys keys (stopped 1 0 0 0)
+  unfolding arrivalOf arrivalKeys
+  port-sized e = record { answer = rw e; left = rw e; stands = λ z. absurd (omega arith) }
+
+  module _ (sized : (badArea area || ltb (length keys) 120) ≡ false) where
+    pub port-unsound : portSound p ≡ false → Arrives p area code keys keys (stopped 2 0 0 0)
+    unfolding arrivalOf arrivalKeys
+    port-unsound e = record { answer = rw (sized, e); left = rw (sized, e); stands = λ z. absurd (omega arith) }
+
+    module _ (s : portSound p ≡ true) where
+      pub port-walked : (n at : ℕ) → walkOf area ≡ Refused n at → Arrives p area code keys keys (stopped n 12 0 (20 + at))
+      unfolding arrivalOf arrivalKeys
+      port-walked n at e =
+          record {
+            answer = rw (sized, s, arrival-refused p area code n at e);
+            left = rw (sized, s, e);
+            stands = λ z. absurd (omega (arith, area-refused area n at e .0));
+          }
+
+      pub port-placed : (q : Place) (keys′ : List ℕ) (r : Verdict) → walkOf area ≡ Sound q → ArrivesAt q p area code keys keys′ r → Arrives p area code keys keys′ r
+      unfolding arrivalOf arrivalKeys
+      port-placed q keys′ r e w =
+          let a = arrival-placed p area code q e in
+          record {
+            answer = rw (sized, s, a .0, a .1) (w .answer);
+            left = rw (sized, s, e) (w .left);
+            stands = λ z. rw (a .1) (w .stands z);
+          }
 
 pub octets-of : (b : List ℕ) → ((i : ℕ) → getD b i 0 < 256) → Octets b
 octets-of [] h = tt

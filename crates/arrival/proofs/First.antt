@@ -1,15 +1,13 @@
 -- Laws of a list of checks of which the first that applies decides.
 use mathlib.Core.Path.{_≡_, refl, sym, _∙_, ap}
-use mathlib.Core.Bool.{Bool, true, false, cond, not, _||_, true≢false}
+use mathlib.Core.Bool.{Bool, true, false, not, _||_, true≢false}
 use mathlib.Core.List.{List, [], _∷_, _++_}
 use mathlib.Core.Option.{Option, none, some}
-use Prim.Native.Nat.{ℕ}
+use Prim.Native.Nat.{ℕ, _≤_}
 use native.Mathlib.Omega.{arith}
-use Rattle.label.specs.declared.Label.{Label}
-use Rattle.arrival.specs.declared.Decision.{Decision}
+use Rattle.arrival.specs.declared.Verdict.{Verdict}
 use Rattle.arrival.specs.Checks.{Refusal, when, firstOf, NoneApplies}
-use Rattle.arrival.specs.Decision.{refused, done, decided}
-use Rattle.arrival.specs.Stages.{reported}
+use Rattle.arrival.specs.Verdict.{verdictOf}
 
 abbrev pub orElse : Option Refusal → Option Refusal → Option Refusal
 orElse (some r) o = some r
@@ -38,6 +36,28 @@ pub real-when : (b : Bool) (r : Refusal) → (r .number ≡ 0 → ⊥) → Real 
 real-when true r h = h
 real-when false r h = tt
 
+-- A refusal's number is 3 or above.
+abbrev pub Late : Option Refusal → Type 0
+Late none = Unit {0}
+Late (some r) = 3 ≤ r .number
+
+abbrev pub AllLate : List (Option Refusal) → Type 0
+AllLate [] = Unit {0}
+AllLate (c ∷ cs) = Late c × AllLate cs
+
+pub late-first : (cs : List (Option Refusal)) → AllLate cs → Late (firstOf cs)
+late-first [] a = tt
+late-first (some r ∷ cs) a = a .0
+late-first (none ∷ cs) a = late-first cs (a .1)
+
+pub late-when : (b : Bool) (r : Refusal) → 3 ≤ r .number → Late (when b r)
+late-when true r h = h
+late-when false r h = tt
+
+pub late-real : (o : Option Refusal) → Late o → Real o
+late-real none h = tt
+late-real (some r) h = λ z. omega arith
+
 -- Where no check applies, none of them does.
 pub first-none : (cs : List (Option Refusal)) → firstOf cs ≡ none → NoneApplies cs
 first-none [] e = tt
@@ -52,33 +72,21 @@ pub when-none : (b : Bool) (r : Refusal) → when b r ≡ none → b ≡ false
 when-none true r e = let z : _≡_ {A = ℕ} 0 1 = cc in absurd (omega arith)
 when-none false r e = refl
 
--- What a stage decided: it passed, or refused.
-module _ (o : Option Refusal) (l : Label) (n : ℕ) (d : Decision) (real : Real o) (is : d ≡ decided false o l n) where
-  pub passed : d .number ≡ 0 → (o ≡ none) × (d ≡ done l n)
-  passed z = go o real is
+-- What a stage's verdict says of its checks.
+module _ (o : Option Refusal) (v n : ℕ) (r : Verdict) (real : Real o) (is : r ≡ verdictOf o v n) where
+  pub verdict-none : r .number ≡ 0 → (o ≡ none) × (r ≡ verdictOf none v n)
+  verdict-none z = go o real is
     where
-      go : (o : Option Refusal) → Real o → d ≡ decided false o l n → (o ≡ none) × (d ≡ done l n)
-      go none r e = (refl, e)
-      go (some x) r e = absurd (r (sym (ap (λ (d : Decision). d .number) e) ∙ z))
+      go : (o : Option Refusal) → Real o → r ≡ verdictOf o v n → (o ≡ none) × (r ≡ verdictOf none v n)
+      go none h e = (refl, e)
+      go (some x) h e = absurd (h (sym (ap (λ (q : Verdict). q .number) e) ∙ z))
 
-  pub stopped : (d .number ≡ 0 → ⊥) → (x : Refusal) × (o ≡ some x) × (d ≡ refused false x)
-  stopped z = go o is
+  pub verdict-some : (r .number ≡ 0 → ⊥) → (x : Refusal) × (o ≡ some x) × (r ≡ verdictOf (some x) v n)
+  verdict-some z = go o is
     where
-      go : (o : Option Refusal) → d ≡ decided false o l n → (x : Refusal) × (o ≡ some x) × (d ≡ refused false x)
-      go none e = absurd (z (ap (λ (d : Decision). d .number) e))
+      go : (o : Option Refusal) → r ≡ verdictOf o v n → (x : Refusal) × (o ≡ some x) × (r ≡ verdictOf (some x) v n)
+      go none e = absurd (z (ap (λ (q : Verdict). q .number) e))
       go (some x) e = (x, refl, e)
-
--- The mark silences the report and leaves the number.
-pub reported-is : (icmp : Bool) (x : Refusal) → reported icmp (refused false x) ≡ refused icmp x
-reported-is true x = refl
-reported-is false x = refl
-
--- a stage's answer, by what its checks say
-pub refused-by : (o : Option Refusal) (x : Refusal) (l : Label) (n : ℕ) → o ≡ some x → refused false x ≡ decided false o l n
-refused-by o x l n e = rw e
-
-pub passed-by : (o : Option Refusal) (l : Label) (n : ℕ) → o ≡ none → done l n ≡ decided false o l n
-passed-by o l n e = rw e
 
 -- tests that do not pass
 pub not-false-yes : (b : Bool) → not b ≡ false → b ≡ true

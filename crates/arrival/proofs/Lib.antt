@@ -1,4 +1,5 @@
 pub mod First
 pub mod Pointer
+pub mod Verdicts
 pub mod Arrival
 pub mod Deliveries

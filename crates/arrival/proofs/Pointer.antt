@@ -1,16 +1,15 @@
--- Where reading an option points: at most ten octets past its end, so a pointer into an area fits an octet.
+-- Where reading an option points: at most ten octets past its end, so a pointer into an area fits an octet. Its refusals are 7 to 13.
 use mathlib.Core.Path.{_≡_, refl}
 use mathlib.Core.Bool.{Bool, true, false, cond, not}
 use mathlib.Core.List.{List, [], _∷_}
 use Prim.Native.Nat.{ℕ, _+_, _-_, _≤_, _<_}
 use native.Mathlib.Omega.{arith}
 use lib.Dec.{ltb, eqb}
-use lib.ListN.{length, take, drop, length-take, length-drop}
+use lib.ListN.{length, length-take, length-drop}
 use borrow.Author.Tests.{ltb-true}
 use Rattle.label.specs.declared.Label.{Label}
 use Rattle.option.specs.Option.{domainOf, tagOf, tagLengthOf}
-use Rattle.reading.specs.declared.Reading.{Reading}
-use Rattle.reading.specs.Reading.{Check, check, found, refusal, firstOf, categoriesIn, badPlace, tagChecks, labelIn, readingBy, readingFor}
+use Rattle.reading.specs.Reading.{Check, check, refusal, firstOf, categoriesIn, badPlace, tagChecks, labelIn, readingBy, readingFor}
 
 abbrev PointWithin : ℕ → List Check → Type 0
 PointWithin b [] = Unit {0}
@@ -49,3 +48,21 @@ reading-pointer d o =
         ),
       ),
     )
+
+abbrev NumbersFrom : ℕ → List Check → Type 0
+NumbersFrom b [] = Unit {0}
+NumbersFrom b (c ∷ cs) = (b ≤ c .number) × NumbersFrom b cs
+
+first-number : (b : ℕ) (cs : List Check) (l : Label) → NumbersFrom b cs → (firstOf cs l .number ≡ 0 → ⊥) → b ≤ firstOf cs l .number
+first-number b [] l w h = absurd (h refl)
+first-number b (c ∷ cs) l w h = go (first-number b cs l (w .1)) (c .applies) h
+  where
+    go : ((firstOf cs l .number ≡ 0 → ⊥) → b ≤ firstOf cs l .number) → (t : Bool) → ((cond t (refusal (c .number) (c .pointer)) (firstOf cs l)) .number ≡ 0 → ⊥) → b ≤ (cond t (refusal (c .number) (c .pointer)) (firstOf cs l)) .number
+    go f true z = w .0
+    go f false z = f z
+
+pub reading-number : (d : ℕ) (o : List ℕ) → (readingFor d o .number ≡ 0 → ⊥) → 7 ≤ readingFor d o .number
+unfolding readingFor readingBy tagChecks
+reading-number d o h =
+    first-number 7 (check (ltb (length o) 10) 7 1 ∷ check (not (eqb (domainOf o) d)) 8 2 ∷ tagChecks o) (labelIn o)
+    (omega arith, (omega arith, (omega arith, (omega arith, (omega arith, (omega arith, (omega arith, tt))))))) h

@@ -1,24 +1,29 @@
-// What both jobs share, checks 3 to 14 of a datagram that arrives at a port, and deliver (document 01, "The order of checks").
+// What both jobs share, checks 1 to 14 of a datagram that arrives at a port, and deliver (document 01, "The order of checks").
 use area::Place;
 use area::Walk;
 use area::walk_area;
 use label::Label;
+use label::Look;
+use label::label_keys;
+use label::look_between;
+use label::runs_between;
+use label::to_label;
 use port::Host;
 use port::Port;
 use port::host_sound;
 use port::port_sound;
-use reading::read_option_of;
+use reading::read_keys;
 ghost use mathlib.Core.Path.{_≡_};
-ghost use mathlib.Core.Bool.{true, false, _||_, not};
+ghost use mathlib.Core.Bool.{true, false, cond, _||_, not};
 ghost use Prim.Native.Nat.{_%_, _≤_};
 ghost use lib.ListN.{length};
 ghost use lib.Dec.{ltb, eqb};
-ghost use Rattle.label.specs.Range.{comparedBetween};
 ghost use Rattle.area.specs.Area.{placedIn, LabelAt};
+ghost use Rattle.area.specs.declared.Place.the-variants.{At};
 ghost use Rattle.port.specs.Port.{portSound};
-ghost use Rattle.arrival.specs.Checks.{firstOf, labelBy};
-ghost use Rattle.arrival.specs.Decision.{done, decided, deliverOf};
-ghost use Rattle.arrival.specs.Stages.{refusal, reported, placeChecks, deliveryOf, Arrives};
+ghost use Rattle.arrival.specs.Decision.{deliverOf};
+ghost use Rattle.arrival.specs.Verdict.{stopped, going, Arrives, concluded};
+ghost use Rattle.arrival.specs.Stages.{deliveryOf, ArrivesAt, reported, heldBetween, hostedBy};
 
 // What is decided: 0 and the label (and, of a forwarding, the count of the leaving area), or a refusal's number with its ICMP type (`kind`),
 // code and pointer.
@@ -31,73 +36,129 @@ pub struct Decision {
     pub label: Label,
 }
 
+// What is decided so far, without the label: 0, the level, and how many keys of a lent list hold the categories; or a refusal with level and
+// count 0.
+pub struct Verdict {
+    pub number: u8,
+    pub kind: u8,
+    pub code: u8,
+    pub pointer: u8,
+    pub level: u8,
+    pub count: usize,
+}
+
 // Decides whether a datagram is delivered to the host behind the port.
 pub fn deliver(port: Port, host: Host, icmp: bool, area: &[u8]) -> Decision
     ensures { λ r. ⌜ r ≡ deliverOf (deliveryOf port host icmp (now (area .entry))) ⌝ }
 {
-    if bad_area(area.len()) {
-        return report(refuse(1, 0, 0, 0), icmp);
-    }
-    if !port_sound(port) {
-        return report(refuse(2, 0, 0, 0), icmp);
-    }
-    if !host_sound(host, port.domain) {
-        return report(refuse(2, 0, 0, 0), icmp);
-    }
-    let d = arrive(port, area, 10);
-    if d.number != 0 {
-        return report(d, icmp);
-    }
-    let label = d.label;
-    let lowest = host.lowest;
-    let highest = host.highest;
-    if !between(label, lowest, highest) {
-        return report(refuse(15, 3, 10, 0), icmp);
-    }
-    d
+    let mut keys = [0u32; 120];
+    let arrived = arrive(port, area, 10, &mut keys);
+    let verdict = reach_host(arrived, host, port.domain, &keys);
+    conclude(verdict, port.domain, icmp, 0, &keys)
 }
 
-// A refusal, before the ICMP mark is looked at: count 0 and an all-zero label.
-pub fn refuse(number: u8, kind: u8, code: u8, pointer: u8) -> Decision
-    ensures { λ r. ⌜ r ≡ refusal number kind code pointer ⌝ }
+// Checks 1 to 14 at a port: 0, with the runs of the label that the datagram arrives with as keys at the head of the list, or the refusal;
+// 1 for a list of under 120 keys too.
+pub fn arrive(port: Port, area: &[u8], code: u8, keys: &mut [u32]) -> Verdict
+    ensures { λ r. ⌜ Arrives port (now (area .entry)) code (now (keys .entry)) (now (keys .exit)) r ⌝ }
 {
-    let label = Label::empty(0, 0);
+    if bad_area(area.len()) {
+        return stop(1, 0, 0, 0);
+    }
+    if keys.len() < Label::MAX_RUNS {
+        return stop(1, 0, 0, 0);
+    }
+    if !port_sound(port) {
+        return stop(2, 0, 0, 0);
+    }
+    match walk_area(area) {
+        Walk::Refused(number, at) => stop(number, 12, 0, (20 + at) as u8),
+        Walk::Sound(place) => arrive_at(port, area, place, code, keys),
+    }
+}
+
+// The decision of a verdict: the label of the domain with the runs of the first keys, and the count; or the refusal, with count 0 and an
+// all-zero label. If the datagram is marked as ICMP, the number of a refusal stays and the report is silent.
+pub fn conclude(verdict: Verdict, domain: u32, icmp: bool, count: usize, keys: &[u32]) -> Decision
+    ensures { λ r. ⌜ r ≡ concluded verdict domain icmp count (now (keys .entry)) ⌝ }
+{
+    let said = report(verdict, icmp);
+    let owner = owned_by(said.number, domain);
+    // one exit, so that the label is built where it is returned
+    let label = to_label(keys, said.count, owner, said.level);
     Decision {
+        number: said.number,
+        kind: said.kind,
+        code: said.code,
+        pointer: said.pointer,
+        count: counted_by(said.number, count),
+        label: label,
+    }
+}
+
+// The first check that applies.
+pub fn stop(number: u8, kind: u8, code: u8, pointer: u8) -> Verdict
+    ensures { λ r. ⌜ r ≡ stopped number kind code pointer ⌝ }
+{
+    Verdict {
         number: number,
         kind: kind,
         code: code,
         pointer: pointer,
+        level: 0,
         count: 0,
-        label: label,
     }
 }
 
-// No check has applied so far, with this label.
-pub fn pass(label: Label) -> Decision
-    ensures { λ r. ⌜ r ≡ done label 0 ⌝ }
+// No check has applied so far.
+pub fn go_on(level: u8, count: usize) -> Verdict
+    ensures { λ r. ⌜ r ≡ going level count ⌝ }
 {
-    Decision {
+    Verdict {
         number: 0,
         kind: 0,
         code: 0,
         pointer: 0,
-        count: 0,
-        label: label,
+        level: level,
+        count: count,
     }
 }
 
-// If the datagram is marked as ICMP, the number of a refusal stays and the report is silent.
-pub fn report(d: Decision, icmp: bool) -> Decision
-    ensures { λ r. ⌜ r ≡ reported icmp d ⌝ }
+// What is reported of a refusal: number alone where the datagram is marked as ICMP.
+fn report(verdict: Verdict, icmp: bool) -> Verdict
+    ensures { λ r. ⌜ r ≡ reported icmp verdict ⌝ }
 {
-    if icmp {
-        return refuse(d.number, 0, 0, 0);
+    if verdict.number == 0 {
+        return go_on(verdict.level, verdict.count);
     }
-    d
+    if icmp {
+        return stop(verdict.number, 0, 0, 0);
+    }
+    stop(verdict.number, verdict.kind, verdict.code, verdict.pointer)
+}
+
+// A refusal's label is of domain 0.
+fn owned_by(number: u8, domain: u32) -> u32
+    ensures { λ r. ⌜ r ≡ cond (eqb number 0) domain 0 ⌝ }
+{
+    if number == 0 {
+        return domain;
+    }
+    0
+}
+
+// A refusal's count is 0.
+fn counted_by(number: u8, count: usize) -> usize
+    ensures { λ r. ⌜ r ≡ cond (eqb number 0) count 0 ⌝ }
+{
+    if number == 0 {
+        return count;
+    }
+    0
 }
 
 // Check 1 of an area of n octets: over 40, or not a multiple of 4.
-pub fn bad_area(n: usize) -> bool
+fn bad_area(n: usize) -> bool
     ensures { λ r. ⌜ r ≡ (ltb 40 n || not (eqb (n % 4) 0)) ⌝ }
 {
     if 40 < n {
@@ -106,66 +167,103 @@ pub fn bad_area(n: usize) -> bool
     n % 4 != 0
 }
 
-// Whether a label lies in a range, without a look at the form of the three: for labels that are known to be well formed.
-pub fn between(label: Label, lowest: Label, highest: Label) -> bool
-    ensures { λ r. ⌜ r ≡ comparedBetween lowest highest label ⌝ }
-{
-    if !lowest.at_most(label) {
-        return false;
-    }
-    label.at_most(highest)
-}
-
-// Checks 3 to 14 at a port that is known to be sound, of an area of at most 40 octets; of others nothing is said.
-pub fn arrive(port: Port, area: &[u8], code: u8) -> Decision
-    ensures { λ r. ⌜ Arrives port (now (area .entry)) code r ⌝ }
-{
-    if 40 < area.len() {
-        return refuse(1, 0, 0, 0);
-    }
-    match walk_area(area) {
-        Walk::Refused(number, at) => refuse(number, 12, 0, (20 + at) as u8),
-        Walk::Sound(place) => arrive_at(port, area, place, code),
-    }
-}
-
 // Checks 6 to 14, with the place of the option 134.
-fn arrive_at(port: Port, area: &[u8], place: Place, code: u8) -> Decision
+fn arrive_at(port: Port, area: &[u8], place: Place, code: u8, keys: &mut [u32]) -> Verdict
     requires { ⌜ length (now area) ≤ 40 ⌝ }
     requires { ⌜ placedIn place (now area) ⌝ }
-    ensures { λ r. ⌜ (portSound port ≡ true → r ≡ decided false (firstOf (placeChecks place port (now (area .entry)) code)) (labelBy place port (now (area .entry))) 0) ⌝ }
+    requires { ⌜ portSound port ≡ true ⌝ }
+    requires { ⌜ 120 ≤ length (now keys) ⌝ }
+    ensures { λ r. ⌜ ArrivesAt place port (now (area .entry)) code (now (keys .entry)) (now (keys .exit)) r ⌝ }
 {
     match place {
         Place::Nowhere => {
             if port.required {
-                return refuse(6, 12, 1, 134);
+                return stop(6, 12, 1, 134);
             }
             // the assigned label of a sound port is in its range
             let label = port.assigned;
-            pass(label)
+            label_keys(label, keys);
+            go_on(label.level, label.count)
         }
-        Place::At(at) => read_at(port, area, at, code),
+        Place::At(at) => read_at(port, area, at, code, keys),
     }
 }
 
 // Checks 7 to 14, with an option 134 at an octet.
-fn read_at(port: Port, area: &[u8], at: usize, code: u8) -> Decision
+fn read_at(port: Port, area: &[u8], at: usize, code: u8, keys: &mut [u32]) -> Verdict
     requires { ⌜ length (now area) ≤ 40 ⌝ }
     requires { ⌜ LabelAt (now area) at ⌝ }
-    ensures { λ r. ⌜ (portSound port ≡ true → r ≡ decided false (firstOf (placeChecks (Place.At at) port (now (area .entry)) code)) (labelBy (Place.At at) port (now (area .entry))) 0) ⌝ }
+    requires { ⌜ portSound port ≡ true ⌝ }
+    requires { ⌜ 120 ≤ length (now keys) ⌝ }
+    ensures { λ r. ⌜ ArrivesAt (At at) port (now (area .entry)) code (now (keys .entry)) (now (keys .exit)) r ⌝ }
 {
     let next = at + 1;
     let n = area[next] as usize;
     let end = at + n;
-    let r = read_option_of(&area[at..end], port.domain);
-    if r.number != 0 {
-        return refuse(r.number, 12, 0, (20 + (at + r.pointer)) as u8);
+    let read = read_keys(&area[at..end], port.domain, &mut keys[..]);
+    if read.number != 0 {
+        return stop(read.number, 12, 0, (20 + (at + read.pointer)) as u8);
     }
-    let label = r.label;
-    let lowest = port.lowest;
-    let highest = port.highest;
-    if !between(label, lowest, highest) {
-        return refuse(14, 3, code, 0);
+    hold_within(
+        read.level,
+        read.count,
+        port.lowest,
+        port.highest,
+        code,
+        &keys[..],
+    )
+}
+
+// Check 14 of a level and the first keys: a first look at the range, and a pass where it leaves the answer open.
+fn hold_within(
+    level: u8,
+    count: usize,
+    lowest: Label,
+    highest: Label,
+    code: u8,
+    keys: &[u32],
+) -> Verdict
+    ensures { λ r. ⌜ r ≡ cond (heldBetween lowest highest (going level count) (now (keys .entry))) (going level count) (stopped 14 3 code 0) ⌝ }
+{
+    match look_between(keys, count, level, lowest, highest) {
+        Look::Within => go_on(level, count),
+        Look::Outside => stop(14, 3, code, 0),
+        Look::Open => {
+            if !runs_between(keys, count, lowest, highest) {
+                return stop(14, 3, code, 0);
+            }
+            go_on(level, count)
+        }
     }
-    pass(label)
+}
+
+// Check 2 of the host, and 15: 1 comes before them, 2 of the host before 3 to 14.
+fn reach_host(arrived: Verdict, host: Host, domain: u32, keys: &[u32]) -> Verdict
+    ensures { λ r. ⌜ r ≡ hostedBy arrived host domain (now (keys .entry)) ⌝ }
+{
+    if arrived.number == 1 {
+        return arrived;
+    }
+    if !host_sound(host, domain) {
+        return stop(2, 0, 0, 0);
+    }
+    if arrived.number != 0 {
+        return arrived;
+    }
+    match look_between(
+        keys,
+        arrived.count,
+        arrived.level,
+        host.lowest,
+        host.highest,
+    ) {
+        Look::Within => arrived,
+        Look::Outside => stop(15, 3, 10, 0),
+        Look::Open => {
+            if !runs_between(keys, arrived.count, host.lowest, host.highest) {
+                return stop(15, 3, 10, 0);
+            }
+            arrived
+        }
+    }
 }

@@ -20,14 +20,14 @@ use Rattle.table.specs.declared.Table.{Table}
 use Rattle.table.specs.declared.Partner.{Partner}
 use Rattle.table.specs.declared.Partner.the-variants.{Level, Missing}
 use Rattle.table.specs.Table.{usedRows, tableSound}
-use Rattle.table.specs.Numbers.{partnerOf, numbered}
+use Rattle.table.specs.Numbers.{partnerOf, known, numbered}
 use Rattle.renumber.specs.Renumber as renumbers
 use Rattle.renumber.specs.Renumber.{imageRuns, whenNumbered, renumberedOf}
-use Rattle.gateway.specs.Crossing.{known}
-use Rattle.demands.specs.Alone.{readChecks, spellChecks, renumberChecks, NoneApply, FirstCheck, AskedAlone}
+use Rattle.demands.specs.First.{NoneOf}
+use Rattle.demands.specs.Alone.{readChecks, spellChecks, renumberChecks, FirstCheck, AskedAlone}
 use Rattle.demands.proofs.Renumbering.{renumber-alone}
 
-first-check : (bs as′ : List Check) (c : Check) (l : Label) → NoneApply bs → c .applies ≡ true → firstOf (bs ++ (c ∷ as′)) l ≡ refusal (c .number) (c .pointer)
+first-check : (bs as′ : List Check) (c : Check) (l : Label) → NoneOf (λ (x : Check). x .applies) bs → c .applies ≡ true → firstOf (bs ++ (c ∷ as′)) l ≡ refusal (c .number) (c .pointer)
 first-check [] as′ c l n e = rw e
 first-check (b ∷ bs) as′ c l n e = rw (n .0) (first-check bs as′ c l (n .1) e)
 

@@ -11,3 +11,4 @@ pub mod Order
 pub mod Guards
 pub mod Renumbering
 pub mod Alone
+pub mod Rules

@@ -10,7 +10,7 @@ use lib.Dec.{leb, eqb}
 use borrow.Author.Tests.{leb-true, eqb-true}
 use Rattle.label.specs.declared.Label.{Label}
 use Rattle.label.specs.Runs.{run, allBelow, subset}
-use Rattle.label.specs.Label.{labelOf, wellFormed, typed, member, atMost, leq, inRange, isZero}
+use Rattle.label.specs.Label.{labelOf, wellFormed, labelTyped, member, atMost, leq, inRange, isZero}
 use Rattle.label.proofs.Bools.{and-left, and-right, or-cases, never}
 use Rattle.option.specs.Option.{Means}
 use Rattle.option.specs.Reading.{pieces}
@@ -18,8 +18,8 @@ use Rattle.option.specs.Spelling.{tagFor, bodyFor, spelledBy, spellingOf, spell
 use Rattle.option.proofs.Spellings.{one-spelling}
 use Rattle.reading.specs.Reading.{readingOf, readingFor, readingBy, tagChecks, labelIn}
 use Rattle.reading.proofs.Theorems.{reads}
-use Rattle.area.specs.Area.{walkFrom, walkOf}
-use Rattle.leaving.specs.Kept.{keptFrom, keptOf}
+use Rattle.area.specs.Area.{metFrom, metOf, walkOf}
+use Rattle.leaving.specs.Kept.{keptOf}
 use Rattle.port.specs.Port.{rangeSound, assignedSound, portSound}
 use Rattle.table.specs.Table as tables
 use Rattle.table.specs.Table.{usedRows, rowsSound, levelsSound, tableSound}
@@ -52,19 +52,19 @@ only d v n c e = by (or-cases (leb n c && leb c n) false (and-right (wellFormed 
     by (inr h) = absurd (never (sym h))
 
 formed-near : wellFormed near ≡ true
-unfolding wellFormed typed
+unfolding wellFormed labelTyped
 formed-near = refl
 
 formed-far : wellFormed far ≡ true
-unfolding wellFormed typed
+unfolding wellFormed labelTyped
 formed-far = refl
 
 has-far : member far 1000 ≡ true
-unfolding member wellFormed typed
+unfolding member wellFormed labelTyped
 has-far = refl
 
 has-near : member near 0 ≡ true
-unfolding member wellFormed typed
+unfolding member wellFormed labelTyped
 has-near = refl
 
 sent : (d : ℕ) → sends (usedRows table) 0 d ≡ true → 1000 ≡ d
@@ -100,7 +100,7 @@ apart : (_≡_ {A = ℕ} 5 9) → ⊥
 apart e = omega arith
 
 conditions : Forwards (sample first) near far spelling
-unfolding subset allBelow wellFormed typed atMost leq inRange isZero rangeSound assignedSound portSound walkFrom walkOf keptFrom keptOf tables.typed rowsSound levelsSound tableSound
+unfolding subset allBelow wellFormed labelTyped atMost leq inRange isZero rangeSound assignedSound portSound metFrom metOf walkOf keptOf tables.typed rowsSound levelsSound tableSound
 conditions =
     record {
       area = record { few = omega arith; fourfold = refl };
@@ -120,11 +120,11 @@ conditions =
     }
 
 nothing-kept : keptOf first ≡ []
-unfolding keptFrom keptOf
+unfolding metFrom metOf keptOf
 nothing-kept = refl
 
 pub sample-lines : SampleLines
-unfolding subset allBelow wellFormed typed atMost leq inRange isZero pieces readingFor readingBy tagChecks labelIn walkFrom walkOf keptFrom keptOf rangeSound assignedSound portSound tables.typed rowsSound levelsSound tableSound walkCheck requiredCheck optionCheck arrivingLabel rangeCheck sizes records numberCheck forwardOf
+unfolding subset allBelow wellFormed labelTyped atMost leq inRange isZero pieces readingFor readingBy tagChecks labelIn metFrom metOf walkOf keptOf rangeSound assignedSound portSound tables.typed rowsSound levelsSound tableSound walkCheck requiredCheck optionCheck arrivingLabel rangeCheck sizes records numberCheck forwardOf
 sample-lines =
     record {
       forward = demand2 .always (sample first) near far spelling [] conditions .0;

@@ -1,12 +1,12 @@
 -- The worked decisions hold of the definitions.
 use mathlib.Core.Path.{refl}
 use Rattle.label.specs.Runs.{allBelow, subset}
-use Rattle.label.specs.Label.{wellFormed, typed, atMost, leq, inRange, isZero}
+use Rattle.label.specs.Label.{wellFormed, labelTyped, atMost, leq, inRange, isZero}
 use Rattle.option.specs.Reading.{pieces}
 use Rattle.option.specs.Spelling.{tagFor, bodyFor, spelledBy, spellingOf}
 use Rattle.reading.specs.Reading.{readingFor, readingBy, tagChecks, labelIn}
-use Rattle.area.specs.Area.{walkFrom, walkOf}
-use Rattle.leaving.specs.Kept.{keptFrom, keptOf}
+use Rattle.area.specs.Area.{metFrom, metOf, walkOf}
+use Rattle.leaving.specs.Kept.{keptOf}
 use Rattle.port.specs.Port.{rangeSound, assignedSound, portSound, hostSound}
 use Rattle.label.specs.Range.{setInRange}
 use Rattle.arrival.specs.Checks.{walkCheck, requiredCheck, optionCheck, arrivingLabel, rangeCheck, deliverySizes, deliveryRecords, hostCheck}
@@ -16,5 +16,5 @@ use Rattle.gateway.specs.Forward.{forwardOf, outputOf}
 use Rattle.demands.specs.Worked.{WorkedDecisions}
 
 pub worked-decisions : WorkedDecisions
-unfolding subset allBelow wellFormed typed atMost leq inRange isZero pieces tagFor bodyFor spelledBy spellingOf readingFor readingBy tagChecks labelIn walkFrom walkOf keptFrom keptOf rangeSound assignedSound portSound hostSound setInRange walkCheck requiredCheck optionCheck arrivingLabel rangeCheck deliverySizes deliveryRecords hostCheck deliverOf sizes records numberCheck leavingLevel leavingRuns leavingCheck spellingCheck forwardOf outputOf
+unfolding subset allBelow wellFormed labelTyped atMost leq inRange isZero pieces tagFor bodyFor spelledBy spellingOf readingFor readingBy tagChecks labelIn metFrom metOf walkOf keptOf rangeSound assignedSound portSound hostSound setInRange walkCheck requiredCheck optionCheck arrivingLabel rangeCheck deliverySizes deliveryRecords hostCheck deliverOf sizes records numberCheck leavingLevel leavingRuns leavingCheck spellingCheck forwardOf outputOf
 worked-decisions = refl

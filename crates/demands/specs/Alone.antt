@@ -2,11 +2,12 @@
 -- written; membership and comparing say no of an ill-formed label.
 use mathlib.Core.Path.{_≡_}
 use mathlib.Core.Bool.{true, false, not, _&&_}
-use mathlib.Core.List.{List, [], _∷_, _++_}
+use mathlib.Core.List.{List, [], _∷_}
 use mathlib.Core.Logic.{_↔_}
 use Prim.Native.Nat.{ℕ}
 use lib.Dec.{leb, ltb, eqb}
 use lib.ListN.{length, take}
+use Rattle.demands.specs.First.{FirstOf}
 use Rattle.label.specs.declared.Label.{Label}
 use Rattle.label.specs.Label.{used, labelOf, zeroLabel, emptyOf, wellFormed, member, leq}
 use Rattle.option.specs.Option.{domainOf}
@@ -16,10 +17,9 @@ use Rattle.spelling.specs.Spelling.{lacking, spellingAnswer, spellingOut}
 use Rattle.table.specs.declared.Table.{Table}
 use Rattle.table.specs.declared.Partner.the-variants.{Level}
 use Rattle.table.specs.Table.{usedRows, tableSound}
-use Rattle.table.specs.Numbers.{partnerOf, hasNumber, numbered}
+use Rattle.table.specs.Numbers.{partnerOf, known, hasNumber, numbered}
 use Rattle.renumber.specs.Renumber.{imageRuns, renumberedOf}
 use Rattle.renumber.specs.Theorems.{Far}
-use Rattle.gateway.specs.Crossing.{known}
 
 -- "One option read alone must begin with 134 and fill its buffer, else 3; then 7 to 13, .. 8 for domain 0 only"
 abbrev pub readChecks : List ℕ → List Check
@@ -37,17 +37,9 @@ renumberChecks l t ls =
     ∷ check (not (leb (length (imageRuns l t)) 120)) 18 0
     ∷ []
 
-abbrev pub NoneApply : List Check → Type 0
-NoneApply [] = Unit {0}
-NoneApply (c ∷ cs) = (c .applies ≡ false) × NoneApply cs
-
 -- of the checks in order, c is the first that applies
-pub record FirstCheck (checks : List Check) (c : Check) : Type 0 where
-  pub before : List Check
-  pub after : List Check
-  pub order : checks ≡ before ++ (c ∷ after)
-  pub passed : NoneApply before
-  pub applies : c .applies ≡ true
+abbrev pub FirstCheck : List Check → Check → Type 0
+FirstCheck checks c = FirstOf (λ (x : Check). x .applies) checks c
 
 -- every part of the label has a number: the table is from its domain, its level has a partner, and every category lies in a row
 pub record Numbered (l : Label) (t : Table) (ls : List (List ℕ)) : Type 0 where

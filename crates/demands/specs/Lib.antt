@@ -1,5 +1,7 @@
+pub mod First
 pub mod Demands
 pub mod Worked
 pub mod Sample
 pub mod Guards
 pub mod Alone
+pub mod Rules

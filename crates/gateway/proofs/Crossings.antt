@@ -1,16 +1,19 @@
 -- Laws of checks 16 and 17, and of 18 on the runs.
 use mathlib.Core.Path.{_≡_, refl, sym, _∙_, ap}
 use mathlib.Core.Bool.{Bool, true, false, cond, not, _&&_, _||_, and-false, true≢false}
-use mathlib.Core.List.{List, [], _∷_}
+use mathlib.Core.List.{List, [], _∷_, _++_}
 use mathlib.Core.Option.{Option, none, some}
 use Prim.Native.Nat.{ℕ, _≤_, _<_}
 use native.Mathlib.Omega.{arith}
 use lib.Dec.{leb, ltb, eqb}
-use lib.ListN.{length, take}
+use lib.ListN.{length, take, drop}
+use lib.Seq.{length-take-le, take-append-le, take-take}
 use borrow.Author.Tests.{eq-eqb, ne-eqb, eqb-true, eqb-false, leb-true, leb-false, le-ltb, lt-ltb, ltb-false, le-leb}
 use Rattle.label.specs.declared.Run.{Run}
 use Rattle.label.specs.declared.Label.{Label}
+use Rattle.label.specs.Runs.{spaced}
 use Rattle.label.specs.Label.{used, labelOf, wellFormed, inRange}
+use Rattle.label.specs.Keys.{keyRuns}
 use Rattle.label.specs.Range.{setInRange}
 use Rattle.label.proofs.Bools.{and-left, and-right}
 use Rattle.label.proofs.Labels.{formed, used-length, of-used}
@@ -21,15 +24,20 @@ use Rattle.table.specs.declared.Table.{Table}
 use Rattle.table.specs.declared.Partner.{Partner}
 use Rattle.table.specs.declared.Partner.the-variants.{Level, Missing}
 use Rattle.table.specs.Table.{usedRows, tableSound}
-use Rattle.table.specs.Numbers.{partnerOf, numbered}
+use Rattle.table.specs.Numbers.{partnerOf, known, levelOr0, numbered}
+use Rattle.renumber.specs.declared.Carried.{Carried}
 use Rattle.renumber.specs.declared.Renumbered.{Renumbered}
 use Rattle.renumber.specs.Renumber.{refusal, done, imageRuns, fitted, whenNumbered, carriedOf}
-use Rattle.renumber.specs.Theorems.{Carried}
+use Rattle.renumber.specs.Carry.{notCarried, carriedTo, carriedKeys, carryOf}
+use Rattle.renumber.specs.Theorems as far
+use Rattle.renumber.proofs.Carrying.{label-runs, carry-checked, carry-unsound, carry-two, carried-number, carried-yes, carried-runs, image-spaced}
 use Rattle.renumber.proofs.Theorems.{held-label, carrying}
 use Rattle.arrival.specs.Checks.{Refusal, barred, when, firstOf}
 use Rattle.arrival.proofs.First.{Real, AllReal, real-first, real-when, first-none, when-none, not-false-yes}
-use Rattle.gateway.specs.Crossing.{Crossing, stays, partner, known, levelOr0, hasNumbers, numberCheck, leavingLevel, leavingRuns, leavingCheck, leavingLabel}
-use Rattle.gateway.specs.Stages.{crossingChecks}
+use Rattle.gateway.specs.Crossing.{Crossing, stays, partner, hasNumbers, numberCheck, leavingLevel, leavingRuns, leavingCheck, leavingLabel}
+use Rattle.arrival.specs.declared.Verdict.{Verdict}
+use Rattle.arrival.specs.Verdict.{stopped, going}
+use Rattle.gateway.specs.Stages.{crossingChecks, numberedBy}
 
 -- Every refusal has a number.
 
@@ -125,14 +133,6 @@ module _ (x : Crossing) (apart : x .domain ≡ x .leaving .domain → ⊥) where
   differ : stays x ≡ false
   differ = ne-eqb _ _ apart
 
-  pub crosses-foreign : (x .table .from ≡ x .domain → ⊥) → firstOf (crossingChecks x) ≡ some (barred 16 9)
-  unfolding numberCheck
-  crosses-foreign h = rw (differ, ne-eqb _ _ h)
-
-  pub crosses-elsewhere : x .table .from ≡ x .domain → (x .table .to ≡ x .leaving .domain → ⊥) → firstOf (crossingChecks x) ≡ some (barred 16 9)
-  unfolding numberCheck
-  crosses-elsewhere e h = rw (differ, eq-eqb _ _ e, ne-eqb _ _ h)
-
   module _ (from : x .table .from ≡ x .domain) (to : x .table .to ≡ x .leaving .domain) where
     abbrev img : List Run
     img = imageRuns (x .label) (x .table)
@@ -160,6 +160,107 @@ module _ (x : Crossing) (apart : x .domain ≡ x .leaving .domain → ⊥) where
       crosses-passed h =
           let q = both .passed h in
           (checks-are ∙ q .0, q .1 ∙ ap (λ (n : ℕ). done (labelOf n (levelOr0 (partner x)) img)) to ∙ ap done (sym label-is))
+
+-- Past check 16: the keys stand for the whole set with which the datagram leaves.
+pub record Over (x : Crossing) (keys : List ℕ) : Type 0 where
+  pub numbers : numberCheck x ≡ none
+  pub stands : keyRuns (take (length (leavingRuns x)) keys) ≡ leavingRuns x
+  pub gaps : spaced 0 (leavingRuns x) ≡ true
+
+-- what is said then
+abbrev pub leavingVerdict : Crossing → Verdict
+leavingVerdict x = going (leavingLevel x) (length (leavingRuns x))
+
+-- With equal domains the keys that arrived are those that leave.
+module _ (x : Crossing) (w : wellFormed (x .label) ≡ true) (same : x .domain ≡ x .leaving .domain) (own far keys : List ℕ)
+    (room : 120 ≤ length own) (held : keyRuns (take (x .label .count) own) ≡ used (x .label)) (is : keys ≡ take 120 own ++ drop 120 far) where
+  runs-are : leavingRuns x ≡ used (x .label)
+  unfolding leavingRuns
+  runs-are = rw (eq-eqb (x .domain) (x .leaving .domain) same)
+
+  many : length (leavingRuns x) ≡ x .label .count
+  many = ap length runs-are ∙ used-length (x .label) (formed (x .label) w)
+
+  copied : take (x .label .count) keys ≡ take (x .label .count) own
+  copied =
+      let f = formed (x .label) w .held in
+      let n : length (take 120 own) ≡ 120 = length-take-le 120 own room in
+      ap (take (x .label .count)) is ∙ take-append-le (x .label .count) (take 120 own) (drop 120 far) (omega arith) ∙ take-take (x .label .count) 120 own f
+
+  pub stays-verdict : going (x .label .level) (x .label .count) ≡ leavingVerdict x
+  unfolding leavingLevel
+  stays-verdict = rw (eq-eqb (x .domain) (x .leaving .domain) same) (ap (going (x .label .level)) (sym many))
+
+  pub stays-over : Over x keys
+  unfolding numberCheck
+  stays-over =
+      record {
+        numbers = rw (eq-eqb (x .domain) (x .leaving .domain) same);
+        stands = ap (λ (n : ℕ). keyRuns (take n keys)) many ∙ ap keyRuns copied ∙ held ∙ sym runs-are;
+        gaps = rw runs-are (formed (x .label) w .runs);
+      }
+
+-- With other domains a sound table carries them.
+module _ (x : Crossing) (apart : stays x ≡ false) (w : wellFormed (x .label) ≡ true) (far keys : List ℕ) (room : 184 ≤ length far) (c : Carried)
+    (is : c ≡ carryOf (used (x .label)) (x .label .level) (x .table) (x .levels) (length far)) where
+  abbrev image : List Run
+  image = imageRuns (x .label) (x .table)
+
+  abbrev whole : Bool
+  whole = numbered (usedRows (x .table)) (used (x .label))
+
+  abbrev said : Verdict
+  said = numberedBy c (eqb (x .table .from) (x .domain)) (eqb (x .table .to) (x .leaving .domain))
+
+  pub unsound-verdict : tableSound (x .table) (x .levels) ≡ false → said ≡ stopped 2 0 0 0
+  unfolding numberedBy
+  unsound-verdict t =
+      let e : c ≡ notCarried 2 = is ∙ carry-unsound (used (x .label)) (x .label .level) (x .table) (x .levels) (length far) t in
+      ap (λ (d : Carried). cond (eqb (d .number) 2) (stopped 2 0 0 0) (cond (eqb (x .table .from) (x .domain) && (eqb (x .table .to) (x .leaving .domain) && eqb (d .number) 0)) (going (d .level) (d .count)) (stopped 16 3 9 0))) e
+
+  module _ (t : tableSound (x .table) (x .levels) ≡ true) where
+    checked : c ≡ carriedTo (partner x) whole image
+    checked = is ∙ carry-checked (used (x .label)) (x .label .level) (x .table) (x .levels) (length far) t (label-runs (x .label) w) room
+
+    two : eqb (c .number) 2 ≡ false
+    two = ap (λ (d : Carried). eqb (d .number) 2) is ∙ carry-two (used (x .label)) (x .label .level) (x .table) (x .levels) (length far) (label-runs (x .label) w) room ∙ rw t
+
+    zero : eqb (c .number) 0 ≡ (known (partner x) && whole)
+    zero = ap (λ (d : Carried). eqb (d .number) 0) checked ∙ carried-number (partner x) whole image
+
+    said-is : said ≡ cond (hasNumbers x) (going (c .level) (c .count)) (stopped 16 3 9 0)
+    unfolding numberedBy
+    said-is = rw (two, zero)
+
+    pub numberless-verdict : hasNumbers x ≡ false → said ≡ stopped 16 3 9 0
+    numberless-verdict h = said-is ∙ rw h
+
+    module _ (h : hasNumbers x ≡ true) where
+      all-numbered : (known (partner x) && whole) ≡ true
+      all-numbered = and-right (eqb (x .table .to) (x .leaving .domain)) _ (and-right (eqb (x .table .from) (x .domain)) _ h)
+
+      carried-is : c ≡ record { number = 0; level = levelOr0 (partner x); count = length image }
+      carried-is = checked ∙ carried-yes (partner x) whole image all-numbered
+
+      runs-far : leavingRuns x ≡ image
+      unfolding leavingRuns
+      runs-far = rw apart
+
+      pub carried-verdict : said ≡ leavingVerdict x
+      unfolding leavingLevel leavingRuns
+      carried-verdict = said-is ∙ rw (h, apart) (ap (λ (d : Carried). going (d .level) (d .count)) carried-is)
+
+      pub carried-over : keys ≡ carriedKeys c image far → Over x keys
+      unfolding numberCheck
+      carried-over e =
+          record {
+            numbers = rw (apart, h);
+            stands = ap (λ (rs : List Run). keyRuns (take (length rs) keys)) runs-far
+                ∙ ap (λ (ks : List ℕ). keyRuns (take (length image) ks)) e
+                ∙ carried-runs c image far (ap (λ (d : Carried). d .number) carried-is) (image-spaced (x .table) (used (x .label)))
+                ∙ sym runs-far;
+            gaps = rw runs-far (image-spaced (x .table) (used (x .label)));
+          }
 
 -- what carrying the label over answers
 abbrev carriedBy : Crossing → Renumbered
@@ -196,7 +297,7 @@ crossed x s e = go (eqb (carriedBy x .number) 0) refl
 
 -- it is the label in the far domain, and in the range
 pub crossed-carried : (x : Crossing) → wellFormed (x .label) ≡ true → x .label .domain ≡ x .domain → portSound (x .leaving) ≡ true → tableSound (x .table) (x .levels) ≡ true
-    → Crossed x → Carried (x .label) (x .table) (x .levels) (x .leaving .lowest) (x .leaving .highest) (leavingLabel x)
+    → Crossed x → far.Carried (x .label) (x .table) (x .levels) (x .leaving .lowest) (x .leaving .highest) (leavingLabel x)
 crossed-carried x w d p ts c =
     let g = sound (x .leaving) p .range in
     carrying (x .label) (x .table) (x .levels) (x .leaving .lowest) (x .leaving .highest) (leavingLabel x) w ts (d ∙ sym (c .from)) (g .low-formed) (g .high-formed)

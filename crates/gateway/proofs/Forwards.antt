@@ -8,15 +8,19 @@ use native.Mathlib.Omega.{arith}
 use lib.Dec.{leb, ltb, eqb}
 use lib.ListN.{length, take, drop, replicate, length-append, length-drop}
 use lib.Seq.{take-append-seam, drop-append-seam, drop-drop, drop-at}
-use borrow.Author.Tests.{le-leb, leb-true, leb-false, lt-ltb, le-ltb, ltb-false}
+use borrow.Author.Tests.{le-leb, leb-true, leb-false, lt-ltb, le-ltb, ltb-false, ne-eqb}
+use Rattle.label.specs.declared.Run.{Run}
 use Rattle.label.specs.declared.Label.{Label}
 use Rattle.label.specs.Label.{used, wellFormed}
+use Rattle.label.specs.Range.{setInRange}
 use Rattle.label.proofs.Bools.{and-left, and-right}
 use Rattle.label.proofs.Labels.{used-of}
 use Rattle.option.specs.Spelling.{spellingOf, spelledOf}
-use Rattle.spelling.specs.Spelling.{lacking, lengthOf, Writes}
-use Rattle.spelling.proofs.Answers.{Spelled, length-none, length-some}
+use Rattle.spelling.specs.Spelling.{lacking, lengthOf}
+use Rattle.spelling.specs.Keys.{inFront}
+use Rattle.spelling.proofs.Answers.{spelled-bounds}
 use Rattle.leaving.specs.Kept.{keptOf, roundUp, leavingOf, restCount, restOf}
+use Rattle.leaving.proofs.Laws.{rest-counted, rest-whole}
 use Rattle.port.specs.declared.Port.{Port}
 use Rattle.port.specs.Port.{portSound}
 use Rattle.table.specs.declared.Table.{Table}
@@ -26,9 +30,9 @@ use Rattle.arrival.specs.Checks.{Refusal, silent, barred, when, firstOf, badAre
 use Rattle.arrival.specs.Decision.{refused, done, decided, arrivalChecks}
 use Rattle.arrival.proofs.First.{orElse, first-append, first-none, none-first, when-none, Real, real-first, real-when, not-false-yes, or-none, real-else}
 use Rattle.arrival.proofs.Arrival.{arrival-held, arrival-real}
-use Rattle.gateway.specs.Crossing.{Forwarding, sameDomain, sizes, records, Crossing, crossing, numberCheck, leavingRuns, leavingCheck, leavingLabel, leavingOption, noRoom, spellingCheck}
+use Rattle.gateway.specs.Crossing.{Forwarding, sameDomain, sizes, records, Crossing, crossing, stays, hasNumbers, numberCheck, leavingLevel, leavingRuns, leavingCheck, leavingLabel, leavingOption, noRoom, spellingCheck}
 use Rattle.gateway.specs.Forward.{forwardChecks, leavingCount, forwardOf, octetsOf, outputOf}
-use Rattle.gateway.specs.Stages.{forwardingOf, crossingChecks}
+use Rattle.gateway.specs.Stages.{crossingChecks, hasRoomFor}
 use Rattle.gateway.proofs.Crossings.{crossing-real, crossing-formed}
 
 -- 18 is decided in two steps: on the runs, then on the spelling and the room.
@@ -43,6 +47,10 @@ pub crossing-last : (x : Crossing) (kept : List ℕ)
     → firstOf (numberCheck x ∷ leavingCheck x ∷ spellingCheck x kept ∷ []) ≡ orElse (firstOf (crossingChecks x)) (when (noRoom (leavingOption x) kept) (barred 18 9))
 unfolding spellingCheck
 crossing-last x kept = split18 (numberCheck x) (leavingCheck x) (ltb 120 (length (leavingRuns x))) (noRoom (leavingOption x) kept) (barred 18 9)
+
+-- the test of 16
+abbrev pub numberless : Crossing → Bool
+numberless x = not (stays x || hasNumbers x)
 
 -- the test of the records
 abbrev pub recordsTest : Forwarding → Bool
@@ -81,6 +89,25 @@ module _ (f : Forwarding) where
         pub forward-crossing : (x : Refusal) → firstOf (crossingChecks (crossing f)) ≡ some x → firstOf (forwardChecks f) ≡ some x
         forward-crossing x e = then ∙ rw e
 
+        -- 16, 17 and 18, each where those before it do not apply
+        pub forward-number : numberless (crossing f) ≡ true → firstOf (forwardChecks f) ≡ some (barred 16 9)
+        unfolding numberCheck
+        forward-number e = past ∙ rw (arrived, e)
+
+        module _ (numbered : numberCheck (crossing f) ≡ none) where
+          pub forward-range : setInRange (f .leaving .lowest) (f .leaving .highest) (leavingLevel (crossing f)) (leavingRuns (crossing f)) ≡ false → firstOf (forwardChecks f) ≡ some (barred 17 9)
+          unfolding leavingCheck
+          forward-range e = past ∙ rw (arrived, numbered, e)
+
+          module _ (within : setInRange (f .leaving .lowest) (f .leaving .highest) (leavingLevel (crossing f)) (leavingRuns (crossing f)) ≡ true) where
+            pub forward-spelling : (ltb 120 (length (leavingRuns (crossing f))) || noRoom (leavingOption (crossing f)) (keptOf (f .area))) ≡ true → firstOf (forwardChecks f) ≡ some (barred 18 9)
+            unfolding leavingCheck spellingCheck
+            forward-spelling e = past ∙ rw (arrived, numbered, within, e)
+
+            pub forward-none : (ltb 120 (length (leavingRuns (crossing f))) || noRoom (leavingOption (crossing f)) (keptOf (f .area))) ≡ false → firstOf (forwardChecks f) ≡ none
+            unfolding leavingCheck spellingCheck
+            forward-none e = past ∙ rw (arrived, numbered, within, e)
+
         pub forward-fits : (b : Bool) → firstOf (crossingChecks (crossing f)) ≡ none → noRoom (leavingOption (crossing f)) (keptOf (f .area)) ≡ b → firstOf (forwardChecks f) ≡ when b (barred 18 9)
         forward-fits b e g = then ∙ rw (e, g)
 
@@ -88,12 +115,7 @@ module _ (f : Forwarding) where
 pub leaving-spelled : (x : Crossing) → spelledOf (leavingLabel x) ≡ leavingOption x
 leaving-spelled x = rw (used-of _ _ _)
 
--- The ICMP mark changes no check.
-pub mark-alike : (a l : Port) (t : Table) (ls : List (List ℕ)) (i j : Bool) (area : List ℕ) (room : ℕ)
-    → firstOf (forwardChecks (forwardingOf a l t ls i area room)) ≡ firstOf (forwardChecks (forwardingOf a l t ls j area room))
-unfolding sizes records
-mark-alike a l t ls i j area room = refl
-
+-- A refusal: what is answered, and that nothing is written.
 pub forward-refused : (f : Forwarding) (x : Refusal) (out : List ℕ) → firstOf (forwardChecks f) ≡ some x → (refused (f .icmp) x ≡ forwardOf f) × (out ≡ outputOf f out)
 unfolding forwardOf outputOf
 forward-refused f x out e = (rw e, rw e)
@@ -126,13 +148,15 @@ module _ (s kept out : List ℕ) (fits : length s + length kept ≤ 40) (long : 
       ∙ drop-drop k (length s) out
       ∙ ap (λ (i : ℕ). drop i out) (sym e)
 
-  pub rest-is : restOf (length s) kept (s ++ drop (length s) out) ≡ leavingOf s kept out
-  unfolding restOf
-  rest-is = rw (front-length, le-leb 40 (length out) long, le-leb (length s + length kept) 40 fits, take-append-seam s (drop (length s) out), beyond)
+  pub rest-is : restOf (length s) (length kept) kept (s ++ drop (length s) out) ≡ leavingOf s kept out
+  rest-is =
+      rest-whole (length s) (length kept) kept refl (s ++ drop (length s) out)
+      ∙ rw (front-length, le-leb 40 (length out) long, le-leb (length s + length kept) 40 fits, take-append-seam s (drop (length s) out), beyond)
 
-  pub count-is : restCount (length s) kept (length (s ++ drop (length s) out)) ≡ roundUp (length s + length kept)
-  unfolding restCount
-  count-is = rw (front-length, le-leb 40 (length out) long, le-leb (length s + length kept) 40 fits)
+  pub count-is : restCount (length s) (length kept) kept (length (s ++ drop (length s) out)) ≡ roundUp (length s + length kept)
+  count-is =
+      rest-counted (length s) (length kept) kept refl (length (s ++ drop (length s) out))
+      ∙ rw (front-length, le-leb 40 (length out) long, le-leb (length s + length kept) 40 fits)
 
 pub forward-done : (f : Forwarding) (s out : List ℕ) → firstOf (forwardChecks f) ≡ none → leavingOption (crossing f) ≡ some s
     → (forwardOf f ≡ done (leavingLabel (crossing f)) (roundUp (length s + length (keptOf (f .area))))) × (outputOf f out ≡ leavingOf s (keptOf (f .area)) out)
@@ -140,26 +164,19 @@ unfolding forwardOf outputOf
 forward-done f s out e g = (rw (e, g), rw (e, g))
 
 -- The test of 18, from the length that is measured.
-module _ (l : Label) (kept : List ℕ) (n : ℕ) (w : wellFormed l ≡ true) (is : n ≡ lengthOf (spelledOf l)) where
-  pub room-none : n ≡ 0 → false ≡ not (noRoom (spelledOf l) kept)
-  room-none z = rw (length-none l (sym is ∙ z))
-
-  module _ (some-length : n ≡ 0 → ⊥) where
-    known : Spelled l
-    known = length-some l (λ z. some-length (is ∙ z))
-
-    n-is : n ≡ length (known .option)
-    n-is = is ∙ ap lengthOf (known .spelled)
-
-    pub room-over : 40 < n + length kept → false ≡ not (noRoom (spelledOf l) kept)
-    room-over h = rw (known .spelled, lt-ltb 40 (length (known .option) + length kept) (omega (arith, n-is)))
-
-    pub room-test : (k : ℕ) → k ≡ length kept → n ≤ 40 → leb k (40 - n) ≡ not (noRoom (spelledOf l) kept)
-    room-test k e h = go (leb k (40 - n)) refl
+pub room-is : (d v : ℕ) (rs : List Run) (kept : List ℕ) → hasRoomFor (lengthOf (spellingOf d v rs)) (length kept) ≡ not (noRoom (spellingOf d v rs) kept)
+room-is d v rs kept = go (spellingOf d v rs) refl
+  where
+    within : (n : ℕ) → leb n 40 ≡ not (ltb 40 n)
+    within n = by (leb n 40) refl
       where
-        go : (b : Bool) → leb k (40 - n) ≡ b → b ≡ not (noRoom (spelledOf l) kept)
-        go true q = rw (known .spelled, le-ltb 40 (length (known .option) + length kept) (omega (arith, n-is, leb-true k (40 - n) q)))
-        go false q = rw (known .spelled, lt-ltb 40 (length (known .option) + length kept) (omega (arith, n-is, leb-false k (40 - n) q)))
+        by : (b : Bool) → leb n 40 ≡ b → b ≡ not (ltb 40 n)
+        by true q = rw (le-ltb 40 n (leb-true n 40 q))
+        by false q = rw (lt-ltb 40 n (leb-false n 40 q))
+
+    go : (o : Option (List ℕ)) → spellingOf d v rs ≡ o → hasRoomFor (lengthOf o) (length kept) ≡ not (noRoom o kept)
+    go none e = refl
+    go (some s) e = rw (ne-eqb (length s) 0 (λ z. omega (arith, spelled-bounds d v rs s e .0))) (within (length s + length kept))
 
 -- What is known of a forwarding that passes every check.
 pub record Passed (f : Forwarding) : Type 0 where
@@ -214,24 +231,25 @@ forward-real f =
     (real-else (firstOf (crossingChecks (crossing f))) _ (crossing-real (crossing f)) (real-when (noRoom (leavingOption (crossing f)) (keptOf (f .area))) (barred 18 9) eighteen))))))
 
 -- The option and then the rest are written: what is answered, and what the output holds.
-pub forward-written : (f : Forwarding) (l : Label) (n count : ℕ) (out front back : List ℕ)
+pub forward-written : (f : Forwarding) (l : Label) (n kept count : ℕ) (out front back : List ℕ)
     → f .room ≡ length out
     → firstOf (forwardChecks f) ≡ none
     → l ≡ leavingLabel (crossing f)
-    → Writes l out front n
-    → count ≡ restCount n (keptOf (f .area)) (length front)
-    → back ≡ restOf n (keptOf (f .area)) front
+    → n ≡ lengthOf (leavingOption (crossing f))
+    → front ≡ inFront (leavingOption (crossing f)) out
+    → kept ≡ length (keptOf (f .area))
+    → count ≡ restCount n kept (keptOf (f .area)) (length front)
+    → back ≡ restOf n kept (keptOf (f .area)) front
     → (done l count ≡ forwardOf f) × (back ≡ outputOf f out)
-forward-written f l n count out front back er e el w ec eb =
+forward-written f l n kept count out front back er e el en ef ek ec eb =
     let p = forward-passed f e in
     let s = p .fits .octets in
-    let wl : wellFormed l ≡ true = rw el (passed-formed f p) in
     let long : 40 ≤ length out = omega (arith, p .room) in
-    let sp : spelledOf l ≡ some s = ap spelledOf el ∙ leaving-spelled (crossing f) ∙ p .fits .spelled in
-    let q = w .spelled wl long s sp in
+    let n-is : n ≡ length s = en ∙ ap lengthOf (p .fits .spelled) in
+    let front-is : front ≡ s ++ drop (length s) out = ef ∙ ap (λ (o : Option (List ℕ)). inFront o out) (p .fits .spelled) in
     let d = forward-done f s out e (p .fits .spelled) in
     let c : count ≡ roundUp (length s + length (keptOf (f .area))) =
-    ec ∙ ap (λ (k : ℕ). restCount k (keptOf (f .area)) (length front)) (q .0) ∙ ap (λ (z : List ℕ). restCount (length s) (keptOf (f .area)) (length z)) (q .1) ∙ count-is s (keptOf (f .area)) out (p .fits .room) long in
+    ec ∙ (λ i. restCount (n-is i) (ek i) (keptOf (f .area)) (length (front-is i))) ∙ count-is s (keptOf (f .area)) out (p .fits .room) long in
     let b : back ≡ leavingOf s (keptOf (f .area)) out =
-    eb ∙ ap (λ (k : ℕ). restOf k (keptOf (f .area)) front) (q .0) ∙ ap (restOf (length s) (keptOf (f .area))) (q .1) ∙ rest-is s (keptOf (f .area)) out (p .fits .room) long in
+    eb ∙ (λ i. restOf (n-is i) (ek i) (keptOf (f .area)) (front-is i)) ∙ rest-is s (keptOf (f .area)) out (p .fits .room) long in
     ((λ i. done (el i) (c i)) ∙ sym (d .0), b ∙ sym (d .1))

@@ -15,9 +15,8 @@ use Rattle.port.specs.declared.Port.{Port}
 use Rattle.port.specs.Port.{portSound}
 use Rattle.table.specs.declared.Table.{Table}
 use Rattle.table.specs.declared.Partner.{Partner}
-use Rattle.table.specs.declared.Partner.the-variants.{Level, Missing}
 use Rattle.table.specs.Table.{usedRows, tableSound}
-use Rattle.table.specs.Numbers.{partnerOf, numbered}
+use Rattle.table.specs.Numbers.{partnerOf, known, levelOr0, numbered}
 use Rattle.renumber.specs.Renumber.{imageRuns}
 use Rattle.arrival.specs.Checks.{Refusal, silent, barred, when, badArea, arrivingLabel}
 
@@ -68,14 +67,6 @@ stays x = eqb (x .domain) (x .leaving .domain)
 -- the level's partner in the far domain, where it has one
 abbrev pub partner : Crossing → Partner
 partner x = partnerOf (take (x .table .pairs) (x .levels)) (x .label .level)
-
-abbrev pub known : Partner → Bool
-known Missing = false
-known (Level v) = true
-
-abbrev pub levelOr0 : Partner → ℕ
-levelOr0 Missing = 0
-levelOr0 (Level v) = v
 
 -- the table's domains are the two ports', and the level and every category have a number
 abbrev pub hasNumbers : Crossing → Bool

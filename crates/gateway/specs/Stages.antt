@@ -1,14 +1,26 @@
 -- What the private stages of a decision answer, in the terms of the checks; no public contract names these but for the inputs put together.
-use mathlib.Core.Bool.{Bool}
-use mathlib.Core.List.{List, [], _∷_}
+use mathlib.Core.Bool.{Bool, true, cond, not, _&&_, _||_}
+use mathlib.Core.List.{List, [], _∷_, _++_}
 use mathlib.Core.Option.{Option}
-use Prim.Native.Nat.{ℕ}
-use lib.Dec.{ltb}
-use lib.ListN.{length}
+use mathlib.Core.Path.{_≡_}
+use Prim.Native.Nat.{ℕ, _+_}
+use lib.Dec.{leb, ltb, eqb}
+use lib.ListN.{length, take, drop}
 use Rattle.label.specs.declared.Label.{Label}
+use Rattle.label.specs.Keys.{keyRuns}
+use Rattle.spelling.specs.Spelling.{lengthOf}
+use Rattle.spelling.specs.Keys.{keysSpelled, keysCount, keysWritten}
+use Rattle.leaving.specs.Kept.{keptOf, restCount, restOf}
 use Rattle.port.specs.declared.Port.{Port}
 use Rattle.table.specs.declared.Table.{Table}
+use Rattle.table.specs.Table.{tableSound}
+use Rattle.renumber.specs.declared.Carried.{Carried}
+use Rattle.renumber.specs.Renumber.{imageOf}
+use Rattle.renumber.specs.Carry.{carriedKeys, carryOf}
+use Rattle.arrival.specs.declared.Verdict.{Verdict}
 use Rattle.arrival.specs.Checks.{Refusal, barred, when}
+use Rattle.arrival.specs.Verdict.{stopped, going}
+use Rattle.arrival.specs.Stages.{heldBetween}
 use Rattle.gateway.specs.Crossing.{Forwarding, Crossing, numberCheck, leavingCheck, leavingRuns}
 
 -- the inputs of a forwarding
@@ -16,9 +28,49 @@ abbrev pub forwardingOf : Port → Port → Table → List (List ℕ) → Bool �
 forwardingOf a l t ls icmp area room =
     record { arriving = a; leaving = l; table = t; levels = ls; icmp = icmp; area = area; room = room }
 
-abbrev pub crossingOf : Label → ℕ → Port → Table → List (List ℕ) → Crossing
-crossingOf l d p t ls = record { label = l; domain = d; leaving = p; table = t; levels = ls }
-
 -- checks 16 and 17, and that of 18 on the runs
 abbrev pub crossingChecks : Crossing → List (Option Refusal)
 crossingChecks x = numberCheck x ∷ leavingCheck x ∷ when (ltb 120 (length (leavingRuns x))) (barred 18 9) ∷ []
+
+-- 1 of the output, then 2 of the leaving port, before what else was found on arrival
+unfoldable pub recordedBy : Verdict → ℕ → Bool → Verdict
+recordedBy r room sound = cond (eqb (r .number) 1) r (cond (ltb room 40) (stopped 1 0 0 0) (cond sound r (stopped 2 0 0 0)))
+
+-- 2 of the table, before 3 to 14
+unfoldable pub tabledBy : Verdict → Table → List (List ℕ) → Verdict
+tabledBy r table levels = cond (leb (r .number) 2 || tableSound table levels) r (stopped 2 0 0 0)
+
+-- 2 of the table, then 16; `from` and `to` say whether the table's domains are the two ports'
+unfoldable pub numberedBy : Carried → Bool → Bool → Verdict
+numberedBy c from to =
+    cond (eqb (c .number) 2) (stopped 2 0 0 0)
+    (cond (from && (to && eqb (c .number) 0)) (going (c .level) (c .count)) (stopped 16 3 9 0))
+
+-- with equal domains the keys stay; with others the table is looked at, and carries them where no check applies
+pub record Crosses (arrived : Verdict) (domain leaving : ℕ) (table : Table) (levels : List (List ℕ)) (own far far′ : List ℕ) (r : Verdict) : Type 0 where
+  pub same : domain ≡ leaving → (r ≡ arrived) × (far′ ≡ take 120 own ++ drop 120 far)
+  pub refused : (domain ≡ leaving → ⊥) → (arrived .number ≡ 0 → ⊥) → r ≡ tabledBy arrived table levels
+  pub carried : (domain ≡ leaving → ⊥) → arrived .number ≡ 0 → (c : Carried)
+      × (c ≡ carryOf (keyRuns (take (arrived .count) own)) (arrived .level) table levels (length far))
+      × (r ≡ numberedBy c (eqb (table .from) domain) (eqb (table .to) leaving))
+      × (far′ ≡ carriedKeys c (imageOf table (keyRuns (take (arrived .count) own))) far)
+
+-- 17
+unfoldable pub heldBy : Verdict → Label → Label → List ℕ → Verdict
+heldBy r lowest highest keys = cond (eqb (r .number) 0) (cond (heldBetween lowest highest r keys) r (stopped 17 3 9 0)) r
+
+-- there is an option of this size, and 40 octets hold it and the kept ones
+abbrev pub hasRoomFor : ℕ → ℕ → Bool
+hasRoomFor size kept = not (eqb size 0) && leb (size + kept) 40
+
+-- 18, in a domain
+unfoldable pub fittedBy : ℕ → Verdict → ℕ → List ℕ → Verdict
+fittedBy d r kept keys =
+    cond (eqb (r .number) 0)
+    (cond (leb (r .count) 120 && hasRoomFor (lengthOf (keysSpelled d (r .level) (take (r .count) keys))) kept) r (stopped 18 3 9 0)) r
+
+-- the leaving area, of a forwarding
+pub record Writes (r : Verdict) (domain kept : ℕ) (area keys out out′ : List ℕ) (n : ℕ) : Type 0 where
+  pub nothing : (r .number ≡ 0 → ⊥) → out′ ≡ out
+  pub counted : r .number ≡ 0 → n ≡ restCount (keysCount domain (r .level) (take (r .count) keys) (length out)) kept (keptOf area) (length (keysWritten domain (r .level) (take (r .count) keys) out))
+  pub written : r .number ≡ 0 → out′ ≡ restOf (keysCount domain (r .level) (take (r .count) keys) (length out)) kept (keptOf area) (keysWritten domain (r .level) (take (r .count) keys) out)

@@ -1,36 +1,33 @@
 // Forward (document 01, "The order of checks" and "The leaving area"): the checks in the order of their numbers, and only a forwarding writes.
 use arrival::Decision;
+use arrival::Verdict;
 use arrival::arrive;
-use arrival::bad_area;
-use arrival::between;
-use arrival::pass;
-use arrival::refuse;
-use arrival::report;
+use arrival::conclude;
+use arrival::go_on;
+use arrival::stop;
 use label::Label;
+use label::Look;
+use label::look_between;
+use label::runs_between;
 use leaving::count_kept;
 use leaving::write_rest;
 use port::Port;
 use port::port_sound;
+use renumber::Carried;
 use renumber::carry;
-use spelling::option_length;
-use spelling::write_option;
+use spelling::keys_length;
+use spelling::write_keys;
 use table::Table;
 use table::table_sound;
 ghost use mathlib.Core.Path.{_≡_};
-ghost use mathlib.Core.Bool.{true, false, _&&_, _||_, not};
-ghost use Prim.Native.Nat.{_≤_};
-ghost use lib.ListN.{length};
+ghost use mathlib.Core.Bool.{cond};
+ghost use mathlib.Core.List.{_++_};
+ghost use Prim.Native.Nat.{ℕ, _≤_};
+ghost use lib.ListN.{length, take, drop};
 ghost use lib.Dec.{eqb};
-ghost use Rattle.label.specs.Label.{wellFormed};
-ghost use Rattle.option.specs.Spelling.{spelledOf};
 ghost use Rattle.leaving.specs.Kept.{keptOf};
-ghost use Rattle.port.specs.Port.{portSound};
-ghost use Rattle.table.specs.Table.{tableSound};
-ghost use Rattle.arrival.specs.Checks.{firstOf};
-ghost use Rattle.arrival.specs.Decision.{decided};
-ghost use Rattle.gateway.specs.Crossing.{crossing, leavingLabel, noRoom};
-ghost use Rattle.gateway.specs.Forward.{forwardChecks, forwardOf, outputOf};
-ghost use Rattle.gateway.specs.Stages.{forwardingOf, crossingOf, crossingChecks};
+ghost use Rattle.gateway.specs.Forward.{forwardOf, outputOf};
+ghost use Rattle.gateway.specs.Stages.{forwardingOf, recordedBy, tabledBy, numberedBy, Crosses, heldBy, hasRoomFor, fittedBy, Writes};
 
 // Decides whether a datagram is forwarded from the arriving to the leaving port, and writes its leaving area.
 pub fn forward(
@@ -45,118 +42,192 @@ pub fn forward(
     ensures { λ r. ⌜ r ≡ forwardOf (forwardingOf arriving leaving table levels icmp (now (area .entry)) (length (now (out .entry)))) ⌝ }
     ensures { λ _. ⌜ now (out .exit) ≡ outputOf (forwardingOf arriving leaving table levels icmp (now (area .entry)) (length (now (out .entry)))) (now (out .entry)) ⌝ }
 {
-    let d = decide(arriving, leaving, table, levels, area, out.len());
-    if d.number != 0 {
-        return report(d, icmp);
-    }
-    let label = d.label;
-    let n = write_option(label, &mut out[..]);
-    let count = write_rest(area, n, &mut out[..]);
-    Decision {
-        number: 0,
-        kind: 0,
-        code: 0,
-        pointer: 0,
-        count: count,
-        label: label,
-    }
+    let mut own = [0u32; 120];
+    let mut far = [0u32; 184];
+    // before anything is written, so that the port is not copied for a later look
+    let sound = port_sound(leaving);
+    let arrived = arrive(arriving, area, 9, &mut own);
+    let ready = check_leaving(arrived, out.len(), sound);
+    let crossed = cross(
+        ready,
+        arriving.domain,
+        leaving.domain,
+        table,
+        levels,
+        &own,
+        &mut far,
+    );
+    let held = hold_leaving(crossed, leaving.lowest, leaving.highest, &far);
+    let kept = kept_by(held, area);
+    let verdict = fit(held, kept, &far);
+    let count = write_area(verdict, leaving.domain, kept, area, &far, &mut out[..]);
+    conclude(verdict, leaving.domain, icmp, count, &far)
 }
 
-// Checks 1 to 18; nothing is written, and the ICMP mark is not looked at.
-fn decide(
-    arriving: Port,
-    leaving: Port,
-    table: Table,
-    levels: [[u8; 2]; 16],
-    area: &[u8],
-    room: usize,
-) -> Decision
-    ensures { λ r. ⌜ r ≡ decided false (firstOf (forwardChecks (forwardingOf arriving leaving table levels false (now (area .entry)) room))) (leavingLabel (crossing (forwardingOf arriving leaving table levels false (now (area .entry)) room))) 0 ⌝ }
+// Check 1 of the output, and 2 of the leaving port: before 3 to 14 of what arrived.
+fn check_leaving(arrived: Verdict, room: usize, sound: bool) -> Verdict
+    ensures { λ r. ⌜ r ≡ recordedBy arrived room sound ⌝ }
 {
-    if bad_area(area.len()) {
-        return refuse(1, 0, 0, 0);
+    if arrived.number == 1 {
+        return arrived;
     }
     if room < 40 {
-        return refuse(1, 0, 0, 0);
+        return stop(1, 0, 0, 0);
     }
-    if !records_sound(arriving, leaving, table, levels) {
-        return refuse(2, 0, 0, 0);
+    if !sound {
+        return stop(2, 0, 0, 0);
     }
-    let a = arrive(arriving, area, 9);
-    if a.number != 0 {
-        return a;
-    }
-    let label = a.label;
-    let c = cross(label, arriving.domain, leaving, table, levels);
-    if c.number != 0 {
-        return c;
-    }
-    let far = c.label;
-    if !fits(far, area) {
-        return refuse(18, 3, 9, 0);
-    }
-    c
+    arrived
 }
 
-// Check 2: the table is read when the ports' domains differ.
-fn records_sound(arriving: Port, leaving: Port, table: Table, levels: [[u8; 2]; 16]) -> bool
-    ensures { λ r. ⌜ r ≡ (portSound arriving && (portSound leaving && (eqb (arriving .domain) (leaving .domain) || tableSound table levels))) ⌝ }
+// Check 2 of the table, which is read when the domains differ, and 16: the keys of the far domain. With equal domains the keys stay.
+fn cross(
+    arrived: Verdict,
+    domain: u32,
+    leaving: u32,
+    table: Table,
+    levels: [[u8; 2]; 16],
+    own: &[u32],
+    far: &mut [u32],
+) -> Verdict
+    requires { ⌜ (120 ≤ length (now own)) × (120 ≤ length (now far)) ⌝ }
+    ensures { λ r. ⌜ Crosses arrived domain leaving table levels (now (own .entry)) (now (far .entry)) (now (far .exit)) r ⌝ }
 {
-    if !port_sound(arriving) {
-        return false;
+    if domain == leaving {
+        copy_keys(own, far);
+        return arrived;
     }
-    if !port_sound(leaving) {
-        return false;
+    if arrived.number != 0 {
+        return check_table(arrived, table, levels);
     }
-    if arriving.domain == leaving.domain {
-        return true;
-    }
-    table_sound(table, levels)
+    // carrying checks the table itself
+    let carried = carry(own, arrived.count, arrived.level, table, levels, far);
+    number_over(carried, table.from == domain, table.to == leaving)
 }
 
-// Checks 16 and 17, and that of 18 on the runs: the label with which the datagram leaves.
-fn cross(label: Label, domain: u32, leaving: Port, table: Table, levels: [[u8; 2]; 16]) -> Decision
-    requires { ⌜ wellFormed label ≡ true ⌝ }
-    requires { ⌜ label .domain ≡ domain ⌝ }
-    requires { ⌜ portSound leaving ≡ true ⌝ }
-    requires { ⌜ (eqb domain (leaving .domain) || tableSound table levels) ≡ true ⌝ }
-    ensures { λ r. ⌜ r ≡ decided false (firstOf (crossingChecks (crossingOf label domain leaving table levels))) (leavingLabel (crossingOf label domain leaving table levels)) 0 ⌝ }
+// As many keys as a label has runs.
+fn copy_keys(own: &[u32], far: &mut [u32])
+    requires { ⌜ (120 ≤ length (now own)) × (120 ≤ length (now far)) ⌝ }
+    ensures { λ _. ⌜ now (far .exit) ≡ take 120 (now (own .entry)) ++ drop 120 (now (far .entry)) ⌝ }
 {
-    let lowest = leaving.lowest;
-    let highest = leaving.highest;
-    if domain == leaving.domain {
-        if !between(label, lowest, highest) {
-            return refuse(17, 3, 9, 0);
+    let mut i: usize = 0;
+    while i < Label::MAX_RUNS {
+        far[i] = own[i];
+        i += 1;
+    }
+}
+
+// Check 2 of the table, where another check applies: before 3 to 14.
+fn check_table(arrived: Verdict, table: Table, levels: [[u8; 2]; 16]) -> Verdict
+    ensures { λ r. ⌜ r ≡ tabledBy arrived table levels ⌝ }
+{
+    if arrived.number <= 2 {
+        return arrived;
+    }
+    if !table_sound(table, levels) {
+        return stop(2, 0, 0, 0);
+    }
+    arrived
+}
+
+// What carrying the label over says: 2 of the table, then 16, also for a table of other domains.
+fn number_over(carried: Carried, from: bool, to: bool) -> Verdict
+    ensures { λ r. ⌜ r ≡ numberedBy carried from to ⌝ }
+{
+    if carried.number == 2 {
+        return stop(2, 0, 0, 0);
+    }
+    if !from {
+        return stop(16, 3, 9, 0);
+    }
+    if !to {
+        return stop(16, 3, 9, 0);
+    }
+    if carried.number != 0 {
+        return stop(16, 3, 9, 0);
+    }
+    go_on(carried.level, carried.count)
+}
+
+// Check 17, of the whole set: a first look at the range, and a pass where it leaves the answer open.
+fn hold_leaving(crossed: Verdict, lowest: Label, highest: Label, keys: &[u32]) -> Verdict
+    ensures { λ r. ⌜ r ≡ heldBy crossed lowest highest (now (keys .entry)) ⌝ }
+{
+    if crossed.number != 0 {
+        return crossed;
+    }
+    match look_between(keys, crossed.count, crossed.level, lowest, highest) {
+        Look::Within => crossed,
+        Look::Outside => stop(17, 3, 9, 0),
+        Look::Open => {
+            if !runs_between(keys, crossed.count, lowest, highest) {
+                return stop(17, 3, 9, 0);
+            }
+            crossed
         }
-        return pass(label);
     }
-    if table.from != domain {
-        return refuse(16, 3, 9, 0);
-    }
-    if table.to != leaving.domain {
-        return refuse(16, 3, 9, 0);
-    }
-    let r = carry(label, table, levels, lowest, highest);
-    if r.number != 0 {
-        return refuse(r.number, 3, 9, 0);
-    }
-    let far = r.label;
-    pass(far)
 }
 
-// The rest of check 18: the label has a spelling, and the options have room.
-fn fits(far: Label, area: &[u8]) -> bool
-    requires { ⌜ wellFormed far ≡ true ⌝ }
-    requires { ⌜ length (now area) ≤ 40 ⌝ }
-    ensures { λ r. ⌜ r ≡ not (noRoom (spelledOf far) (keptOf (now (area .entry)))) ⌝ }
+// How many octets of other options are kept; none where the datagram is refused.
+fn kept_by(held: Verdict, area: &[u8]) -> usize
+    ensures { λ r. ⌜ r ≡ cond (eqb (held .number) 0) (length (keptOf (now (area .entry)))) 0 ⌝ }
 {
-    let size = option_length(far);
+    if held.number != 0 {
+        return 0;
+    }
+    count_kept(area)
+}
+
+// Check 18: a label holds the set, it has a spelling, and the options have room.
+fn fit(held: Verdict, kept: usize, keys: &[u32]) -> Verdict
+    requires { ⌜ 120 ≤ length (now keys) ⌝ }
+    ensures { λ r. ⌜ ((d : ℕ) → r ≡ fittedBy d held kept (now (keys .entry))) ⌝ }
+    ensures { λ r. ⌜ (r .number ≡ 0 → r .count ≤ 120) ⌝ }
+{
+    if held.number != 0 {
+        return held;
+    }
+    let n = held.count;
+    if Label::MAX_RUNS < n {
+        return stop(18, 3, 9, 0);
+    }
+    let size = keys_length(&keys[..n]);
+    if !has_room(size, kept) {
+        return stop(18, 3, 9, 0);
+    }
+    held
+}
+
+// Whether there is an option of this size, and 40 octets hold it and the kept ones.
+fn has_room(size: usize, kept: usize) -> bool
+    ensures { λ r. ⌜ r ≡ hasRoomFor size kept ⌝ }
+{
     if size == 0 {
         return false;
     }
-    let kept = count_kept(area);
     if 40 < size {
         return false;
     }
     kept <= 40 - size
+}
+
+// Writes the leaving area of a forwarding, and answers its count; a refusal writes nothing.
+fn write_area(
+    verdict: Verdict,
+    domain: u32,
+    kept: usize,
+    area: &[u8],
+    keys: &[u32],
+    out: &mut [u8],
+) -> usize
+    requires { ⌜ (verdict .number ≡ 0 → verdict .count ≤ length (now keys)) ⌝ }
+    ensures { λ r. ⌜ Writes verdict domain kept (now (area .entry)) (now (keys .entry)) (now (out .entry)) (now (out .exit)) r ⌝ }
+{
+    if verdict.number != 0 {
+        return 0;
+    }
+    let n = verdict.count;
+    let size = write_keys(&keys[..n], domain, verdict.level, &mut out[..]);
+    let count = write_rest(area, size, kept, &mut out[..]);
+    count
 }

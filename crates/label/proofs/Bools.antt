@@ -30,6 +30,10 @@ pub or-cases : (a b : Bool) → (a || b) ≡ true → (a ≡ true) ⊎ (b ≡ tr
 or-cases true b e = inl refl
 or-cases false b e = inr e
 
+pub or-none : (a b : Bool) → (a || b) ≡ false → (a ≡ false) × (b ≡ false)
+or-none false b e = (refl, e)
+or-none true b e = absurd (never e)
+
 pub or-true-right : (a : Bool) {b : Bool} → b ≡ true → (a || b) ≡ true
 or-true-right true e = refl
 or-true-right false e = e

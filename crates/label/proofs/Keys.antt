@@ -4,31 +4,34 @@ use mathlib.Core.Path.{_≡_, refl, sym, _∙_, ap}
 use mathlib.Core.Bool.{true}
 use mathlib.Core.List.{List, [], _∷_, _++_, map, map-append, append-assoc}
 use mathlib.Core.Logic.{⊎-elim}
-use Prim.Native.Nat.{ℕ, zero, suc, _+_, _/_, _%_, _≤_, _<_, min}
+use Prim.Native.Nat.{ℕ, zero, suc, _+_, _*_, _/_, _%_, _≤_, _<_, min}
 use native.Mathlib.Omega.{arith}
 use native.Mathlib.Numerals.{add-one}
 use lib.ListN.{length, take, drop, getD, set, length-map, length-take, length-append}
-use lib.Seq.{take-suc, take-all, take-length, length-take-le, set-append-seam}
+use lib.Seq.{take-suc, take-all, take-length, length-take-le, set-append-seam, drop-cons, set-at}
 use borrow.Author.Tests.{le-leb, lt-leb}
 use Rattle.label.specs.declared.Run.{Run}
 use Rattle.label.specs.declared.Label.{Label}
 use Rattle.label.specs.Runs.{spaced, topOf}
-use Rattle.label.specs.Label.{labelOf}
+use Rattle.label.specs.Label.{noRun, labelOf}
 use Rattle.label.specs.Keys.{keyRun, keyRuns, runKey, labelFrom}
 use Rattle.label.proofs.Bools.{less-or}
-use Rattle.label.proofs.Runs.{first}
+use Rattle.label.proofs.Canon.{Below, spaced-below, below-weaken}
 use Rattle.label.proofs.Labels.{with-run-of}
 use Rattle.label.proofs.Steps.{next, next-used, used-up}
 
--- spaced runs as keys are these runs
+-- runs below 65536, spaced or not, as keys are these runs
+pub keys-back : (rs : List Run) → Below 65536 rs → keyRuns (map runKey rs) ≡ rs
+keys-back [] b = refl
+keys-back (r ∷ rs) b =
+    let l : (r .low * 65536 + r .high) / 65536 ≡ r .low = omega (arith, b .0) in
+    let h : (r .low * 65536 + r .high) % 65536 ≡ r .high = omega (arith, b .0) in
+    let t = keys-back rs (b .1) in
+    λ i. (record { low = l i; high = h i }) ∷ t i
+
+-- so are spaced runs
 pub keys-runs : (f : ℕ) (xs : List Run) → spaced f xs ≡ true → keyRuns (map runKey xs) ≡ xs
-keys-runs f [] e = refl
-keys-runs f (x ∷ xs) e =
-    let s = first f x xs e in
-    let t = keys-runs (x .high + 2) xs (s .rest) in
-    let a : runKey x / 65536 ≡ x .low = omega (arith, s .top) in
-    let b : runKey x % 65536 ≡ x .high = omega (arith, s .top) in
-    λ i. record { low = a i; high = b i } ∷ t i
+keys-runs f xs e = keys-back xs (below-weaken 65535 65536 xs (omega arith) (spaced-below f xs e))
 
 -- the first n, or all
 pub take-min : {A : Type 0} (n : ℕ) (l : List A) → take (min n (length l)) l ≡ take n l
@@ -97,3 +100,17 @@ module _ (d v : ℕ) (ks : List ℕ) (n m : ℕ) (is : m ≡ min n (length ks)) 
       let e : take m ks ≡ take n ks = ap (λ (z : ℕ). take z ks) is ∙ take-min n ks in
       let f : length (keyRuns (take n ks)) ≤ 120 = omega (arith, runs-length) in
       sym (rw (le-leb (length (keyRuns (take n ks))) 120 f) (ap (λ (z : List ℕ). labelOf d v (keyRuns z)) (sym e)))
+
+-- the run of a key by its place
+pub key-at : (ks : List ℕ) (i : ℕ) → getD (keyRuns ks) i noRun ≡ keyRun (getD ks i 0)
+key-at [] i = refl
+key-at (k ∷ ks) zero = refl
+key-at (k ∷ ks) (suc i) = key-at ks i
+
+-- one element more is written at the front of a list
+pub front-store : (xs was : List ℕ) (y : ℕ) → length xs < length was
+    → set (xs ++ drop (length xs) was) (length xs) y ≡ (xs ++ y ∷ []) ++ drop (length (xs ++ y ∷ [])) was
+front-store xs was y h =
+    let n : length (xs ++ y ∷ []) ≡ length xs + 1 = length-append xs (y ∷ []) in
+    rw (n, add-one (length xs), drop-cons was (length xs) 0 h)
+    (set-at xs (getD was (length xs) 0) (drop (suc (length xs)) was) y (length xs) refl ∙ sym (append-assoc xs (y ∷ []) (drop (suc (length xs)) was)))

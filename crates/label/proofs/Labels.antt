@@ -11,7 +11,7 @@ use borrow.Author.Tests.{leb-true, eqb-false, eqb-true, not-true, le-leb, ne-eqb
 use Rattle.label.specs.declared.Run.{Run}
 use Rattle.label.specs.declared.Label.{Label}
 use Rattle.label.specs.Runs.{covers, spaced, unused}
-use Rattle.label.specs.Label.{noRun, used, labelOf, typed, wellFormed, member, atMost, leq, compared}
+use Rattle.label.specs.Label.{noRun, used, labelOf, labelTyped, wellFormed, member, atMost, leq, compared}
 use Rattle.label.specs.Theorems.{AtMost}
 use Rattle.label.proofs.Bools.{and-left, and-right}
 use Rattle.label.proofs.Runs.{Sub, subset-sub, sub-subset, one-form}
@@ -28,7 +28,7 @@ pub record Formed (l : Label) : Type 0 where
   pub places : length (l .runs) ≡ 120
 
 pub formed : (l : Label) → wellFormed l ≡ true → Formed l
-unfolding wellFormed typed
+unfolding wellFormed labelTyped
 formed l e =
     let e1 = and-right (not (eqb (l .domain) 0)) _ e in
     let e2 = and-right (leb (l .count) 120) _ e1 in
@@ -46,8 +46,8 @@ formed l e =
     }
 
 -- What the types of the fields say.
-pub typed-yes : (l : Label) → l .domain ≤ 4294967295 → l .level ≤ 255 → length (l .runs) ≡ 120 → typed l ≡ true
-unfolding typed
+pub typed-yes : (l : Label) → l .domain ≤ 4294967295 → l .level ≤ 255 → length (l .runs) ≡ 120 → labelTyped l ≡ true
+unfolding labelTyped
 typed-yes l d v n = simp (le-leb _ _ d, le-leb _ _ v, eq-eqb _ _ n)
 
 pub well-formed : (l : Label) → Formed l → wellFormed l ≡ true
@@ -56,7 +56,7 @@ well-formed l f =
     simp (ne-eqb _ _ (f .owned), le-leb _ _ (f .held), f .runs, f .rest) (typed-yes l (f .domain) (f .level) (f .places))
 
 -- the runs decide where the other parts hold
-pub well-formed-runs : (l : Label) → (l .domain ≡ 0 → ⊥) → l .count ≤ 120 → typed l ≡ true
+pub well-formed-runs : (l : Label) → (l .domain ≡ 0 → ⊥) → l .count ≤ 120 → labelTyped l ≡ true
     → wellFormed l ≡ (spaced 0 (used l) && unused (drop (l .count) (l .runs)))
 unfolding wellFormed
 well-formed-runs l o h t = simp (ne-eqb _ _ o, le-leb _ _ h, t, and-true)

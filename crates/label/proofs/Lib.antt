@@ -1,5 +1,6 @@
 pub mod Bools
 pub mod Steps
+pub mod Form
 pub mod Runs
 pub mod Places
 pub mod Pass

@@ -1,15 +1,16 @@
 -- Laws of lists of runs: what a spaced list covers, one form for one set, and when one list lies in another.
 use mathlib.Core.Path.{_≡_, refl, sym, _∙_, ap}
-use mathlib.Core.Bool.{Bool, true, false, _&&_, _||_, and-false, or-assoc}
+use mathlib.Core.Bool.{Bool, true, false, _||_, and-false, or-assoc}
 use mathlib.Core.List.{List, [], _∷_, _++_}
 use mathlib.Core.Logic.{_⊎_, inl, inr, ⊎-elim}
-use Prim.Native.Nat.{ℕ, zero, suc, _+_, _-_, _≤_, _<_}
+use Prim.Native.Nat.{ℕ, _+_, _-_, _≤_, _<_}
 use native.Mathlib.Omega.{arith}
 use lib.Dec.{leb}
 use borrow.Author.Tests.{leb-true, le-leb, lt-leb}
 use Rattle.label.specs.declared.Run.{Run}
 use Rattle.label.specs.Runs.{inRun, covers, spaced, allBelow, subset}
-use Rattle.label.proofs.Bools.{never, and-left, and-right, and-both, not-yes, or-cases, or-true-right, less-or, all-below, below-all}
+use Rattle.label.proofs.Form.{Canon, unique}
+use Rattle.label.proofs.Bools.{never, same-yes, and-left, and-right, and-both, or-cases, or-true-right, less-or, all-below, below-all}
 
 -- What a spaced list says of its first run.
 pub record First (f : ℕ) (r : Run) (rs : List Run) : Type 0 where
@@ -121,28 +122,14 @@ pub inside : (r : Run) (xs : List Run) (s : Run) (ys : List Run) → s .low ≤ 
 inside r xs s ys h l k c e =
     ⊎-elim (λ w. covers-in s ys c (omega arith) (omega arith)) (λ w. k c w) (covers-cases r xs c e)
 
+pub spaced-canon : (f : ℕ) (rs : List Run) → spaced f rs ≡ true → Canon f rs
+spaced-canon f [] e = tt
+spaced-canon f (r ∷ rs) e = let s = first f r rs e in (s .from, s .ordered, spaced-canon (r .high + 2) rs (s .rest))
+
 -- One set has one form: two spaced lists that cover the same categories are equal.
 pub one-form : (f g : ℕ) (xs ys : List Run) → spaced f xs ≡ true → spaced g ys ≡ true → Sub xs ys → Sub ys xs → xs ≡ ys
-one-form f g [] [] d e h k = refl
-one-form f g [] (s ∷ ys) d e h k = absurd (sub-none g s ys e k)
-one-form f g (r ∷ xs) [] d e h k = absurd (sub-none f r xs d h)
-one-form f g (r ∷ xs) (s ∷ ys) d e h k =
-    let p = first f r xs d in
-    let q = first g s ys e in
-    let low : r .low ≡ s .low = ends (λ l. sub-before f g r xs s ys d e l h) (λ l. sub-before g f s ys r xs e d l k) in
-    let high : r .high ≡ s .high = ends (λ l. sub-past g f s ys r xs e d (omega arith) l k) (λ l. sub-past f g r xs s ys d e (omega arith) l h) in
-    let same : r ≡ s = λ i. record { low = low i; high = high i } in
-    cc (one-form (r .high + 2) (s .high + 2) xs ys (p .rest) (q .rest) (tail r s xs ys high (p .rest) h) (tail s r ys xs (sym high) (q .rest) k))
-  where
-    ends : {a b : ℕ} → (a < b → ⊥) → (b < a → ⊥) → a ≡ b
-    ends h k = omega arith
-
-    tail : (r s : Run) (xs ys : List Run) → r .high ≡ s .high → spaced (r .high + 2) xs ≡ true → Sub (r ∷ xs) (s ∷ ys) → Sub xs ys
-    tail r s xs ys same e k c m =
-        ⊎-elim
-        (λ w. absurd (never (sym m ∙ covers-below (r .high + 2) xs c e (omega arith))))
-        (λ w. sym (covers-over s ys c (omega arith)) ∙ fewer r xs (s ∷ ys) k c m)
-        (less-or c (r .high + 2))
+one-form f g xs ys d e h k =
+    unique f g xs ys (spaced-canon f xs d) (spaced-canon g ys e) (λ c. same-yes (covers xs c) (covers ys c) (h c) (k c))
 
 pub subset-sub : (xs ys : List Run) → subset xs ys ≡ true → Sub xs ys
 unfolding subset

@@ -4,7 +4,7 @@ use native.Mathlib.Omega.{arith}
 use native.Mathlib.Nat.{le-refl}
 use Rattle.label.specs.declared.Label.{Label}
 use Rattle.label.specs.Runs.{subset, allBelow}
-use Rattle.label.specs.Label.{used, wellFormed, typed, atMost, leq}
+use Rattle.label.specs.Label.{used, wellFormed, labelTyped, atMost, leq}
 use Rattle.label.specs.Theorems.{OneForm, AtMost, Comparing, OnePass, AsKeys, PartialOrder, examples, Holds}
 use Rattle.label.proofs.Labels.{formed, same-runs, same-label, leq-says, leq-said, compared-at-most}
 use Rattle.label.proofs.Keys.{keys-runs}
@@ -52,5 +52,5 @@ partial-order =
     }
 
 pub examples-hold : Holds examples
-unfolding wellFormed typed atMost leq subset allBelow
+unfolding wellFormed labelTyped atMost leq subset allBelow
 examples-hold = (refl, refl, (refl, refl, (refl, refl, (refl, refl, (refl, refl, (refl, refl, (refl, refl, (refl, refl, tt))))))))

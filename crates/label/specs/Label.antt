@@ -27,14 +27,14 @@ abbrev pub emptyOf : ℕ → ℕ → Label
 emptyOf d v = cond (eqb d 0) zeroLabel (record { domain = d; level = v; count = 0; runs = replicate 120 noRun })
 
 -- what the types of its fields say of every label: a domain of 32 bits, a level from 0 to 255, 120 places
-unfoldable pub typed : Label → Bool
-typed l = leb (l .domain) 4294967295 && (leb (l .level) 255 && eqb (length (l .runs)) 120)
+unfoldable pub labelTyped : Label → Bool
+labelTyped l = leb (l .domain) 4294967295 && (leb (l .level) 255 && eqb (length (l .runs)) 120)
 
 -- a domain that is not 0, at most 120 runs in the one form, unused places 0
 unfoldable pub wellFormed : Label → Bool
 wellFormed l =
     not (eqb (l .domain) 0)
-    && (leb (l .count) 120 && (spaced 0 (used l) && (unused (drop (l .count) (l .runs)) && typed l)))
+    && (leb (l .count) 120 && (spaced 0 (used l) && (unused (drop (l .count) (l .runs)) && labelTyped l)))
 
 -- a label says yes exactly when some run covers the category; an ill-formed one says no
 unfoldable pub member : Label → ℕ → Bool

@@ -57,14 +57,7 @@ pub record PartialOrder : Type 0 where
   pub antisymmetric : (a b : Label) → leq a b ≡ true → leq b a ≡ true → a ≡ b
   pub transitive : (a b c : Label) → leq a b ≡ true → leq b c ≡ true → leq a c ≡ true
 
--- "Two labels may be incomparable"
-pub record Incomparable (a b : Label) : Type 0 where
-  pub first : wellFormed a ≡ true
-  pub second : wellFormed b ≡ true
-  pub below : leq a b ≡ false
-  pub above : leq b a ≡ false
-
--- the table of examples: pairs of labels of domain 5, and whether the first is at most the second and the second at most the first
+-- the table of examples ("Two labels may be incomparable"): pairs of labels of domain 5, and whether the first is at most the second and the second at most the first
 pub record Example : Type 0 where
   pub first : Label
   pub second : Label

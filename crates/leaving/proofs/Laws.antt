@@ -1,24 +1,25 @@
 -- Laws of the kept options and of writing over a list.
-use Prim.Native.Nat.{ℕ, zero, suc, pred, _+_, _-_, _*_, _/_, _≤_, _<_}
+use Prim.Native.Nat.{ℕ, zero, suc, _+_, _-_, _*_, _/_, _≤_, _<_}
 use mathlib.Core.Path.{_≡_, refl, sym, ap, _∙_}
 use mathlib.Core.List.{List, [], _∷_, _++_, append-assoc, append-nil}
-use native.Mathlib.Nat.{add-assoc, add-zero, zero-add}
+use native.Mathlib.Nat.{add-assoc, add-zero, zero-add, min-le-left}
 use native.Mathlib.Numerals.{add-one}
 use native.Mathlib.Omega.{arith}
-use mathlib.Core.Bool.{Bool, true, false, cond, _&&_, and-false}
+use mathlib.Core.Bool.{Bool, true, false, cond, and-false}
 use lib.Dec.{leb}
-use borrow.Author.Tests.{le-leb, lt-leb}
-use lib.ListN.{length, getD, set, take, drop, replicate, length-drop, length-take, length-append, length-replicate, drop-of-length-le, take-append-drop}
-use lib.Seq.{take-all, take-suc, drop-cons, set-at, append-snoc, length-take-le, take-suc-set, drop-set-lt, drop-drop, take-at, drop-at}
+use borrow.Author.Tests.{le-leb, lt-leb, leb-true, leb-false}
+use lib.ListN.{length, getD, set, take, drop, replicate, length-drop, length-take, length-append, drop-of-length-le, take-append-drop}
+use lib.Seq.{take-all, take-append-le, take-append-add, take-take, take-suc, drop-cons, set-at, append-snoc, length-take-le, take-suc-set, drop-set-lt, drop-drop, take-at, drop-at}
 use Rattle.area.specs.declared.Kind.{Kind}
 use Rattle.area.specs.declared.Kind.the-variants.{End, NoOperation, Basic, Extended, Cipso, Other}
 use Rattle.area.specs.declared.Size.{Size}
 use Rattle.area.specs.declared.Size.the-variants.{Whole, Bad}
-use Rattle.area.specs.Area.{kindOf, sizeOf}
-use Rattle.area.proofs.Laws.{size-whole, tail-is}
+use Rattle.area.specs.Area.{kindOf, sizeOf, spanOf, frontOf, metFrom}
+use Rattle.area.proofs.Laws.{span-on, behind, met-turn, met-end, tail-is}
 use Rattle.leaving.specs.declared.Next.{Next}
 use Rattle.leaving.specs.declared.Next.the-variants.{Stop, Over}
-use Rattle.leaving.specs.Kept.{stepOf, keptLen, overOf, nextOf, keptFrom, keptOf, paint, zeroed, roundUp, leavingOf, hasRoom, restCount, restOf}
+use Rattle.leaving.specs.Kept.{keptLen, keptAmong, roundUp, leavingOf, hasRoom, restCount, restOf}
+use Rattle.leaving.specs.Stages.{overOf, nextOf, lesserOf, paint, zeroed}
 
 -- a turn of the loop that copies
 pub copy-more : (s d : List ℕ) (i : ℕ) → i < length s → i < length d
@@ -39,15 +40,6 @@ zero-more out i h l =
 pub zero-last : (out : List ℕ) (i : ℕ) → i ≡ 40 → zeroed i out ≡ out
 zero-last out i e = rw e (take-append-drop 40 out)
 
--- a step goes over at least one octet, and stays in the list
-step-on : (k : Kind) (l : List ℕ) (z : Size) (n : ℕ) → sizeOf l ≡ z → 0 < length l → stepOf k z ≡ Whole n → (1 ≤ n) × (n ≤ length l)
-step-on End l z n p h e = let z : _≡_ {A = ℕ} 0 1 = cc in omega arith
-step-on NoOperation l z n p h e = let q : 1 ≡ n = cc in omega arith
-step-on Basic l z n p h e = omega (arith, size-whole l n (p ∙ e))
-step-on Extended l z n p h e = omega (arith, size-whole l n (p ∙ e))
-step-on Cipso l z n p h e = omega (arith, size-whole l n (p ∙ e))
-step-on Other l z n p h e = omega (arith, size-whole l n (p ∙ e))
-
 kept-short : (k : Kind) (n : ℕ) → keptLen k n ≤ n
 kept-short End n = omega arith
 kept-short NoOperation n = omega arith
@@ -56,63 +48,97 @@ kept-short Extended n = omega arith
 kept-short Cipso n = omega arith
 kept-short Other n = omega arith
 
-over-on : (k : Kind) (l : List ℕ) (z : Size) (n m : ℕ) → stepOf k (sizeOf l) ≡ z → 0 < length l → overOf k z ≡ Over n m
+over-on : (k : Kind) (l : List ℕ) (z : Size) (n m : ℕ) → spanOf k (sizeOf l) ≡ z → 0 < length l → overOf k z ≡ Over n m
     → (1 ≤ n) × (n ≤ length l) × (m ≤ n)
 over-on k l Bad n m p h e = let z : _≡_ {A = ℕ} 0 1 = cc in omega arith
 over-on k l (Whole x) n m p h e =
     let q : x ≡ n = cc in
     let r : keptLen k x ≡ m = cc in
-    omega (arith, step-on k l (sizeOf l) x refl h p, kept-short k x)
+    omega (arith, span-on k l (sizeOf l) x refl h p, kept-short k x)
 
 -- the walk goes over at least one octet, stays in the list, and keeps no more than it goes over
 pub next-on : (l : List ℕ) (n m : ℕ) → 0 < length l → nextOf l ≡ Over n m → (1 ≤ n) × (n ≤ length l) × (m ≤ n)
-next-on l n m h e = over-on (kindOf (getD l 0 0)) l (stepOf (kindOf (getD l 0 0)) (sizeOf l)) n m refl h e
+next-on l n m h e = over-on (kindOf (getD l 0 0)) l (spanOf (kindOf (getD l 0 0)) (sizeOf l)) n m refl h e
 
-kept-skip : (l : List ℕ) (k : ℕ) → keptFrom l k ≡ keptFrom (drop k l) 0
-unfolding keptFrom
-kept-skip [] zero = refl
-kept-skip [] (suc k) = refl
-kept-skip (t ∷ r) zero = refl
-kept-skip (t ∷ r) (suc k) = kept-skip r k
+-- the kept options from an octet on
+abbrev pub keptFrom : List ℕ → ℕ → List ℕ
+keptFrom area at = keptAmong area (metFrom (drop at area) 0 at)
 
--- what is kept of a list, by what the walk does at its first option
-abbrev pub afterNext : List ℕ → Next → List ℕ
-afterNext l Stop = []
-afterNext l (Over n m) = take m l ++ keptFrom (drop n l) 0
+-- what is kept from an octet on, by what the walk does at the option there
+abbrev pub afterNext : List ℕ → ℕ → Next → List ℕ
+afterNext area at Stop = []
+afterNext area at (Over n m) = take m (drop at area) ++ keptFrom area (at + n)
 
-kept-after : (t : ℕ) (r : List ℕ) (z : Next) → ((n m : ℕ) → z ≡ Over n m → 1 ≤ n)
-    → elim z as (λ _. List ℕ) [ Stop ↦ [] | Over n m ↦ take m (t ∷ r) ++ keptFrom r (pred n) ] ≡ afterNext (t ∷ r) z
-kept-after t r Stop h = refl
-kept-after t r (Over zero m) h = let z = h zero m refl in absurd (omega arith)
-kept-after t r (Over (suc n) m) h = ap (λ (x : List ℕ). take m (t ∷ r) ++ x) (kept-skip r n)
+kept-front : (area : List ℕ) (at : ℕ) (k : Kind) (z : Size)
+    → keptAmong area (frontOf k z at ++ behind (drop at area) at (spanOf k z)) ≡ afterNext area at (overOf k (spanOf k z))
+kept-front area at End z = refl
+kept-front area at NoOperation z = rw drop-drop
+kept-front area at Basic (Whole n) = rw drop-drop
+kept-front area at Basic Bad = refl
+kept-front area at Extended (Whole n) = rw drop-drop
+kept-front area at Extended Bad = refl
+kept-front area at Cipso (Whole n) = rw drop-drop
+kept-front area at Cipso Bad = refl
+kept-front area at Other (Whole n) = rw drop-drop
+kept-front area at Other Bad = refl
 
-pub kept-turn : (l : List ℕ) → 0 < length l → keptFrom l 0 ≡ afterNext l (nextOf l)
-unfolding keptFrom
-kept-turn [] h = absurd (omega arith)
-kept-turn (t ∷ r) h = kept-after t r (nextOf (t ∷ r)) (λ n m e. next-on (t ∷ r) n m h e .0)
+pub kept-turn : (area : List ℕ) (at : ℕ) → at < length area → keptFrom area at ≡ afterNext area at (nextOf (drop at area))
+kept-turn area at h =
+    ap (keptAmong area) (met-turn (drop at area) at (simp length-drop (omega arith)))
+    ∙ kept-front area at (kindOf (getD (drop at area) 0 0)) (sizeOf (drop at area))
 
 -- one turn of a loop over the area, which found u at the octet `at`
 module _ (area : List ℕ) (at : ℕ) (u : Next) (h : at < length area) (eu : u ≡ nextOf (take (length area - at) (drop at area))) where
-  pub kept-stop : u ≡ Stop → keptFrom (drop at area) 0 ≡ []
-  kept-stop e = kept-turn (drop at area) (simp length-drop (omega arith)) ∙ ap (afterNext (drop at area)) (rw tail-is at (sym eu) ∙ e)
+  pub kept-stop : u ≡ Stop → keptFrom area at ≡ []
+  kept-stop e = kept-turn area at h ∙ ap (afterNext area at) (rw tail-is at (sym eu) ∙ e)
 
-  pub kept-over : (n m : ℕ) → u ≡ Over n m → keptFrom (drop at area) 0 ≡ take m (take (length area - at) (drop at area)) ++ keptFrom (drop (at + n) area) 0
-  kept-over n m e =
-      kept-turn (drop at area) (simp length-drop (omega arith)) ∙ ap (afterNext (drop at area)) (rw tail-is at (sym eu) ∙ e) ∙ rw (drop-drop, tail-is)
+  pub kept-over : (n m : ℕ) → u ≡ Over n m → keptFrom area at ≡ take m (take (length area - at) (drop at area)) ++ keptFrom area (at + n)
+  kept-over n m e = kept-turn area at h ∙ ap (afterNext area at) (rw tail-is at (sym eu) ∙ e) ∙ rw tail-is
 
   pub over-moves : (n m : ℕ) → u ≡ Over n m → (1 ≤ n) × (at + n ≤ length area) × (m ≤ n)
   over-moves n m e =
       let q = next-on (drop at area) n m (simp length-drop (omega arith)) (rw tail-is at (sym eu) ∙ e) in
       omega (arith, length-drop at area)
 
-  pub over-count : (n m : ℕ) → u ≡ Over n m → length (keptFrom (drop at area) 0) ≡ m + length (keptFrom (drop (at + n) area) 0)
+  pub over-count : (n m : ℕ) → u ≡ Over n m → length (keptFrom area at) ≡ m + length (keptFrom area (at + n))
   over-count n m e =
       let f : m ≤ length (drop at area) = omega (arith, over-moves n m e, length-drop at area) in
       rw (kept-over n m e, length-append, tail-is, length-take-le m (drop at area) f)
 
-pub kept-end : (area : List ℕ) (at : ℕ) → length area ≤ at → keptFrom (drop at area) 0 ≡ []
-unfolding keptFrom
-kept-end area at h = rw (drop-of-length-le area h)
+pub kept-end : (area : List ℕ) (at : ℕ) → length area ≤ at → keptFrom area at ≡ []
+kept-end area at h = ap (keptAmong area) (met-end area at h)
+
+-- of a list that starts with the first m of `rest`, the first `left`: those of the first m, and then of what follows
+pub take-both : (m left : ℕ) (rest ks : List ℕ) → m ≤ length rest
+    → take left (take m rest ++ ks) ≡ take (lesserOf m left) rest ++ take (left - lesserOf m left) ks
+take-both m left rest ks h = go (leb m left) refl
+  where
+    len : length (take m rest) ≡ m
+    len = length-take-le m rest h
+
+    go : (b : Bool) → leb m left ≡ b → take left (take m rest ++ ks) ≡ take (cond b m left) rest ++ take (left - cond b m left) ks
+    go true e =
+        let s : left ≡ length (take m rest) + (left - m) = omega (arith, len, leb-true m left e) in
+        ap (λ (i : ℕ). take i (take m rest ++ ks)) s ∙ take-append-add (take m rest) ks (left - m)
+    go false e =
+        let f : left ≤ m = omega (arith, leb-false m left e) in
+        let z : left - left ≡ 0 = omega arith in
+        take-append-le left (take m rest) ks (omega (arith, len)) ∙ take-take left m rest f
+        ∙ sym (append-nil (take left rest)) ∙ ap (λ (i : ℕ). take left rest ++ take i ks) (sym z)
+
+pub lesser-both : (a b : ℕ) → (lesserOf a b ≤ a) × (lesserOf a b ≤ b)
+lesser-both a b = go (leb a b) refl
+  where
+    go : (t : Bool) → leb a b ≡ t → (cond t a b ≤ a) × (cond t a b ≤ b)
+    go true e = (omega arith, omega (arith, leb-true a b e))
+    go false e = (omega (arith, leb-false a b e), omega arith)
+
+pub take-none : (n : ℕ) (ks : List ℕ) → ks ≡ [] → take n ks ≡ []
+take-none zero ks e = refl
+take-none (suc n) ks e = rw e
+
+pub take-short : (n : ℕ) (l : List ℕ) → length (take n l) ≤ n
+take-short n l = simp length-take (min-le-left n (length l))
 
 -- writing over a list, in two goes
 pub paint-two : (w : ℕ) (xs ys out : List ℕ) → w + length xs ≤ length out
@@ -136,7 +162,7 @@ paint-back w m xs ys out h e ey =
     let z : drop (length out - w) (drop w out) ≡ [] = drop-of-length-le (drop w out) {i = length out - w} (simp length-drop (omega arith)) in
     rw (z, append-nil, ey, tail-is, drop-drop, ← e)
 
-pub next-is : (l : List ℕ) (k : Kind) (z u : Size) → k ≡ kindOf (getD l 0 0) → z ≡ sizeOf l → u ≡ stepOf k z → overOf k u ≡ nextOf l
+pub next-is : (l : List ℕ) (k : Kind) (z u : Size) → k ≡ kindOf (getD l 0 0) → z ≡ sizeOf l → u ≡ spanOf k z → overOf k u ≡ nextOf l
 next-is l k z u ek ez eu = rw (eu, ez, ek)
 
 pub paint-none : (w : ℕ) (out xs : List ℕ) → xs ≡ [] → out ≡ paint w xs out
@@ -169,27 +195,40 @@ zero-paint xs out h =
     rw (zero-add, take-at xs (drop (length xs) out) (length xs) refl, q)
 
 -- Writing the rest of the area, return by return.
-module _ (from : ℕ) (kept out : List ℕ) where
-  pub rest-short : length out < 40 → (0 ≡ restCount from kept (length out)) × (out ≡ restOf from kept out)
+module _ (from kept : ℕ) (ks out : List ℕ) where
+  pub rest-short : length out < 40 → (0 ≡ restCount from kept ks (length out)) × (out ≡ restOf from kept ks out)
   unfolding restCount restOf
   rest-short h = (rw (lt-leb 40 (length out) h), rw (lt-leb 40 (length out) h))
 
-  pub rest-over : 40 < from + length kept → (0 ≡ restCount from kept (length out)) × (out ≡ restOf from kept out)
+  pub rest-over : 40 < from + kept → (0 ≡ restCount from kept ks (length out)) × (out ≡ restOf from kept ks out)
   unfolding restCount restOf
-  rest-over h = (simp (lt-leb (from + length kept) 40 h, and-false), simp (lt-leb (from + length kept) 40 h, and-false))
+  rest-over h = (simp (lt-leb (from + kept) 40 h, and-false), simp (lt-leb (from + kept) 40 h, and-false))
 
-  pub rest-written : (w : ℕ) (a b : List ℕ) → 40 ≤ length out → from + length kept ≤ 40 → w ≡ from + length kept → a ≡ paint from kept out → b ≡ zeroed w a
-      → ((w + 3) / 4 * 4 ≡ restCount from kept (length out)) × (b ≡ restOf from kept out)
+  pub rest-written : (w : ℕ) (a b : List ℕ) → 40 ≤ length out → from + kept ≤ 40
+      → w ≡ from + length (take kept ks) → a ≡ paint from (take kept ks) out → b ≡ zeroed w a
+      → ((w + 3) / 4 * 4 ≡ restCount from kept ks (length out)) × (b ≡ restOf from kept ks out)
   unfolding restCount restOf
   rest-written w a b h k ew ea eb =
       let o : List ℕ = take from out in
+      let x : List ℕ = take kept ks in
+      let lx : length x ≤ kept = take-short kept ks in
       let lo : length o ≡ from = length-take-le from out (omega arith) in
       let z : 0 + length o ≡ from = omega arith in
       let id : paint 0 o out ≡ out = ap (λ (i : ℕ). o ++ drop i out) z ∙ take-append-drop from out in
-      let p : paint from kept out ≡ paint 0 (o ++ kept) out =
-      ap (λ (i : ℕ). paint i kept out) (sym z) ∙ ap (paint (0 + length o) kept) (sym id) ∙ paint-two 0 o kept out (omega arith) in
-      let lk : length (o ++ kept) ≡ length o + length kept = length-append o kept in
-      let e : w ≡ length (o ++ kept) = omega arith in
-      let q : b ≡ leavingOf o kept out =
-      eb ∙ ap (zeroed w) (ea ∙ p) ∙ ap (λ (i : ℕ). zeroed i (paint 0 (o ++ kept) out)) e ∙ zero-paint (o ++ kept) out (omega arith) ∙ rw (lk, append-assoc) in
-      (rw (le-leb 40 (length out) h, le-leb (from + length kept) 40 k, ew), rw (le-leb 40 (length out) h, le-leb (from + length kept) 40 k) q)
+      let p : paint from x out ≡ paint 0 (o ++ x) out =
+      ap (λ (i : ℕ). paint i x out) (sym z) ∙ ap (paint (0 + length o) x) (sym id) ∙ paint-two 0 o x out (omega arith) in
+      let lk : length (o ++ x) ≡ length o + length x = length-append o x in
+      let e : w ≡ length (o ++ x) = omega arith in
+      let q : b ≡ leavingOf o x out =
+      eb ∙ ap (zeroed w) (ea ∙ p) ∙ ap (λ (i : ℕ). zeroed i (paint 0 (o ++ x) out)) e ∙ zero-paint (o ++ x) out (omega arith) ∙ rw (lk, append-assoc) in
+      (rw (le-leb 40 (length out) h, le-leb (from + kept) 40 k, ew), rw (le-leb 40 (length out) h, le-leb (from + kept) 40 k) q)
+
+-- with the number of all kept octets
+module _ (from kept : ℕ) (ks : List ℕ) (e : kept ≡ length ks) where
+  pub rest-counted : (n : ℕ) → restCount from kept ks n ≡ cond (hasRoom from (length ks) n) (roundUp (from + length ks)) 0
+  unfolding restCount
+  rest-counted n = rw (e, take-all (length ks) ks (omega arith))
+
+  pub rest-whole : (out : List ℕ) → restOf from kept ks out ≡ cond (hasRoom from (length ks) (length out)) (leavingOf (take from out) ks out) out
+  unfolding restOf
+  rest-whole out = rw (e, take-all (length ks) ks (omega arith))

@@ -5,11 +5,13 @@ ghost use mathlib.Core.Path.{_≡_};
 ghost use mathlib.Core.List.{_++_};
 ghost use Prim.Native.Nat.{_+_, _-_, _≤_, _<_};
 ghost use lib.ListN.{length, take, drop};
-ghost use Rattle.leaving.specs.Kept.{stepOf, keptLen, nextOf, keptOf, paint, zeroed, restCount, restOf};
+ghost use Rattle.area.specs.Area.{spanOf};
+ghost use Rattle.leaving.specs.Kept.{keptLen, keptOf, restCount, restOf};
+ghost use Rattle.leaving.specs.Stages.{nextOf, lesserOf, paint, zeroed};
 
 // How far the walk goes on: over a whole option, or not at all.
 fn step(kind: Kind, size: Size) -> Size
-    ensures { λ r. ⌜ r ≡ stepOf kind size ⌝ }
+    ensures { λ r. ⌜ r ≡ spanOf kind size ⌝ }
 {
     match kind {
         Kind::End => Size::Bad,
@@ -87,21 +89,33 @@ pub fn count_kept(area: &[u8]) -> usize
     w
 }
 
-// Writes the kept options of an area into out, from an octet on, and answers the octet behind them.
-fn copy_kept(area: &[u8], out: &mut [u8], from: usize) -> usize
-    requires { ⌜ from + length (keptOf (now area)) ≤ length (now out) ⌝ }
-    ensures { λ r. ⌜ r ≡ from + length (keptOf (now (area .entry))) ⌝ }
-    ensures { λ _. ⌜ now (out .exit) ≡ paint from (keptOf (now (area .entry))) (now (out .entry)) ⌝ }
+fn lesser(a: usize, b: usize) -> usize
+    ensures { λ r. ⌜ r ≡ lesserOf a b ⌝ }
+{
+    if a <= b { a } else { b }
+}
+
+// Writes the first `most` octets of the kept options of an area into out, from an octet on, and answers the octet behind them.
+fn copy_kept(area: &[u8], out: &mut [u8], from: usize, most: usize) -> usize
+    requires { ⌜ from + most ≤ length (now out) ⌝ }
+    ensures { λ r. ⌜ r ≡ from + length (take most (keptOf (now (area .entry)))) ⌝ }
+    ensures { λ _. ⌜ now (out .exit) ≡ paint from (take most (keptOf (now (area .entry)))) (now (out .entry)) ⌝ }
 {
     let mut at = 0;
     let mut w = from;
+    let mut left = most;
     while at < area.len() {
+        if left == 0 {
+            return w;
+        }
         let rest = &area[at..];
         match next_option(rest) {
             Next::Stop => return w,
             Next::Over { n, kept } => {
-                copy_one(rest, kept, &mut out[w..]);
-                w = w + kept;
+                let m = lesser(kept, left);
+                copy_one(rest, m, &mut out[w..]);
+                w = w + m;
+                left = left - m;
                 at = at + n;
             }
         }
@@ -121,11 +135,11 @@ fn zero_from(out: &mut [u8], from: usize)
     }
 }
 
-// Writes the kept options of an area behind the first `from` octets of the output, and zeros up to octet 39; answers the count of the area.
-// Where the output has under 40 octets or the options exceed 40 octets, nothing is written and the count is 0.
-pub fn write_rest(area: &[u8], from: usize, out: &mut [u8]) -> usize
-    ensures { λ r. ⌜ r ≡ restCount from (keptOf (now (area .entry))) (length (now (out .entry))) ⌝ }
-    ensures { λ _. ⌜ now (out .exit) ≡ restOf from (keptOf (now (area .entry))) (now (out .entry)) ⌝ }
+// Writes the first `kept` octets of the kept options of an area behind the first `from` octets of the output, and zeros up to octet 39; answers the
+// count of the area. Where the output has under 40 octets, or `from` and `kept` together exceed 40, nothing is written and the count is 0.
+pub fn write_rest(area: &[u8], from: usize, kept: usize, out: &mut [u8]) -> usize
+    ensures { λ r. ⌜ r ≡ restCount from kept (keptOf (now (area .entry))) (length (now (out .entry))) ⌝ }
+    ensures { λ _. ⌜ now (out .exit) ≡ restOf from kept (keptOf (now (area .entry))) (now (out .entry)) ⌝ }
 {
     if out.len() < 40 {
         return 0;
@@ -133,11 +147,10 @@ pub fn write_rest(area: &[u8], from: usize, out: &mut [u8]) -> usize
     if 40 < from {
         return 0;
     }
-    let kept = count_kept(area);
     if 40 - from < kept {
         return 0;
     }
-    let w = copy_kept(area, &mut out[..], from);
+    let w = copy_kept(area, &mut out[..], from, kept);
     zero_from(&mut out[..], w);
     (w + 3) / 4 * 4
 }

@@ -1,20 +1,19 @@
 -- A body is good exactly where no number or pair of it is bad: the first bad one by index, and the definitions over lists.
-use Prim.Native.Nat.{ℕ, zero, suc, _+_, _-_, _*_, _/_, _%_, _≤_, _<_, zero-le}
-use mathlib.Core.Path.{_≡_, refl, ap, sym, _∙_}
+use Prim.Native.Nat.{ℕ, zero, suc, _+_, _-_, _/_, _%_, _≤_, _<_, zero-le}
+use mathlib.Core.Path.{_≡_, refl, ap}
 use mathlib.Core.List.{List, [], _∷_}
-use mathlib.Core.Bool.{Bool, true, false, _&&_, _||_, cond, true≢false, and-false}
+use mathlib.Core.Bool.{Bool, true, false, _&&_, _||_, and-false}
 use mathlib.Core.Logic.{_↔_}
 use lib.ListN.{length, getD}
 use lib.Dec.{leb, ltb, eqb}
 use native.Mathlib.Omega.{arith}
 use native.Mathlib.Nat.{le-refl}
-use native.Mathlib.Decide.{decLe}
 use borrow.Author.Tests.{le-leb, lt-leb, lt-ltb, le-ltb, ltb-true, ltb-false, leb-true, leb-false, eqb-false, ne-eqb}
 use Rattle.label.specs.declared.Run.{Run}
 use Rattle.label.specs.Runs.{run}
-use Rattle.option.specs.Option.{Octets, numbersIn, rising, pairsIn, falling}
+use Rattle.option.specs.Option.{Octets, numbersIn, ascending, pairsIn, falling}
 use Rattle.option.specs.Index.{firstTrue, numberAt, badNumber, pairsOf, topAt, bottomAt, badPair}
-use Rattle.label.proofs.Bools.{and-left, and-right}
+use Rattle.label.proofs.Bools.{and-left, and-right, or-none}
 use Rattle.option.proofs.Pieces.{Falling, falling-true, true-falling}
 use Rattle.option.proofs.Meaning.{numbers-length}
 use Rattle.option.proofs.Bridge.{number-at, pairs-are, pair-is}
@@ -36,10 +35,6 @@ first-none f (suc n) e k h = go (f zero) refl k h (λ q. first-none (λ j. f (su
 pub first-none-is : (f : ℕ → Bool) (n : ℕ) → ((k : ℕ) → k < n → f k ≡ false) → firstTrue f n ≡ n
 first-none-is f n h = first-is f n n (le-refl n) h (λ u. absurd (omega arith))
 
-or-none : (a b : Bool) → (a || b) ≡ false → (a ≡ false) × (b ≡ false)
-or-none false b e = (refl, e)
-or-none true b e = absurd (true≢false e)
-
 -- Numbers made of octets.
 numbers-most : (b : List ℕ) (k : ℕ) → Octets b → getD (numbersIn b) k 0 ≤ 65535
 numbers-most [] k o = zero-le
@@ -48,21 +43,21 @@ numbers-most (a ∷ c ∷ b) zero o = omega arith
 numbers-most (a ∷ c ∷ b) (suc k) o = numbers-most b k (o .1 .1)
 
 -- Ascending numbers by index.
-rise-small : (lo : ℕ) (ns : List ℕ) (k : ℕ) → rising lo ns ≡ true → k < length ns → getD ns k 0 < 65535
+rise-small : (lo : ℕ) (ns : List ℕ) (k : ℕ) → ascending lo ns ≡ true → k < length ns → getD ns k 0 < 65535
 rise-small lo [] k e h = absurd (omega arith)
 rise-small lo (x ∷ xs) zero e h = ltb-true x 65535 (and-left (ltb x 65535) _ (and-right (leb lo x) _ e))
 rise-small lo (x ∷ xs) (suc k) e h = rise-small (x + 1) xs k (and-right (ltb x 65535) _ (and-right (leb lo x) _ e)) (omega arith)
 
-rise-start : (lo : ℕ) (ns : List ℕ) → rising lo ns ≡ true → 0 < length ns → lo ≤ getD ns 0 0
+rise-start : (lo : ℕ) (ns : List ℕ) → ascending lo ns ≡ true → 0 < length ns → lo ≤ getD ns 0 0
 rise-start lo [] e h = absurd (omega arith)
 rise-start lo (x ∷ xs) e h = leb-true lo x (and-left (leb lo x) _ e)
 
-rise-step : (lo : ℕ) (ns : List ℕ) (k : ℕ) → rising lo ns ≡ true → suc k < length ns → getD ns k 0 < getD ns (suc k) 0
+rise-step : (lo : ℕ) (ns : List ℕ) (k : ℕ) → ascending lo ns ≡ true → suc k < length ns → getD ns k 0 < getD ns (suc k) 0
 rise-step lo [] k e h = absurd (omega arith)
 rise-step lo (x ∷ xs) zero e h = omega (arith, rise-start (x + 1) xs (and-right (ltb x 65535) _ (and-right (leb lo x) _ e)) (omega arith))
 rise-step lo (x ∷ xs) (suc k) e h = rise-step (x + 1) xs k (and-right (ltb x 65535) _ (and-right (leb lo x) _ e)) (omega arith)
 
-rise-from : (lo : ℕ) (ns : List ℕ) → ((k : ℕ) → k < length ns → getD ns k 0 < 65535) → (0 < length ns → lo ≤ getD ns 0 0) → ((k : ℕ) → suc k < length ns → getD ns k 0 < getD ns (suc k) 0) → rising lo ns ≡ true
+rise-from : (lo : ℕ) (ns : List ℕ) → ((k : ℕ) → k < length ns → getD ns k 0 < 65535) → (0 < length ns → lo ≤ getD ns 0 0) → ((k : ℕ) → suc k < length ns → getD ns k 0 < getD ns (suc k) 0) → ascending lo ns ≡ true
 rise-from lo [] small start step = refl
 rise-from lo (x ∷ xs) small start step =
     rw (le-leb lo x (start (omega arith)), lt-ltb x 65535 (small 0 (omega arith)))
@@ -72,7 +67,7 @@ module _ (b : List ℕ) (even : length b % 2 ≡ 0) (oct : Octets b) where
   len : length (numbersIn b) ≡ length b / 2
   len = numbers-length b
 
-  pub good-numbers : firstTrue (badNumber b) (length b / 2) ≡ length b / 2 ↔ (rising 0 (numbersIn b) ≡ true)
+  pub good-numbers : firstTrue (badNumber b) (length b / 2) ≡ length b / 2 ↔ (ascending 0 (numbersIn b) ≡ true)
   good-numbers = (there, back)
     where
       fine : (e : firstTrue (badNumber b) (length b / 2) ≡ length b / 2) (k : ℕ) → k < length b / 2 → (eqb (numberAt b k) 65535 ≡ false) × ((ltb 0 k && leb (numberAt b k) (numberAt b (k - 1))) ≡ false)
@@ -89,10 +84,10 @@ module _ (b : List ℕ) (even : length b % 2 ≡ 0) (oct : Octets b) where
           let p : numberAt b k < numberAt b (suc k) = leb-false _ _ (rw (lt-ltb 0 (suc k) (omega arith), j) at (fine e (suc k) (omega (arith, len)) .1)) in
           omega (arith, number-at b k even, number-at b (suc k) even)
 
-      there : firstTrue (badNumber b) (length b / 2) ≡ length b / 2 → rising 0 (numbersIn b) ≡ true
+      there : firstTrue (badNumber b) (length b / 2) ≡ length b / 2 → ascending 0 (numbersIn b) ≡ true
       there e = rise-from 0 (numbersIn b) (small e) (λ h. zero-le) (step e)
 
-      good : rising 0 (numbersIn b) ≡ true → (k : ℕ) → k < length b / 2 → badNumber b k ≡ false
+      good : ascending 0 (numbersIn b) ≡ true → (k : ℕ) → k < length b / 2 → badNumber b k ≡ false
       good r zero h = rw (ne-eqb (numberAt b 0) 65535 (let s = rise-small 0 (numbersIn b) 0 r (omega (arith, len)) in omega (arith, number-at b 0 even)))
       good r (suc k) h =
           let j : suc k - 1 ≡ k = omega arith in
@@ -100,7 +95,7 @@ module _ (b : List ℕ) (even : length b % 2 ≡ 0) (oct : Octets b) where
           let t = rise-step 0 (numbersIn b) k r (omega (arith, len)) in
           rw (ne-eqb (numberAt b (suc k)) 65535 (omega (arith, number-at b (suc k) even)), j, lt-leb (numberAt b (suc k)) (numberAt b k) (omega (arith, number-at b k even, number-at b (suc k) even)), and-false)
 
-      back : rising 0 (numbersIn b) ≡ true → firstTrue (badNumber b) (length b / 2) ≡ length b / 2
+      back : ascending 0 (numbersIn b) ≡ true → firstTrue (badNumber b) (length b / 2) ≡ length b / 2
       back r = first-none-is (badNumber b) (length b / 2) (good r)
 
 -- Falling pairs by index.

@@ -1,23 +1,23 @@
 -- What loops compute by index is what the definitions say over lists.
-use Prim.Native.Nat.{ℕ, zero, suc, _+_, _-_, _*_, _/_, _%_, _≤_, _<_, zero-le}
+use Prim.Native.Nat.{ℕ, zero, suc, _+_, _-_, _*_, _/_, _%_, _≤_, _<_}
 use mathlib.Core.Path.{_≡_, refl, ap, sym, _∙_}
 use mathlib.Core.List.{List, [], _∷_, _++_, append-assoc}
-use mathlib.Core.Bool.{Bool, true, false, _&&_, _||_, cond, true≢false}
-use mathlib.Core.Logic.{_↔_}
-use lib.ListN.{length, getD, take, drop, length-append, drop-of-length-le}
+use mathlib.Core.Bool.{Bool, true, false, cond}
+use lib.ListN.{length, getD, take, drop, drop-of-length-le}
 use lib.Seq.{take-suc, take-length, drop-cons}
-use lib.Dec.{leb, ltb, eqb}
+use lib.Dec.{eqb}
 use native.Mathlib.Omega.{arith}
 use native.Mathlib.Nat.{le-refl}
 use native.Mathlib.Decide.{decLe}
-use borrow.Author.Tests.{le-leb, lt-leb, lt-ltb, le-ltb, ltb-true, leb-true, eqb-true, eqb-false, eq-eqb, ne-eqb}
+use borrow.Author.Tests.{eqb-true}
 use Rattle.label.specs.declared.Run.{Run}
 use Rattle.label.specs.Runs.{run, pushRun, joined, countOf}
 use Rattle.option.specs.Reading.{turned}
-use Rattle.option.specs.Option.{numbersIn, singles, rising, pairsIn, falling}
+use Rattle.option.specs.Option.{numbersIn, singles, pairsIn}
 use Rattle.option.specs.Reading.{bitPieces}
 use Rattle.option.specs.Spelling.{octetsOut, countUp, numbersOf, endsOf, size5}
 use Rattle.option.specs.Index.{setRuns, rangeRuns, numberAt, pairsOf, topAt, bottomAt, lowPair, highPair, numbersOut, pairNumber, rankNumber}
+use Rattle.option.proofs.Pieces.{singles-length}
 use Rattle.option.proofs.Meaning.{numbers-length}
 use Rattle.option.proofs.Spelled.{ends-length, numbers-count}
 
@@ -67,10 +67,6 @@ pairs-count (t ∷ b ∷ ns) = omega (arith, pairs-count ns)
 pub turned-snoc : (acc xs : List Run) (x : Run) → turned acc (xs ++ x ∷ []) ≡ x ∷ turned acc xs
 turned-snoc acc [] x = refl
 turned-snoc acc (y ∷ xs) x = turned-snoc (y ∷ acc) xs x
-
-singles-length : (xs : List ℕ) → length (singles xs) ≡ length xs
-singles-length [] = refl
-singles-length (x ∷ xs) = omega (arith, singles-length xs)
 
 module _ (b : List ℕ) (even : length b % 2 ≡ 0) where
   up-to : (n : ℕ) → n ≤ length (singles (numbersIn b)) → rangeRuns (numberAt b) (numberAt b) n ≡ joined (turned [] (take n (singles (numbersIn b))))

@@ -15,9 +15,9 @@ use Rattle.option.specs.Reading.{turned}
 use Rattle.option.specs.Spelling.{fromZero}
 use Rattle.label.proofs.Canon.{Canon, Below}
 use Rattle.option.specs.Bitmap.{bitAt}
-use Rattle.option.specs.Option.{domainOf, tagOf, levelOf, bodyOf, numbersIn, singles, rising, pairsIn, falling, isEven, goodBody, bodyHas, valid, has}
+use Rattle.option.specs.Option.{domainOf, tagOf, levelOf, bodyOf, numbersIn, singles, ascending, pairsIn, falling, isEven, goodBody, bodyHas, valid, has}
 use Rattle.option.proofs.Forms.{MeansRuns}
-use Rattle.option.specs.Reading.{bitPieces, pieces, runsOf}
+use Rattle.option.specs.Reading.{bitPieces, pieces, optionRuns}
 use Rattle.option.specs.Spelling.{size1, size2, size5}
 use Rattle.label.proofs.Canon.{canon-length, clear, unique}
 use Rattle.option.proofs.Top.{bit-past, shortest}
@@ -56,7 +56,7 @@ parts-valid o p = simp (le-leb _ _ (p .long), eq-eqb _ _ (p .kind), eq-eqb _ _ (
 -- What stands in a tag of each type.
 pub data Tagged (b : List ℕ) : ℕ → Type 0 where
   one : length b ≤ 30 → Tagged b 1
-  two : length b % 2 ≡ 0 → length b ≤ 30 → rising 0 (numbersIn b) ≡ true → Tagged b 2
+  two : length b % 2 ≡ 0 → length b ≤ 30 → ascending 0 (numbersIn b) ≡ true → Tagged b 2
   five : length b % 2 ≡ 0 → length b ≤ 28 → falling 65535 (pairsIn (numbersIn b)) ≡ true → Tagged b 5
 
 pub tagged : (t : ℕ) (b : List ℕ) → goodBody t b ≡ true → Tagged b t
@@ -67,7 +67,7 @@ tagged t b e = go (eqb t 1) refl (eqb t 2) refl (eqb t 5) refl e
     A = leb (length b) 30
 
     B : Bool
-    B = isEven (length b) && (leb (length b) 30 && rising 0 (numbersIn b))
+    B = isEven (length b) && (leb (length b) 30 && ascending 0 (numbersIn b))
 
     C : Bool
     C = isEven (length b) && (leb (length b) 28 && falling 65535 (pairsIn (numbersIn b)))
@@ -125,19 +125,19 @@ pieces-cover t b c (two e h r) = turned-covers [] (singles (numbersIn b)) c ∙ 
 pieces-cover t b c (five e h f) = refl
 
 -- Reading.
-pub reads-canon : (o : List ℕ) → valid o ≡ true → Canon 0 (runsOf o) × Below 65535 (runsOf o)
-unfolding runsOf
+pub reads-canon : (o : List ℕ) → valid o ≡ true → Canon 0 (optionRuns o) × Below 65535 (optionRuns o)
+unfolding optionRuns
 reads-canon o e = joined-good 65535 (pieces (tagOf o) (bodyOf o)) (pieces-falling (tagOf o) (bodyOf o) (tagged _ _ (parts o e .body)))
 
-pub reads-covers : (o : List ℕ) → valid o ≡ true → (c : ℕ) → covers (runsOf o) c ≡ has o c
-unfolding runsOf
+pub reads-covers : (o : List ℕ) → valid o ≡ true → (c : ℕ) → covers (optionRuns o) c ≡ has o c
+unfolding optionRuns
 reads-covers o e c =
     let g = tagged (tagOf o) (bodyOf o) (parts o e .body) in
     joined-covers 65535 (pieces (tagOf o) (bodyOf o)) c (pieces-falling (tagOf o) (bodyOf o) g) ∙ pieces-cover (tagOf o) (bodyOf o) c g
 
 -- what is read fits a label
-pub reads-fit : (o : List ℕ) → valid o ≡ true → length (runsOf o) ≤ 120
-unfolding runsOf pieces
+pub reads-fit : (o : List ℕ) → valid o ≡ true → length (optionRuns o) ≤ 120
+unfolding optionRuns pieces
 reads-fit o e = few (tagOf o) (bodyOf o) (tagged _ _ (parts o e .body))
   where
     few : (t : ℕ) (b : List ℕ) → Tagged b t → length (joined (pieces t b)) ≤ 120
@@ -146,11 +146,11 @@ reads-fit o e = few (tagOf o) (bodyOf o) (tagged _ _ (parts o e .body))
     few t b (five d h f) = omega (arith, joined-length (pairsIn (numbersIn b)), pairs-most (numbersIn b), numbers-length b)
 
 -- every valid option that means a label is read to its runs
-pub reads-back : (o : List ℕ) (d v : ℕ) (rs : List Run) → MeansRuns o d v rs → Canon 0 rs → runsOf o ≡ rs
-reads-back o d v rs m k = unique 0 0 (runsOf o) rs (reads-canon o (m .good) .0) k (λ c. reads-covers o (m .good) c ∙ m .members c)
+pub reads-back : (o : List ℕ) (d v : ℕ) (rs : List Run) → MeansRuns o d v rs → Canon 0 rs → optionRuns o ≡ rs
+reads-back o d v rs m k = unique 0 0 (optionRuns o) rs (reads-canon o (m .good) .0) k (λ c. reads-covers o (m .good) c ∙ m .members c)
 
 -- two options that mean one label are read alike
-pub read-alike : (o o′ : List ℕ) (d v : ℕ) (rs : List Run) → MeansRuns o d v rs → MeansRuns o′ d v rs → Canon 0 rs → (domainOf o ≡ domainOf o′) × (levelOf o ≡ levelOf o′) × (runsOf o ≡ runsOf o′)
+pub read-alike : (o o′ : List ℕ) (d v : ℕ) (rs : List Run) → MeansRuns o d v rs → MeansRuns o′ d v rs → Canon 0 rs → (domainOf o ≡ domainOf o′) × (levelOf o ≡ levelOf o′) × (optionRuns o ≡ optionRuns o′)
 read-alike o o′ d v rs m m′ k = (m .domain ∙ sym (m′ .domain), m .level ∙ sym (m′ .level), reads-back o d v rs m k ∙ sym (reads-back o′ d v rs m′ k))
 
 -- Where 0 is a category the lowest run starts there.

@@ -17,7 +17,7 @@ use Rattle.option.specs.Reading.{turned}
 use Rattle.option.specs.Spelling.{fromZero}
 use Rattle.label.proofs.Canon.{Canon, Below}
 use Rattle.option.specs.Bitmap.{bitAt, weight}
-use Rattle.option.specs.Option.{Octets, domainOf, tagOf, levelOf, bodyOf, numbersIn, singles, rising, pairsIn, falling, isEven, goodBody, bodyHas, valid, has}
+use Rattle.option.specs.Option.{Octets, domainOf, tagOf, levelOf, bodyOf, numbersIn, singles, ascending, pairsIn, falling, isEven, goodBody, bodyHas, valid, has}
 use Rattle.option.proofs.Forms.{MeansRuns}
 use Rattle.option.specs.Spelling.{size5, octetsOut, tagFor, bodyFor, optionOf, spelledBy, spellingOf}
 use Rattle.option.proofs.Forms.{FormedRuns, SpellsRuns}
@@ -140,7 +140,7 @@ out-back (a ∷ c ∷ b) o e =
     λ i. x i ∷ y i ∷ t i
 
 -- Tag 2: one set has one ascending list.
-lacks : (lo : ℕ) (xs : List ℕ) (c : ℕ) → rising lo xs ≡ true → c < lo → covers (singles xs) c ≡ false
+lacks : (lo : ℕ) (xs : List ℕ) (c : ℕ) → ascending lo xs ≡ true → c < lo → covers (singles xs) c ≡ false
 lacks lo [] c e h = refl
 lacks lo (x ∷ xs) c e h =
     let l = leb-true lo x (and-left (leb lo x) _ e) in
@@ -149,25 +149,25 @@ lacks lo (x ∷ xs) c e h =
 holds : (x : ℕ) (xs : List ℕ) → covers (singles (x ∷ xs)) x ≡ true
 holds x xs = rw (le-leb x x (le-refl x))
 
-raised : (lo x : ℕ) (xs : List ℕ) → rising lo (x ∷ xs) ≡ true → rising x (x ∷ xs) ≡ true
+raised : (lo x : ℕ) (xs : List ℕ) → ascending lo (x ∷ xs) ≡ true → ascending x (x ∷ xs) ≡ true
 raised lo x xs e = rw (le-leb x x (le-refl x)) (and-right (leb lo x) _ e)
 
-head-le : (lo lo′ x y : ℕ) (xs ys : List ℕ) → rising lo (x ∷ xs) ≡ true → rising lo′ (y ∷ ys) ≡ true → ((c : ℕ) → covers (singles (x ∷ xs)) c ≡ covers (singles (y ∷ ys)) c) → y ≤ x
+head-le : (lo lo′ x y : ℕ) (xs ys : List ℕ) → ascending lo (x ∷ xs) ≡ true → ascending lo′ (y ∷ ys) ≡ true → ((c : ℕ) → covers (singles (x ∷ xs)) c ≡ covers (singles (y ∷ ys)) c) → y ≤ x
 head-le lo lo′ x y xs ys e e′ same = elim (decLe y x) [ yes u ↦ u | no u ↦ absurd (true≢false (sym (holds x xs) ∙ same x ∙ lacks y (y ∷ ys) x (raised lo′ y ys e′) (omega arith))) ]
 
-tail-of : (lo x : ℕ) (xs : List ℕ) → rising lo (x ∷ xs) ≡ true → rising (x + 1) xs ≡ true
+tail-of : (lo x : ℕ) (xs : List ℕ) → ascending lo (x ∷ xs) ≡ true → ascending (x + 1) xs ≡ true
 tail-of lo x xs e = and-right (ltb x 65535) _ (and-right (leb lo x) _ e)
 
-tails : (x : ℕ) (xs ys : List ℕ) → rising (x + 1) xs ≡ true → rising (x + 1) ys ≡ true → ((c : ℕ) → covers (singles (x ∷ xs)) c ≡ covers (singles (x ∷ ys)) c) → (c : ℕ) → covers (singles xs) c ≡ covers (singles ys) c
+tails : (x : ℕ) (xs ys : List ℕ) → ascending (x + 1) xs ≡ true → ascending (x + 1) ys ≡ true → ((c : ℕ) → covers (singles (x ∷ xs)) c ≡ covers (singles (x ∷ ys)) c) → (c : ℕ) → covers (singles xs) c ≡ covers (singles ys) c
 tails x xs ys e e′ same c = elim (decLe (x + 1) c) [ yes u ↦ simp (lt-leb c x (omega arith), and-false) at (same c) | no u ↦ lacks (x + 1) xs c e (omega arith) ∙ sym (lacks (x + 1) ys c e′ (omega arith)) ]
 
-pub same-numbers : (lo lo′ : ℕ) (xs ys : List ℕ) → rising lo xs ≡ true → rising lo′ ys ≡ true → ((c : ℕ) → covers (singles xs) c ≡ covers (singles ys) c) → xs ≡ ys
+pub same-numbers : (lo lo′ : ℕ) (xs ys : List ℕ) → ascending lo xs ≡ true → ascending lo′ ys ≡ true → ((c : ℕ) → covers (singles xs) c ≡ covers (singles ys) c) → xs ≡ ys
 same-numbers lo lo′ [] [] e e′ same = refl
 same-numbers lo lo′ [] (y ∷ ys) e e′ same = absurd (true≢false (sym (holds y ys) ∙ sym (same y)))
 same-numbers lo lo′ (x ∷ xs) [] e e′ same = absurd (true≢false (sym (holds x xs) ∙ same x))
 same-numbers lo lo′ (x ∷ xs) (y ∷ ys) e e′ same =
     let h : y ≡ x = omega (arith, head-le lo lo′ x y xs ys e e′ same, head-le lo′ lo y x ys xs e′ e (λ c. sym (same c))) in
-    let r : rising (x + 1) ys ≡ true = rw h at (tail-of lo′ y ys e′) in
+    let r : ascending (x + 1) ys ≡ true = rw h at (tail-of lo′ y ys e′) in
     let s : (c : ℕ) → covers (singles (x ∷ xs)) c ≡ covers (singles (x ∷ ys)) c = rw h at same in
     let t = same-numbers (x + 1) (x + 1) xs ys (tail-of lo x xs e) r (tails x xs ys (tail-of lo x xs e) r s) in
     λ i. sym h i ∷ t i
@@ -207,10 +207,10 @@ same-pairs (t ∷ b ∷ ns) (u ∷ a ∷ ms) e q =
     λ i. x i .high ∷ x i .low ∷ z i
 
 -- Two bodies of one tag, as long as each other, that have the categories of the runs.
-good2-parts : (b : List ℕ) → goodBody 2 b ≡ true → (length b % 2 ≡ 0) × (rising 0 (numbersIn b) ≡ true)
+good2-parts : (b : List ℕ) → goodBody 2 b ≡ true → (length b % 2 ≡ 0) × (ascending 0 (numbersIn b) ≡ true)
 unfolding goodBody
 good2-parts b e =
-    let w : (isEven (length b) && (leb (length b) 30 && rising 0 (numbersIn b))) ≡ true = sym (or-false _) ∙ e in
+    let w : (isEven (length b) && (leb (length b) 30 && ascending 0 (numbersIn b))) ≡ true = sym (or-false _) ∙ e in
     (eqb-true _ _ (and-left (isEven (length b)) _ w), and-right (leb (length b) 30) _ (and-right (isEven (length b)) _ w))
 
 good5-parts : (b : List ℕ) → goodBody 5 b ≡ true → (length b % 2 ≡ 0) × (falling 65535 (pairsIn (numbersIn b)) ≡ true)

@@ -15,7 +15,7 @@ use Rattle.label.specs.Runs.{run, inRun, covers, pushRun, joined, spaced, count
 use Rattle.option.specs.Reading.{turned}
 use Rattle.option.specs.Spelling.{fromZero}
 use Rattle.label.proofs.Canon.{Canon, Below}
-use Rattle.option.specs.Option.{falling, rising, singles, pairsIn}
+use Rattle.option.specs.Option.{falling, ascending, singles, pairsIn}
 use Rattle.option.specs.Reading.{bitPieces}
 use Rattle.label.proofs.Push.{push-covers, push-canon, push-below, push-length, push-count, push-top}
 use Rattle.label.proofs.Canon.{below-weaken}
@@ -125,7 +125,7 @@ module _ (f : ℕ → Bool) where
       go false e ih (no u) (no v) = simp (ih, le-ltb c n (omega arith), le-ltb c (suc n) (omega arith))
 
 -- Tag 2.
-pub rising-true : (lo : ℕ) (xs : List ℕ) → lo ≤ 65535 → rising lo xs ≡ true → Rising lo 65535 (singles xs)
+pub rising-true : (lo : ℕ) (xs : List ℕ) → lo ≤ 65535 → ascending lo xs ≡ true → Rising lo 65535 (singles xs)
 rising-true lo [] h e = h
 rising-true lo (x ∷ xs) h e =
     let e1 = and-right (leb lo x) _ e in

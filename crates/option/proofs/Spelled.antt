@@ -16,7 +16,7 @@ use Rattle.option.specs.Spelling.{fromZero}
 use Rattle.label.proofs.Canon.{Canon, Below}
 use Rattle.option.specs.Bitmap.{bitAt}
 use Rattle.option.specs.Spelling.{bitsOf, octetsOf}
-use Rattle.option.specs.Option.{tagOf, bodyOf, Octets, numbersIn, singles, rising, pairsIn, falling, isEven, goodBody, bodyHas, valid, has}
+use Rattle.option.specs.Option.{tagOf, bodyOf, Octets, numbersIn, singles, ascending, pairsIn, falling, isEven, goodBody, bodyHas, valid, has}
 use Rattle.option.proofs.Forms.{MeansRuns}
 use Rattle.option.specs.Spelling.{size1, size2, size5, octetsOut, countUp, numbersOf, endsOf, bodyFor, optionOf, spelledBy}
 use Rattle.option.proofs.Forms.{FormedRuns}
@@ -39,19 +39,19 @@ out-length [] = refl
 out-length (x ∷ xs) = omega (arith, out-length xs)
 
 -- Tag 2: the numbers.
-rising-lower : (lo lo′ : ℕ) (xs : List ℕ) → lo ≤ lo′ → rising lo′ xs ≡ true → rising lo xs ≡ true
+rising-lower : (lo lo′ : ℕ) (xs : List ℕ) → lo ≤ lo′ → ascending lo′ xs ≡ true → ascending lo xs ≡ true
 rising-lower lo lo′ [] h e = refl
 rising-lower lo lo′ (x ∷ xs) h e =
     let l = leb-true lo′ x (and-left (leb lo′ x) _ e) in
     rw (le-leb lo x (omega arith)) (and-right (leb lo′ x) _ e)
 
-up-rising : (x n : ℕ) (rest : List ℕ) → x + n ≤ 65535 → rising (x + n) rest ≡ true → rising x (countUp x n rest) ≡ true
+up-rising : (x n : ℕ) (rest : List ℕ) → x + n ≤ 65535 → ascending (x + n) rest ≡ true → ascending x (countUp x n rest) ≡ true
 up-rising x zero rest h e = rising-lower x (x + 0) rest (omega arith) e
 up-rising x (suc n) rest h e =
     let s : x + suc n ≡ x + 1 + n = omega arith in
     rw (le-leb x x (le-refl x), lt-ltb x 65535 (omega arith)) (up-rising (x + 1) n rest (omega arith) (rw s at e))
 
-pub numbers-rising : (lo : ℕ) (rs : List Run) → Canon lo rs → Below 65535 rs → rising lo (numbersOf rs) ≡ true
+pub numbers-rising : (lo : ℕ) (rs : List Run) → Canon lo rs → Below 65535 rs → ascending lo (numbersOf rs) ≡ true
 numbers-rising lo [] k b = refl
 numbers-rising lo (r ∷ rs) k b =
     rising-lower lo (r .low) (numbersOf (r ∷ rs)) (k .0)
@@ -120,7 +120,7 @@ bitmap-octets : (f : ℕ → Bool) (n : ℕ) → Octets (octetsOf f n)
 bitmap-octets f zero = tt
 bitmap-octets f (suc n) = octets-append (octetsOf f n) (bitsOf f (8 * n) 8 ∷ []) (bitmap-octets f n) (bits-lt f (8 * n) 8, tt)
 
-rising-octets : (lo : ℕ) (xs : List ℕ) → rising lo xs ≡ true → Octets (octetsOut xs)
+rising-octets : (lo : ℕ) (xs : List ℕ) → ascending lo xs ≡ true → Octets (octetsOut xs)
 rising-octets lo [] e = tt
 rising-octets lo (x ∷ xs) e =
     let e1 = and-right (leb lo x) _ e in

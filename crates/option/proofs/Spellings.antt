@@ -19,11 +19,11 @@ use Rattle.label.proofs.Canon.{Canon, Below, top-clear, top-covered}
 use Rattle.label.proofs.Count.{count-is, count-same}
 use Rattle.label.proofs.Labels.{formed, member-is, same-label}
 use Rattle.option.specs.Option.{tagOf, valid, Means}
-use Rattle.option.specs.Spelling.{tagFor, spellable, spellingOf, spelledBy, padded, spelledOf}
+use Rattle.option.specs.Spelling.{tagFor, spellingOf, spelledBy, padded, spelledOf}
 use Rattle.option.specs.Theorems.{Spells, Spellable, OneSpelling}
 use Rattle.option.proofs.Forms.{MeansRuns, FormedRuns, SpellsRuns, means-runs, runs-means, formed-runs}
 use Rattle.option.proofs.Meaning.{valid-most}
-use Rattle.option.proofs.Theorems.{spelled-none, spelled-some, spelling-spells, spelling-means, none-means, none-spellable, same-output}
+use Rattle.option.proofs.Theorems.{spellable, spelled-none, spelled-some, spelling-spells, spelling-means, none-means, none-spellable, same-output}
 use Rattle.option.proofs.Only.{spelling-only}
 
 module _ (l : Label) (w : wellFormed l ≡ true) where

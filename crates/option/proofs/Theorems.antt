@@ -1,33 +1,32 @@
 -- One label, one spelling.
-use Prim.Native.Nat.{ℕ, zero, suc, _+_, _-_, _*_, _/_, _%_, _≤_, _<_, zero-le}
+use Prim.Native.Nat.{ℕ, _+_, _-_, _*_, _≤_, _<_}
 use mathlib.Core.Path.{_≡_, refl, ap, sym, _∙_}
-use mathlib.Core.List.{List, [], _∷_, _++_}
-use mathlib.Core.Bool.{Bool, true, false, _&&_, _||_, cond, true≢false}
+use mathlib.Core.List.{List}
+use mathlib.Core.Bool.{Bool, true, false, cond, _||_}
 use mathlib.Core.Option.{Option, none, some}
-use mathlib.Core.Logic.{_⊎_, inl, inr, ⊎-elim, _↔_}
-use lib.ListN.{length, getD, drop, take, replicate, List·getD-append}
+use mathlib.Core.Logic.{_↔_}
+use lib.ListN.{length, getD, take, replicate, List·getD-append}
 use lib.Seq.{take-append-seam}
 use lib.Dec.{leb, eqb}
 use native.Mathlib.Omega.{arith}
 use native.Mathlib.Decide.{decLe}
-use borrow.Author.Tests.{le-leb, lt-leb, leb-false, eqb-true, eq-eqb, ne-eqb}
+use borrow.Author.Tests.{lt-leb, leb-false, eq-eqb, ne-eqb}
 use Rattle.label.specs.declared.Run.{Run}
-use Rattle.label.specs.Runs.{covers, countOf, topOf}
+use Rattle.label.specs.Runs.{countOf, topOf}
 use Rattle.option.specs.Spelling.{fromZero}
-use Rattle.label.proofs.Canon.{Canon, Below}
-use Rattle.option.specs.Option.{domainOf, levelOf, tagOf, bodyOf, valid, has}
+use Rattle.label.proofs.Bools.{or-none}
+use Rattle.option.specs.Option.{domainOf, levelOf, tagOf, bodyOf, valid}
 use Rattle.option.proofs.Forms.{MeansRuns}
-use Rattle.option.specs.Reading.{runsOf}
-use Rattle.option.specs.Spelling.{size1, size2, size5, tagFor, bodyFor, optionOf, spelledBy, spellingOf, spellable, padded}
+use Rattle.option.specs.Reading.{optionRuns}
+use Rattle.option.specs.Spelling.{size1, size2, size5, tagFor, bodyFor, spelledBy, spellingOf, padded}
 use Rattle.option.proofs.Forms.{FormedRuns, SpellsRuns}
-use Rattle.label.proofs.Canon.{unique}
 use Rattle.option.proofs.Choice.{Choice, take0, take1, take2, take5, choice}
 use Rattle.option.proofs.Meaning.{Bounds, by1, by2, by5, bounds, body-length, parts, reads-back}
 use Rattle.option.proofs.Spelled.{body1-length, body2-length, body5-length, octets1, good1, has1, octets2, good2, has2, octets5, good5, has5, option-means}
 
-or-none : (a b : Bool) → (a || b) ≡ false → (a ≡ false) × (b ≡ false)
-or-none false b e = (refl, e)
-or-none true b e = absurd (true≢false e)
+-- document 01: the highest category is at most 239 or there is none, or at most 15 categories, or at most 7 runs
+abbrev pub spellable : List Run → Bool
+spellable rs = leb (topOf rs) 240 || (leb (countOf rs) 15 || leb (length rs) 7)
 
 size5-least : (rs : List Run) → 4 * length rs ≤ size5 rs + 2
 size5-least rs = go (fromZero rs)
@@ -153,7 +152,7 @@ module _ (d v : ℕ) (rs : List Run) (w : FormedRuns d v rs) where
           spelled-none d v rs (fits-tag (tagFor rs) (choice rs) (leb-false _ _ (q .0)) (leb-false _ _ (r .0)) (leb-false _ _ (r .1)))
 
   -- every valid option that means the label is read to it, the spelling too
-  pub read-back : (o : List ℕ) → MeansRuns o d v rs → (domainOf o ≡ d) × (levelOf o ≡ v) × (runsOf o ≡ rs)
+  pub read-back : (o : List ℕ) → MeansRuns o d v rs → (domainOf o ≡ d) × (levelOf o ≡ v) × (optionRuns o ≡ rs)
   read-back o m = (m .domain, m .level, reads-back o d v rs m (w .canon))
 
 -- (e) equal spellings exactly for equal labels
@@ -161,14 +160,14 @@ module _ (d v : ℕ) (rs : List Run) (w : FormedRuns d v rs) (d′ v′ : ℕ) (
   pub same-spelling : s ≡ s′ ↔ ((d ≡ d′) × (v ≡ v′) × (rs ≡ rs′))
   same-spelling = (there, λ l. (let x = ap₃ (l .0) (l .1) (l .2) in cc))
     where
-      m : (domainOf s ≡ d) × (levelOf s ≡ v) × (runsOf s ≡ rs)
+      m : (domainOf s ≡ d) × (levelOf s ≡ v) × (optionRuns s ≡ rs)
       m = read-back d v rs w s (spelling-means d v rs w s e)
 
-      m′ : (domainOf s′ ≡ d′) × (levelOf s′ ≡ v′) × (runsOf s′ ≡ rs′)
+      m′ : (domainOf s′ ≡ d′) × (levelOf s′ ≡ v′) × (optionRuns s′ ≡ rs′)
       m′ = read-back d′ v′ rs′ w′ s′ (spelling-means d′ v′ rs′ w′ s′ e′)
 
       there : s ≡ s′ → (d ≡ d′) × (v ≡ v′) × (rs ≡ rs′)
-      there q = (sym (m .0) ∙ ap domainOf q ∙ m′ .0, sym (m .1) ∙ ap levelOf q ∙ m′ .1, sym (m .2) ∙ ap runsOf q ∙ m′ .2)
+      there q = (sym (m .0) ∙ ap domainOf q ∙ m′ .0, sym (m .1) ∙ ap levelOf q ∙ m′ .1, sym (m .2) ∙ ap optionRuns q ∙ m′ .2)
 
       ap₃ : d ≡ d′ → v ≡ v′ → rs ≡ rs′ → spellingOf d v rs ≡ spellingOf d′ v′ rs′
       ap₃ x y z = λ i. spellingOf (x i) (y i) (z i)

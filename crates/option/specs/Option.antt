@@ -45,9 +45,9 @@ singles [] = []
 singles (x ∷ xs) = run x x ∷ singles xs
 
 -- strictly ascending from lo on (house: no repeats), none 65535
-abbrev pub rising : ℕ → List ℕ → Bool
-rising lo [] = true
-rising lo (x ∷ xs) = leb lo x && (ltb x 65535 && rising (x + 1) xs)
+abbrev pub ascending : ℕ → List ℕ → Bool
+ascending lo [] = true
+ascending lo (x ∷ xs) = leb lo x && (ltb x 65535 && ascending (x + 1) xs)
 
 -- tag 5: pairs, top then bottom; the last bottom may be left out and is then 0
 abbrev pub pairsIn : List ℕ → List Run
@@ -67,7 +67,7 @@ isEven n = eqb (n % 2) 0
 unfoldable pub goodBody : ℕ → List ℕ → Bool
 goodBody t b =
     (eqb t 1 && leb (length b) 30)
-    || (eqb t 2 && (isEven (length b) && (leb (length b) 30 && rising 0 (numbersIn b))))
+    || (eqb t 2 && (isEven (length b) && (leb (length b) 30 && ascending 0 (numbersIn b))))
     || (eqb t 5 && (isEven (length b) && (leb (length b) 28 && falling 65535 (pairsIn (numbersIn b)))))
 
 -- the tag has the category: tag 1 those whose bit is 1, tag 2 its numbers, tag 5 every number from a bottom to its top

@@ -25,5 +25,5 @@ pieces t b =
     cond (eqb t 1) (bitPieces (bitAt b) (8 * length b)) (cond (eqb t 2) (turned [] (singles (numbersIn b))) (pairsIn (numbersIn b)))
 
 -- the pieces joined where they touch
-unfoldable pub runsOf : List ℕ → List Run
-runsOf o = joined (pieces (tagOf o) (bodyOf o))
+unfoldable pub optionRuns : List ℕ → List Run
+optionRuns o = joined (pieces (tagOf o) (bodyOf o))

@@ -1,9 +1,8 @@
 -- Document 01, "The leaving area"; demand 3: the one spelling of a label, its shortest valid option, equal lengths to tag 1, then 2, then 5.
 -- That it is so is proved over the meaning of an option (`Theorems`); here is how it is made.
-use Prim.Native.Nat.{ℕ, zero, suc, _+_, _-_, _*_, _/_, _%_, _≤_, _<_}
-use mathlib.Core.Path.{_≡_}
+use Prim.Native.Nat.{ℕ, zero, suc, _+_, _-_, _*_, _/_, _%_}
 use mathlib.Core.List.{List, [], _∷_, _++_}
-use mathlib.Core.Bool.{Bool, true, false, _&&_, _||_, cond}
+use mathlib.Core.Bool.{Bool, true, false, _&&_, cond}
 use mathlib.Core.Option.{Option, none, some}
 use lib.ListN.{length, replicate}
 use lib.Dec.{leb, eqb}
@@ -88,10 +87,6 @@ spelledBy t d v rs = optionOf d v t (bodyFor t rs)
 
 unfoldable pub spellingOf : ℕ → ℕ → List Run → Option (List ℕ)
 spellingOf d v rs = elim (eqb (tagFor rs) 0) [ true ↦ none | false ↦ some (spelledBy (tagFor rs) d v rs) ]
-
--- document 01: the highest category is at most 239 or there is none, or at most 15 categories, or at most 7 runs
-abbrev pub spellable : List Run → Bool
-spellable rs = leb (topOf rs) 240 || (leb (countOf rs) 15 || leb (length rs) 7)
 
 -- what 40 octets of output hold
 abbrev pub padded : List ℕ → List ℕ

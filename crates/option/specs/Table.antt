@@ -6,7 +6,7 @@ use mathlib.Core.Option.{Option, none, some}
 use lib.ListN.{drop, replicate}
 use Rattle.label.specs.declared.Run.{Run}
 use Rattle.label.specs.Runs.{run}
-use Rattle.option.specs.Reading.{runsOf}
+use Rattle.option.specs.Reading.{optionRuns}
 use Rattle.option.specs.Spelling.{spellingOf}
 
 -- n categories from x on, every other one
@@ -46,7 +46,7 @@ table =
     ∷ record { categories = everyOther 1 120; tag = some (1 ∷ 34 ∷ 0 ∷ 3 ∷ replicate 30 85) }
     -- P11 what pairs 300-299, 298-297 are read to: one pair 01 2c 01 29
     ∷ record {
-      categories = runsOf (134 ∷ 18 ∷ 0 ∷ 0 ∷ 0 ∷ 5 ∷ 5 ∷ 12 ∷ 0 ∷ 3 ∷ 1 ∷ 44 ∷ 1 ∷ 43 ∷ 1 ∷ 42 ∷ 1 ∷ 41 ∷ []);
+      categories = optionRuns (134 ∷ 18 ∷ 0 ∷ 0 ∷ 0 ∷ 5 ∷ 5 ∷ 12 ∷ 0 ∷ 3 ∷ 1 ∷ 44 ∷ 1 ∷ 43 ∷ 1 ∷ 42 ∷ 1 ∷ 41 ∷ []);
       tag = some (5 ∷ 8 ∷ 0 ∷ 3 ∷ 1 ∷ 44 ∷ 1 ∷ 41 ∷ []);
     }
     ∷ []

@@ -1,22 +1,23 @@
--- One law for every reader: what a piece does to the label under construction. The runs are those of `pushRun`, in their places.
-use Prim.Native.Nat.{ℕ, zero, suc, _+_, _-_, _≤_, _<_}
+-- One law for every reader: what a piece does to the keys under construction. The runs are those of `pushRun`, in their places.
+use Prim.Native.Nat.{ℕ, _+_, _-_, _≤_, _<_}
 use mathlib.Core.Path.{_≡_, refl, ap, sym, _∙_}
-use mathlib.Core.List.{List, [], _∷_, _++_, append-assoc}
+use mathlib.Core.List.{List, [], _∷_, _++_, map, map-append, append-assoc}
 use mathlib.Core.Bool.{Bool, true, false, _&&_, cond, and-false}
-use lib.ListN.{length, replicate, set, length-append}
+use lib.ListN.{length, set, drop, length-append, length-map}
 use lib.Seq.{set-append-seam}
 use lib.Dec.{ltb, eqb}
 use native.Mathlib.Omega.{arith}
 use borrow.Author.Tests.{lt-ltb, eq-eqb, eqb-true, eqb-false, ltb-true}
 use Rattle.label.specs.declared.Run.{Run}
-use Rattle.label.specs.declared.Label.{Label}
 use Rattle.label.specs.Runs.{run, pushRun, topOf}
-use Rattle.label.specs.Label.{noRun, labelOf}
+use Rattle.label.specs.Keys.{runKey}
 use Rattle.label.proofs.Bools.{and-left, and-right, not-yes}
-use Rattle.label.proofs.Labels.{with-run-of}
+use Rattle.label.proofs.Canon.{Below}
+use Rattle.label.proofs.Keys.{front-store}
 use Rattle.label.proofs.Push.{push-some}
 use Rattle.reading.specs.declared.Last.{Last}
-use Rattle.reading.specs.Building.{lastLow, lastOf, afterPiece, unfinished}
+use Rattle.reading.specs.Stages.{lastLow, lastOf, afterPiece}
+use Rattle.reading.specs.Keys.{atFront}
 
 -- The last run of a list.
 
@@ -65,39 +66,59 @@ piece-last rs l h = go (pushRun rs l h) (pushed rs l h)
         rw test
         (λ i. record { count = sym (length-append rs (run l h ∷ [])) i; low = sym (low-snoc rs (run l h)) i; next = sym (top-snoc rs (run l h)) i })
 
--- The store at the last place in use, or the first unused one.
-pub piece-stored : (rs : List Run) (l h : ℕ) → length (pushRun rs l h) ≤ 120
-    → set (rs ++ replicate (120 - length rs) noRun) (length (pushRun rs l h) - 1) (run (lastLow (pushRun rs l h)) h)
-    ≡ pushRun rs l h ++ replicate (120 - length (pushRun rs l h)) noRun
-piece-stored rs l h = go (pushRun rs l h) (pushed rs l h)
+-- The store at the last key in use, or after it.
+pub piece-stored : (rs : List Run) (l h : ℕ) (was : List ℕ) → length (pushRun rs l h) ≤ length was
+    → set (atFront (map runKey rs) was) (length (pushRun rs l h) - 1) (runKey (run (lastLow (pushRun rs l h)) h)) ≡ atFront (map runKey (pushRun rs l h)) was
+piece-stored rs l h was = go (pushRun rs l h) (pushed rs l h)
   where
-    go : (ps : List Run) → Pushed rs l h ps → length ps ≤ 120
-        → set (rs ++ replicate (120 - length rs) noRun) (length ps - 1) (run (lastLow ps) h) ≡ ps ++ replicate (120 - length ps) noRun
+    go : (ps : List Run) → Pushed rs l h ps → length ps ≤ length was
+        → set (atFront (map runKey rs) was) (length ps - 1) (runKey (run (lastLow ps) h)) ≡ atFront (map runKey ps) was
     go ps (joins xs r e t) k =
         let y : Run = run (r .low) h in
+        let ks : List ℕ = map runKey xs in
         let m : length (xs ++ y ∷ []) ≡ length xs + 1 = length-append xs (y ∷ []) in
-        let n : length rs ≡ length (xs ++ y ∷ []) = ap length e ∙ length-append xs (r ∷ []) ∙ sym m in
-        let at : length (xs ++ y ∷ []) - 1 ≡ length xs = omega arith in
-        let zs : List Run = replicate (120 - length (xs ++ y ∷ [])) noRun in
-        rw (n, at, low-snoc xs y, e, append-assoc xs (r ∷ []) zs, append-assoc xs (y ∷ []) zs) (set-append-seam xs r zs y)
+        let n : length (map runKey (xs ++ r ∷ [])) ≡ length (map runKey (xs ++ y ∷ [])) =
+        length-map (xs ++ r ∷ []) runKey ∙ length-append xs (r ∷ []) ∙ sym m ∙ sym (length-map (xs ++ y ∷ []) runKey) in
+        let at : length (xs ++ y ∷ []) - 1 ≡ length ks = omega (arith, length-map xs runKey) in
+        let zs : List ℕ = drop (length (map runKey (xs ++ y ∷ []))) was in
+        rw (e, n, at, low-snoc xs y)
+        (ap (λ (z : List ℕ). set (z ++ zs) (length ks) (runKey y)) (map-append runKey xs (r ∷ []))
+        ∙ ap (λ (z : List ℕ). set z (length ks) (runKey y)) (append-assoc ks (runKey r ∷ []) zs)
+        ∙ set-append-seam ks (runKey r) zs (runKey y)
+        ∙ sym (append-assoc ks (runKey y ∷ []) zs)
+        ∙ ap (λ (z : List ℕ). z ++ zs) (sym (map-append runKey xs (y ∷ []))))
     go ps (adds no-touch) k =
         let m : length (rs ++ run l h ∷ []) ≡ length rs + 1 = length-append rs (run l h ∷ []) in
-        let at : length (rs ++ run l h ∷ []) - 1 ≡ length rs = omega arith in
-        rw (at, low-snoc rs (run l h)) (with-run-of rs (run l h) (omega arith))
+        let at : length (rs ++ run l h ∷ []) - 1 ≡ length (map runKey rs) = omega (arith, length-map rs runKey) in
+        rw (at, low-snoc rs (run l h), map-append runKey rs (run l h ∷ [])) (front-store (map runKey rs) was (runKey (run l h)) (omega (arith, length-map rs runKey)))
 
--- A label under construction, and what is remembered of its last run.
-pub record Stands (d v : ℕ) (rs : List Run) (label : Label) (last : Last) : Type 0 where
-  pub label-is : label ≡ unfinished d v rs
+-- a piece below a limit leaves the runs below it
+push-limit : (n l h : ℕ) (rs : List Run) → h < n → Below n rs → Below n (pushRun rs l h)
+push-limit n l h [] k b = (k, tt)
+push-limit n l h (r ∷ []) k b = go (eqb (r .high + 1) l)
+  where
+    go : (t : Bool) → Below n (cond t (run (r .low) h ∷ []) (r ∷ run l h ∷ []))
+    go true = (k, tt)
+    go false = (b .0, (k, tt))
+push-limit n l h (r ∷ s ∷ rs) k b = (b .0, push-limit n l h (s ∷ rs) k (b .1))
+
+-- Keys under construction, and what is remembered of the last run.
+pub record Stands (was : List ℕ) (rs : List Run) (keys : List ℕ) (last : Last) : Type 0 where
+  pub keys-are : keys ≡ atFront (map runKey rs) was
   pub last-is : last ≡ lastOf rs
+  pub small : Below 65536 rs
 
-pub stands-nil : (d v : ℕ) → Stands d v [] (unfinished d v []) (record { count = 0; low = 0; next = 0 })
-stands-nil d v = record { label-is = refl; last-is = refl }
+pub stands-nil : (was : List ℕ) → Stands was [] was (record { count = 0; low = 0; next = 0 })
+stands-nil was = record { keys-are = refl; last-is = refl; small = tt }
 
-pub stands-count : {d v : ℕ} {rs : List Run} {label : Label} {last : Last} → Stands d v rs label last → last .count ≡ length rs
+pub stands-count : {was keys : List ℕ} {rs : List Run} {last : Last} → Stands was rs keys last → last .count ≡ length rs
 stands-count s = ap (λ (x : Last). x .count) (s .last-is)
 
+pub stands-next : {was keys : List ℕ} {rs : List Run} {last : Last} → Stands was rs keys last → last .next ≡ topOf rs
+stands-next s = ap (λ (x : Last). x .next) (s .last-is)
+
 -- what the code does with a piece
-module _ {d v : ℕ} {rs : List Run} {label : Label} {last : Last} (s : Stands d v rs label last) (l h : ℕ) (after : Last) (e : after ≡ afterPiece last l h) where
+module _ {was keys : List ℕ} {rs : List Run} {last : Last} (s : Stands was rs keys last) (l h : ℕ) (after : Last) (e : after ≡ afterPiece last l h) where
   pub piece-is : after ≡ lastOf (pushRun rs l h)
   piece-is = e ∙ ap (λ (x : Last). afterPiece x l h) (s .last-is) ∙ piece-last rs l h
 
@@ -107,15 +128,11 @@ module _ {d v : ℕ} {rs : List Run} {label : Label} {last : Last} (s : Stands d
   pub piece-some : 0 < after .count
   piece-some = omega (arith, piece-count, push-some l h rs)
 
-  pub stands-push : length (pushRun rs l h) ≤ 120
-      → Stands d v (pushRun rs l h) (record { domain = label .domain; level = label .level; count = label .count; runs = set (label .runs) (after .count - 1) (run (after .low) h) }) after
-  stands-push k =
+  pub stands-push : length (pushRun rs l h) ≤ length was → h < 65536 → (key : ℕ) → key ≡ runKey (run (after .low) h)
+      → Stands was (pushRun rs l h) (set keys (after .count - 1) key) after
+  stands-push k b key q =
       record {
-        label-is = rw (s .label-is, piece-is) (ap (λ (z : List Run). record { domain = d; level = v; count = 0; runs = z }) (piece-stored rs l h k));
+        keys-are = rw (s .keys-are, q, piece-is) (piece-stored rs l h was k);
         last-is = piece-is;
+        small = push-limit 65536 l h rs b (s .small);
       }
-
--- the finished label
-pub finished : {d v : ℕ} {rs : List Run} {label : Label} {last : Last} → Stands d v rs label last
-    → _≡_ {A = Label} (record { domain = label .domain; level = label .level; count = last .count; runs = label .runs }) (labelOf d v rs)
-finished s = rw (s .label-is, s .last-is)

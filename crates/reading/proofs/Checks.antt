@@ -68,11 +68,6 @@ module _ (o : List ℕ) where
       let m : size + 6 - 10 ≡ tagLengthOf o - 4 = omega arith in
       ap (λ (n : ℕ). take n (drop 10 o)) m
 
-  -- the label that the code makes of it
-  pub label-is : (d : ℕ) (part : List ℕ) (l : Label) → d ≡ domainOf o → part ≡ categoriesIn o → l ≡ labelOf d (levelOf o) (joined (pieces (tagOf o) part)) → l ≡ labelIn o
-  unfolding labelIn
-  label-is d part l e f g = g ∙ (λ i. labelOf (e i) (levelOf o) (joined (pieces (tagOf o) (f i))))
-
   pub stops9 : knownTag (tagOf o) ≡ false → firstOf (tagChecks o) (labelIn o) ≡ refusal 9 6
   unfolding tagChecks
   stops9 e = rw e

@@ -1,6 +1,6 @@
 pub mod Building
-pub mod Octets
 pub mod Loops
 pub mod Checks
+pub mod Keys
 pub mod Valid
 pub mod Theorems

@@ -1,28 +1,37 @@
 -- How many runs a reader's loop can have made, and its next piece.
 use Prim.Native.Nat.{ℕ, zero, suc, _+_, _-_, _*_, _/_, _%_, _≤_, _<_, zero-le}
 use mathlib.Core.Path.{_≡_, refl, ap, sym, _∙_}
-use mathlib.Core.List.{List, []}
-use mathlib.Core.Bool.{Bool, true, false, cond}
+use mathlib.Core.List.{List, [], _++_, map}
+use mathlib.Core.Bool.{Bool, true, false, cond, _||_}
 use mathlib.Core.Logic.{_⊎_, inl, inr, ⊎-elim}
-use lib.ListN.{length, getD}
+use lib.ListN.{length, drop, length-map}
 use lib.Dec.{leb, ltb, eqb}
 use native.Mathlib.Omega.{arith}
 use native.Mathlib.Numerals.{add-one}
 use Rattle.label.specs.declared.Run.{Run}
-use Rattle.label.specs.Runs.{pushRun, joined}
+use Rattle.label.specs.Runs.{pushRun, joined, topOf}
 use Rattle.label.proofs.Bools.{less-or}
 use Rattle.label.proofs.Canon.{canon-length}
-use Rattle.label.proofs.Push.{push-length, push-more}
-use borrow.Author.Tests.{eq-eqb, ne-eqb, le-leb, lt-leb, lt-ltb, le-ltb}
+use Rattle.label.proofs.Push.{push-length, push-more, push-top}
+use borrow.Author.Tests.{eqb-false, le-leb, lt-leb, lt-ltb, le-ltb}
+use Rattle.bitmap.specs.declared.Found.{Found}
+use Rattle.bitmap.specs.Bitmap.{bitmapRuns, bitmapFound, bitmapKeys}
+use Rattle.bitmap.proofs.Theorems.{bitmap-below, bitmap-most, bitmap-found, bitmap-keys}
 use Rattle.option.specs.Bitmap.{bitAt}
 use Rattle.option.specs.Option.{numbersIn, singles, pairsIn}
 use Rattle.option.specs.Reading.{turned, bitPieces, pieces}
-use Rattle.option.specs.Index.{setRuns, rangeRuns, firstTrue, numberAt, pairsOf, lowPair, highPair}
+use Rattle.option.specs.Index.{setRuns, rangeRuns, firstTrue, numberAt, badNumber, badPair, pairsOf, lowPair, highPair}
 use Rattle.option.proofs.Pieces.{joined-good, bits-falling}
 use Rattle.option.proofs.Bridge.{set-joined, numbers-joined, pairs-joined}
-use Rattle.reading.specs.Reading.{countIn, badIn, badPlace}
-use Rattle.reading.specs.Building.{leftIn, lowIn, highIn}
-use Rattle.reading.proofs.Octets.{zerosOf, onesOf, restOf, Ones, none-left, ones-left, passed-bits}
+use Rattle.option.proofs.Bad.{first-is}
+use Rattle.reading.specs.Reading.{badPlace}
+use Rattle.label.specs.Keys.{runKey}
+use Rattle.reading.specs.declared.Last.{Last}
+use Rattle.reading.specs.declared.Pass.{Pass}
+use Rattle.reading.specs.Keys.{runsIn, atFront}
+use Rattle.reading.specs.Stages.{PassOver}
+use Rattle.label.proofs.Keys.{keys-back}
+use Rattle.reading.proofs.Building.{Stands, stands-count}
 
 -- at most one run a piece
 pub range-most : (lo hi : ℕ → ℕ) (n : ℕ) → length (rangeRuns lo hi n) ≤ n
@@ -35,100 +44,6 @@ range-next lo hi n = rw (add-one n)
 pub range-room : (lo hi : ℕ → ℕ) (n : ℕ) → length (pushRun (rangeRuns lo hi n) (lo n) (hi n)) ≤ n + 1
 range-room lo hi n = omega (arith, range-most lo hi (suc n))
 
--- of n bits at most every other one begins a run
-pub set-most : (f : ℕ → Bool) (n : ℕ) → n ≤ 240 → length (setRuns f n) ≤ 120
-set-most f n h =
-    let g = joined-good n (bitPieces f n) (bits-falling f n) in
-    omega (arith, ap length (set-joined f n), canon-length n 0 (joined (bitPieces f n)) (g .0) (g .1) zero-le)
-
-module _ (f : ℕ → Bool) (c : ℕ) where
-  -- bits that are all 0 add nothing
-  pub clear-bits : (e : ℕ) → c ≤ e → ((k : ℕ) → c ≤ k → k < e → f k ≡ false) → setRuns f e ≡ setRuns f c
-  clear-bits zero h z = let q : zero ≡ c = omega arith in ap (setRuns f) q
-  clear-bits (suc e) h z = go (less-or e c) (λ w. clear-bits e w (λ k p q. z k p (omega arith)))
-    where
-      go : (e < c) ⊎ (c ≤ e) → (c ≤ e → setRuns f e ≡ setRuns f c) → setRuns f (suc e) ≡ setRuns f c
-      go (inl w) ih = let q : suc e ≡ c = omega arith in ap (setRuns f) q
-      go (inr w) ih = rw (z e w (omega arith)) (ih w)
-
-  -- bits that are all 1 are one piece
-  pub set-bits : (e : ℕ) → c ≤ e → ((k : ℕ) → c ≤ k → k ≤ e → f k ≡ true) → pushRun (setRuns f c) c e ≡ setRuns f (suc e)
-  set-bits zero h z =
-      let q : c ≡ zero = omega arith in
-      rw (q, z zero h (omega arith))
-  set-bits (suc e) h z = go (less-or e c) (λ w. set-bits e w (λ k p q. z k p (omega arith)))
-    where
-      go : (e < c) ⊎ (c ≤ e) → (c ≤ e → pushRun (setRuns f c) c e ≡ setRuns f (suc e)) → pushRun (setRuns f c) c (suc e) ≡ setRuns f (suc (suc e))
-      go (inl w) ih =
-          let q : c ≡ suc e = omega arith in
-          rw (z (suc e) h (omega arith), q)
-      go (inr w) ih =
-          rw (z (suc e) h (omega arith), ← ih w)
-          (sym (ap (λ (n : ℕ). pushRun (pushRun (setRuns f c) c e) n (suc e)) (sym (add-one e)) ∙ push-more c e (suc e) (setRuns f c)))
-
--- Where the reader of a bitmap stands: `left` has the bits of octet i from category c on.
-pub record Inside (b : List ℕ) (i c left : ℕ) : Type 0 where
-  pub from : 8 * i ≤ c
-  pub most : c ≤ 8 * i + 8
-  pub whole : c ≤ 8 * length b
-  pub small : getD b i 0 < 256
-  pub left-is : left ≡ leftIn (getD b i 0) (c - 8 * i)
-
-pub inside-start : (b : List ℕ) (i left : ℕ) → i ≤ length b → getD b i 0 < 256 → left ≡ leftIn (getD b i 0) 0 → Inside b i (8 * i) left
-inside-start b i left h small e =
-    let z : 8 * i - 8 * i ≡ 0 = omega arith in
-    record { from = omega arith; most = omega arith; whole = omega arith; small = small; left-is = rw z e }
-
-module _ {b : List ℕ} {i c left : ℕ} (t : Inside b i c left) where
-  place : 8 * i + (c - 8 * i) ≡ c
-  place = omega (arith, t .from)
-
-  -- nothing is left of the octet
-  pub octet-over : left ≡ 0 → setRuns (bitAt b) (8 * i + 8) ≡ setRuns (bitAt b) c
-  octet-over z =
-      clear-bits (bitAt b) c (8 * i + 8) (t .most) (λ k p q. passed-bits b true i (c - 8 * i) 8 (t .small) (none-left (getD b i 0) (c - 8 * i) left (t .small) (omega (arith, t .from, t .most)) (t .left-is) z) k (omega (arith, place)) q)
-
-  module _ (z : left ≡ 0 → ⊥) where
-    ones : Ones (getD b i 0) (c - 8 * i) left
-    ones = ones-left (getD b i 0) (c - 8 * i) left (t .small) (omega (arith, t .from, t .most)) (t .left-is) z
-
-    pub ones-some : 0 < onesOf left
-    ones-some = ones .some
-
-    pub ones-most : c + zerosOf left + onesOf left ≤ 8 * i + 8
-    ones-most = omega (arith, place, ones .ones-full .most)
-
-    -- the ones are the next piece
-    pub octet-piece : pushRun (setRuns (bitAt b) c) (c + zerosOf left) (c + zerosOf left + onesOf left - 1) ≡ setRuns (bitAt b) (c + zerosOf left + onesOf left)
-    octet-piece =
-        let low : ℕ = c + zerosOf left in
-        let high : ℕ = low + onesOf left - 1 in
-        let e : suc high ≡ low + onesOf left = omega (arith, ones-some) in
-        let clear : setRuns (bitAt b) low ≡ setRuns (bitAt b) c =
-        clear-bits (bitAt b) c low (omega arith) (λ k p q. passed-bits b true i (c - 8 * i) (c - 8 * i + zerosOf left) (t .small) (ones .zeros-clear) k (omega (arith, place)) (omega (arith, place))) in
-        ap (λ (rs : List Run). pushRun rs low high) (sym clear)
-        ∙ set-bits (bitAt b) low high (omega (arith, ones-some)) (λ k p q. passed-bits b false i (c - 8 * i + zerosOf left) (c - 8 * i + zerosOf left + onesOf left) (t .small) (ones .ones-full) k (omega (arith, place)) (omega (arith, place, ones-some)))
-        ∙ ap (setRuns (bitAt b)) e
-
-    pub inside-next : i < length b → Inside b i (c + zerosOf left + onesOf left) (restOf left)
-    inside-next h =
-        let e : c - 8 * i + zerosOf left + onesOf left ≡ c + zerosOf left + onesOf left - 8 * i = omega (arith, t .from) in
-        record {
-          from = omega (arith, t .from);
-          most = ones-most;
-          whole = omega (arith, ones-most);
-          small = t .small;
-          left-is = ones .rest-is ∙ ap (leftIn (getD b i 0)) e;
-        }
-
--- at most 15 numbers or pairs
-pub count-most : (t : ℕ) (b : List ℕ) → length b ≤ 30 → countIn t b ≤ 15
-count-most t b h = go (eqb t 2)
-  where
-    go : (z : Bool) → cond z (length b / 2) (pairsOf b) ≤ 15
-    go true = omega arith
-    go false = omega arith
-
 pub first-most : (f : ℕ → Bool) (n : ℕ) → firstTrue f n ≤ n
 first-most f zero = zero-le
 first-most f (suc n) = go (f zero) (first-most (λ k. f (suc k)) n)
@@ -137,36 +52,82 @@ first-most f (suc n) = go (f zero) (first-most (λ k. f (suc k)) n)
     go true h = omega arith
     go false h = omega arith
 
-pub first-few : (t : ℕ) (b : List ℕ) → length b ≤ 30 → firstTrue (badIn t b) (countIn t b) ≤ 15
-first-few t b h = omega (arith, first-most (badIn t b) (countIn t b), count-most t b h)
+-- Where no number or pair is bad, the runs that are written are those of the tag's pieces.
+pub runs-joined : (t : ℕ) (b : List ℕ) → ((t ≡ 1 → ⊥) → length b % 2 ≡ 0) → length b ≤ badPlace t b → runsIn t b ≡ joined (pieces t b)
+unfolding pieces
+runs-joined t b even fine = go (eqb t 1) refl (eqb t 2) fine
+  where
+    go : (x : Bool) → eqb t 1 ≡ x → (y : Bool)
+        → length b ≤ cond x (length b) (cond y 2 4 * firstTrue (λ k. cond y (badNumber b k) (badPair b k)) (cond y (length b / 2) (pairsOf b)))
+        → cond x (setRuns (bitAt b) (8 * length b)) (cond y (rangeRuns (numberAt b) (numberAt b) (firstTrue (badNumber b) (length b / 2))) (rangeRuns (lowPair b) (highPair b) (pairsOf b)))
+        ≡ joined (cond x (bitPieces (bitAt b) (8 * length b)) (cond y (turned [] (singles (numbersIn b))) (pairsIn (numbersIn b))))
+    go true p y f = set-joined (bitAt b) (8 * length b)
+    go false p true f =
+        let ev = even (eqb-false t 1 p) in
+        let all : firstTrue (badNumber b) (length b / 2) ≡ length b / 2 = omega (arith, first-most (badNumber b) (length b / 2)) in
+        ap (rangeRuns (numberAt b) (numberAt b)) all ∙ numbers-joined b ev
+    go false p false f = pairs-joined b (even (eqb-false t 1 p))
 
--- where the first bad one begins
-module _ (t : ℕ) (b : List ℕ) (k : ℕ) where
-  pub place-two : t ≡ 2 → k ≡ firstTrue (badIn t b) (countIn t b) → 2 * k ≡ badPlace t b
-  place-two e f = ap (λ (x : ℕ). 2 * x) f ∙ rest (eqb t 1) (ne-eqb t 1 (λ z. omega arith)) (eqb t 2) (eq-eqb t 2 e) (firstTrue (badIn t b) (countIn t b))
-    where
-      rest : (x : Bool) → x ≡ false → (y : Bool) → y ≡ true → (n : ℕ) → 2 * n ≡ cond x (length b) (cond y 2 4 * n)
-      rest x p y q n = rw (p, q)
+-- Tag 2: below the category after the last run, or not above the number before.
+pub bad-number-is : (b : List ℕ) (k next : ℕ) → next ≡ topOf (rangeRuns (numberAt b) (numberAt b) k) → (eqb (numberAt b k) 65535 || leb (numberAt b k + 1) next) ≡ badNumber b k
+bad-number-is b zero next e = rw e (ap (λ (z : Bool). eqb (numberAt b zero) 65535 || z) (lt-leb (numberAt b zero + 1) 0 (omega arith)))
+bad-number-is b (suc k) next e =
+    let top : next ≡ numberAt b k + 1 = e ∙ push-top (numberAt b k) (numberAt b k) (rangeRuns (numberAt b) (numberAt b) k) in
+    let k-is : suc k - 1 ≡ k = omega arith in
+    rw (top, k-is, lt-ltb 0 (suc k) (omega arith)) (ap (λ (z : Bool). eqb (numberAt b (suc k)) 65535 || z) (same-leb (numberAt b (suc k)) (numberAt b k)))
+  where
+    same-leb : (x y : ℕ) → leb (x + 1) (y + 1) ≡ leb x y
+    same-leb x y = ⊎-elim (λ w. lt-leb (x + 1) (y + 1) (omega arith) ∙ sym (lt-leb x y (omega arith))) (λ w. le-leb (x + 1) (y + 1) (omega arith) ∙ sym (le-leb x y w)) (less-or y x)
 
-  pub place-five : (t ≡ 1 → ⊥) → (t ≡ 2 → ⊥) → k ≡ firstTrue (badIn t b) (countIn t b) → 4 * k ≡ badPlace t b
-  place-five n m f = ap (λ (x : ℕ). 4 * x) f ∙ rest (eqb t 1) (ne-eqb t 1 n) (eqb t 2) (ne-eqb t 2 m) (firstTrue (badIn t b) (countIn t b))
-    where
-      rest : (x : Bool) → x ≡ false → (y : Bool) → y ≡ false → (n : ℕ) → 4 * n ≡ cond x (length b) (cond y 2 4 * n)
-      rest x p y q n = rw (p, q)
+-- Tag 5: the first bad pair of those from j on, met from the last to the first.
+pub record FirstFrom (f : ℕ → Bool) (n j bad : ℕ) : Type 0 where
+  pub from : j ≤ bad
+  pub most : bad ≤ n
+  pub before : (k : ℕ) → j ≤ k → k < bad → f k ≡ false
+  pub here : bad < n → f bad ≡ true
 
--- The pieces of a tag are what its runs are made of.
-module _ (t : ℕ) (b : List ℕ) where
-  pub bitmap-joined : t ≡ 1 → setRuns (bitAt b) (8 * length b) ≡ joined (pieces t b)
-  unfolding pieces
-  bitmap-joined e = set-joined (bitAt b) (8 * length b) ∙ rw (eq-eqb t 1 e)
+pub first-start : (f : ℕ → Bool) (n : ℕ) → FirstFrom f n n n
+first-start f n = record { from = omega arith; most = omega arith; before = λ k p q. absurd (omega arith); here = λ h. absurd (omega arith) }
 
-  pub pieces-joined : (t ≡ 1 → ⊥) → length b % 2 ≡ 0 → rangeRuns (lowIn t b) (highIn t b) (countIn t b) ≡ joined (pieces t b)
-  unfolding pieces
-  pieces-joined n even = rw (ne-eqb t 1 n, pieces) (go (eqb t 2))
-    where
-      go : (z : Bool) → rangeRuns (λ k. cond z (numberAt b k) (lowPair b k)) (λ k. cond z (numberAt b k) (highPair b k)) (cond z (length b / 2) (pairsOf b)) ≡ joined (cond z (turned [] (singles (numbersIn b))) (pairsIn (numbersIn b)))
-      go true = numbers-joined b even
-      go false = pairs-joined b even
+pub first-next : {f : ℕ → Bool} {n j bad : ℕ} → FirstFrom f n j bad → (i : ℕ) → j ≡ i + 1 → (is : Bool) → is ≡ f i → (r : ℕ) → r ≡ cond is i bad → FirstFrom f n i r
+first-next {f} {n} {j} {bad} t i e true p r q =
+    rw q (record { from = omega arith; most = omega (arith, t .from, t .most); before = λ k a b. absurd (omega arith); here = λ h. sym p })
+first-next {f} {n} {j} {bad} t i e false p r q =
+    rw q
+    (record {
+      from = omega (arith, t .from);
+      most = t .most;
+      before = λ k a b. ⊎-elim (λ w. t .before k (omega arith) b) (λ w. (let z : k ≡ i = omega arith in ap f z ∙ sym p)) (less-or i k);
+      here = t .here;
+    })
+
+pub first-found : {f : ℕ → Bool} {n bad : ℕ} → FirstFrom f n 0 bad → bad ≡ firstTrue f n
+first-found {f} {n} {bad} t = sym (first-is f n bad (t .most) (λ k q. t .before k (omega arith) q) (t .here))
+
+-- What a pass leaves.
+pub pass-of : (t : ℕ) (b : List ℕ) {was keys : List ℕ} {rs : List Run} {last : Last} → Stands was rs keys last → rs ≡ runsIn t b → length rs ≤ 120
+    → (bad : ℕ) → bad ≡ badPlace t b → PassOver t b was keys (record { count = last .count; bad = bad })
+pass-of t b {was} {keys} {rs} {last} s e h bad f =
+    record {
+      counted = stands-count s ∙ ap length e;
+      held = omega (arith, stands-count s);
+      bad-at = f;
+      left = s .keys-are ∙ ap (λ (z : List Run). atFront (map runKey z) was) e;
+      stands = rw (← e) (keys-back rs (s .small));
+    }
+
+-- Tag 1: what the table's engine leaves.
+pub pass-bitmap : (b was keys : List ℕ) (f : Found) → length b ≤ 30 → 120 ≤ length was → (f ≡ bitmapFound b (length was)) × (keys ≡ bitmapKeys b was)
+    → PassOver 1 b was keys (record { count = f .count; bad = length b })
+pass-bitmap b was keys f h room e =
+    let counted : f .count ≡ length (bitmapRuns b) = ap (λ (g : Found). g .count) (e .0 ∙ bitmap-found b h was room) in
+    record {
+      counted = counted;
+      held = omega (arith, counted, bitmap-most b h);
+      bad-at = refl;
+      left = e .1 ∙ bitmap-keys b h was room ∙ ap (λ (n : ℕ). map runKey (bitmapRuns b) ++ drop n was) (sym (length-map (bitmapRuns b) runKey));
+      stands = keys-back (bitmapRuns b) (bitmap-below b h);
+    }
 
 -- below the next number is at most this one
 pub below-next : (a b : ℕ) → ltb a (b + 1) ≡ leb a b

@@ -13,7 +13,7 @@ use Rattle.label.specs.Label.{labelOf}
 use Rattle.label.proofs.Bools.{less-or}
 use Rattle.label.proofs.Labels.{formed}
 use Rattle.option.specs.Option.{Octets, domainOf, levelOf, valid, Means}
-use Rattle.option.specs.Reading.{pieces, runsOf}
+use Rattle.option.specs.Reading.{pieces, optionRuns}
 use Rattle.option.proofs.Meaning.{parts}
 use Rattle.reading.specs.declared.Reading.{Reading}
 use Rattle.reading.specs.Reading.{found, refusal, firstOf, tagChecks, labelIn, readingBy, framed, readingOf, readingFor}
@@ -40,7 +40,7 @@ module _ (foreign : Bool) (o : List ℕ) (oct : Octets o) where
           go true p = absurd (let z : _≡_ {A = ℕ} 8 0 = number (stops8 o foreign p h) in omega arith)
           go false p = (passed-valid o oct f h (zero-passed o (number (goes-on o foreign p h))), p)
 
-  pub valid-reads : valid o ≡ true → foreign ≡ false → readingBy foreign o ≡ found (labelOf (domainOf o) (levelOf o) (runsOf o))
+  pub valid-reads : valid o ≡ true → foreign ≡ false → readingBy foreign o ≡ found (labelOf (domainOf o) (levelOf o) (optionRuns o))
   valid-reads v p = goes-on o foreign p (parts o v .long) ∙ valid-passes o oct v
 
 valid-framed : (o : List ℕ) → valid o ≡ true → framed o ≡ true
@@ -63,7 +63,7 @@ module _ (o : List ℕ) where
           (let z : _≡_ {A = ℕ} 3 0 = ap (λ (r : Reading). r .number) (sym (stops3 o (λ f. mathlib.Core.Bool.true≢false (sym (parts-framed o f) ∙ p)))) ∙ e in
           omega arith)
 
-  pub alone-reads : Octets o → valid o ≡ true → (domainOf o ≡ 0 → ⊥) → readingOf o ≡ found (labelOf (domainOf o) (levelOf o) (runsOf o))
+  pub alone-reads : Octets o → valid o ≡ true → (domainOf o ≡ 0 → ⊥) → readingOf o ≡ found (labelOf (domainOf o) (levelOf o) (optionRuns o))
   alone-reads oct v n = alone o (valid-framed o v) ∙ valid-reads (eqb (domainOf o) 0) o oct v (ne-eqb (domainOf o) 0 n)
 
   pub alone-valid : Octets o → readingOf o .number ≡ 0 → (valid o ≡ true) × (domainOf o ≡ 0 → ⊥)
@@ -84,7 +84,7 @@ reads-alone =
 
 -- Read for a port.
 module _ (d : ℕ) (o : List ℕ) where
-  pub port-reads : Octets o → valid o ≡ true → domainOf o ≡ d → readingFor d o ≡ found (labelOf (domainOf o) (levelOf o) (runsOf o))
+  pub port-reads : Octets o → valid o ≡ true → domainOf o ≡ d → readingFor d o ≡ found (labelOf (domainOf o) (levelOf o) (optionRuns o))
   port-reads oct v e = for-port d o ∙ valid-reads (not (eqb (domainOf o) d)) o oct v (ap not (eq-eqb (domainOf o) d e))
 
   pub port-valid : Octets o → framed o ≡ true → readingFor d o .number ≡ 0 → (valid o ≡ true) × (domainOf o ≡ d)

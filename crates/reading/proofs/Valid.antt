@@ -15,8 +15,8 @@ use Rattle.label.specs.Label.{labelOf, used, wellFormed}
 use Rattle.label.proofs.Bools.{and-left, and-right, or-cases, never}
 use Rattle.label.proofs.Canon.{canon-spaced}
 use Rattle.label.proofs.Labels.{Formed, formed, well-formed, used-of, formed-of, of-used}
-use Rattle.option.specs.Option.{Octets, domainOf, tagOf, tagLengthOf, levelOf, bodyOf, numbersIn, rising, pairsIn, falling, goodBody, valid, Means}
-use Rattle.option.specs.Reading.{pieces, runsOf}
+use Rattle.option.specs.Option.{Octets, domainOf, tagOf, tagLengthOf, levelOf, bodyOf, numbersIn, ascending, pairsIn, falling, goodBody, valid, Means}
+use Rattle.option.specs.Reading.{pieces, optionRuns}
 use Rattle.option.specs.Index.{firstTrue, badNumber, badPair, pairsOf}
 use Rattle.option.proofs.Forms.{MeansRuns, means-runs, runs-means, formed-runs}
 use Rattle.option.proofs.Meaning.{Parts, parts, parts-valid, Tagged, one, two, five, tagged, reads-canon, reads-covers, reads-fit, reads-back}
@@ -136,8 +136,8 @@ module _ (o : List ℕ) where
   body-is e = take-all (tagLengthOf o - 4) (drop 10 o) (omega (arith, length-drop 10 o))
 
   -- and what is read is the label of its runs
-  pub label-of : tagLengthOf o + 6 ≡ length o → labelIn o ≡ labelOf (domainOf o) (levelOf o) (runsOf o)
-  unfolding labelIn runsOf
+  pub label-of : tagLengthOf o + 6 ≡ length o → labelIn o ≡ labelOf (domainOf o) (levelOf o) (optionRuns o)
+  unfolding labelIn optionRuns
   label-of e = ap (λ (b : List ℕ). labelOf (domainOf o) (levelOf o) (joined (pieces (tagOf o) b))) (body-is e)
 
   module _ (oct : Octets o) where
@@ -172,25 +172,25 @@ module _ (o : List ℕ) where
           ends = omega arith;
         }
 
-    pub valid-passes : valid o ≡ true → firstOf (tagChecks o) (labelIn o) ≡ found (labelOf (domainOf o) (levelOf o) (runsOf o))
+    pub valid-passes : valid o ≡ true → firstOf (tagChecks o) (labelIn o) ≡ found (labelOf (domainOf o) (levelOf o) (optionRuns o))
     valid-passes v =
         let q = valid-passed v in
         passes o (q .past) (q .fine) (q .ends) ∙ ap found (label-of (parts o v .tag-size))
 
     -- what is read of a valid option is the label that it means
-    pub read-means : valid o ≡ true → (domainOf o ≡ 0 → ⊥) → Means o (labelOf (domainOf o) (levelOf o) (runsOf o))
+    pub read-means : valid o ≡ true → (domainOf o ≡ 0 → ⊥) → Means o (labelOf (domainOf o) (levelOf o) (optionRuns o))
     read-means v n =
-        let l : Label = labelOf (domainOf o) (levelOf o) (runsOf o) in
+        let l : Label = labelOf (domainOf o) (levelOf o) (optionRuns o) in
         let g = reads-canon o v in
         let w : wellFormed l ≡ true =
         well-formed l
-        (formed-of (domainOf o) (levelOf o) (runsOf o) (omega arith)
+        (formed-of (domainOf o) (levelOf o) (optionRuns o) (omega arith)
         (omega (arith, octet-at o 2 oct, octet-at o 3 oct, octet-at o 4 oct, octet-at o 5 oct))
         (omega (arith, octet-at o 9 oct))
         (reads-fit o v)
-        (canon-spaced 0 (runsOf o) (g .0) (g .1))) in
+        (canon-spaced 0 (optionRuns o) (g .0) (g .1))) in
         runs-means o l w
-        (rw (used-of (domainOf o) (levelOf o) (runsOf o))
+        (rw (used-of (domainOf o) (levelOf o) (optionRuns o))
         (record {
           octets = oct;
           good = v;
@@ -201,10 +201,10 @@ module _ (o : List ℕ) where
         }))
 
 -- an option that means a label is read to it
-pub means-read : (o : List ℕ) (l : Label) → Means o l → labelOf (domainOf o) (levelOf o) (runsOf o) ≡ l
+pub means-read : (o : List ℕ) (l : Label) → Means o l → labelOf (domainOf o) (levelOf o) (optionRuns o) ≡ l
 means-read o l m =
     let r = means-runs o l m in
     let w = formed-runs l (m .label) in
-    let e : labelOf (domainOf o) (levelOf o) (runsOf o) ≡ labelOf (l .domain) (l .level) (used l) =
+    let e : labelOf (domainOf o) (levelOf o) (optionRuns o) ≡ labelOf (l .domain) (l .level) (used l) =
     λ i. labelOf (m .domain i) (m .level i) (reads-back o (l .domain) (l .level) (used l) r (w .canon) i) in
     e ∙ sym (of-used l (formed l (m .label)))

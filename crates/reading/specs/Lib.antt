@@ -1,4 +1,5 @@
 pub mod Reading
-pub mod Building
+pub mod Keys
+pub mod Stages
 pub mod Theorems
 pub mod Examples

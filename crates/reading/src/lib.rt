@@ -1,20 +1,23 @@
 // Reading one CIPSO option (document 01, "Option and tags", "Asked alone" and rows 3 and 7 to 13 of the table): the label that it means,
 // or the first refusal that applies with its place in the option.
 ghost use mathlib.Core.Path.{_≡_};
-ghost use Prim.Native.Nat.{_+_, _-_, _*_, _/_, _%_, _≤_, _<_};
-ghost use mathlib.Core.Bool.{cond, _&&_};
+ghost use Prim.Native.Nat.{_+_, _*_, _%_, _≤_, _<_};
+ghost use mathlib.Core.Bool.{cond, _&&_, _||_};
 ghost use lib.Dec.{leb, eqb};
-ghost use lib.ListN.{length, getD};
-ghost use Rattle.label.specs.Runs.{run, joined};
-ghost use Rattle.label.specs.Label.{labelOf};
-ghost use Rattle.option.specs.Bitmap.{bitAt};
+ghost use lib.ListN.{length};
+ghost use Rattle.label.specs.Runs.{run};
+ghost use Rattle.label.specs.Keys.{runKey};
 ghost use Rattle.option.specs.Option.{domainOf};
-ghost use Rattle.option.specs.Reading.{pieces};
-ghost use Rattle.option.specs.Index.{setRuns, rangeRuns, firstTrue, numberAt, badNumber, badPair};
-ghost use Rattle.reading.specs.Building.{afterPiece, leftIn, lowIn, highIn};
-ghost use Rattle.reading.specs.Reading.{refusal, firstOf, knownTag, goodLength, countIn, badIn, badPlace, tagChecks, labelIn, readingOf, readingFor};
+ghost use Rattle.option.specs.Index.{numberAt, bottomAt, pairsOf, badPair};
+ghost use Rattle.reading.specs.Stages.{afterPiece, PassOver, ReadsTag, AloneRead};
+ghost use Rattle.reading.specs.Reading.{refusal, knownTag, goodLength, readingOf};
+ghost use Rattle.reading.specs.Keys.{keyed, withLabel, ReadsKeys};
+use bitmap::read_bitmap;
 use label::Label;
-use label::Run;
+use label::to_label;
+
+// The one number of two octets that is no category.
+const NO_CATEGORY: u16 = Label::MAX_CATEGORY + 1;
 
 // Number 0 and the label; else the refusal's number, its pointer from the option's own start, and the all-zero label.
 pub struct Reading {
@@ -23,21 +26,43 @@ pub struct Reading {
     pub label: Label,
 }
 
-// Where a label under construction stands: how many runs it has, the last one's low, and the category after its high.
+// The same without the runs, which stand in a lent list as keys, low · 65536 + high: the level and how many keys there are.
+pub struct KeyReading {
+    pub number: u8,
+    pub pointer: usize,
+    pub level: u8,
+    pub count: usize,
+}
+
+// What one pass over a tag's categories leaves: how many keys it wrote, and where the first bad number or pair begins, not before the end
+// where there is none.
+pub struct Pass {
+    pub count: usize,
+    pub bad: usize,
+}
+
+// Where runs under construction stand: how many there are, the last one's low, and the category after its high.
 pub struct Last {
     pub count: usize,
     pub low: u16,
     pub next: u32,
 }
 
-fn refuse(number: u8, pointer: usize) -> Reading
-    ensures { λ r. ⌜ r ≡ refusal number pointer ⌝ }
+fn refuse(number: u8, pointer: usize) -> KeyReading
+    ensures { λ r. ⌜ r ≡ keyed (refusal number pointer) ⌝ }
 {
-    Reading {
+    KeyReading {
         number: number,
         pointer: pointer,
-        label: Label::empty(0, 0),
+        level: 0,
+        count: 0,
     }
+}
+
+fn key_of(low: u16, high: u16) -> u32
+    ensures { λ r. ⌜ r ≡ runKey (run low high) ⌝ }
+{
+    (low as u32) * 65536 + (high as u32)
 }
 
 // The categories low to high are added above all others: where they touch the last run, they become part of it.
@@ -67,160 +92,87 @@ fn add_piece(last: Last, low: u16, high: u16) -> Last
     }
 }
 
-// Octet i, or 0 past the end.
-fn octet_at(octets: &[u8], i: usize) -> u16
-    ensures { λ r. ⌜ (r ≡ getD (now (octets .entry)) i 0) × (r < 256) ⌝ }
+// Tag 1, by the table; none of its categories can be bad.
+fn bitmap_keys(octets: &[u8], keys: &mut [u32]) -> Pass
+    requires { ⌜ (length (now octets) ≤ 30) × (120 ≤ length (now keys)) ⌝ }
+    ensures { λ r. ⌜ PassOver 1 (now (octets .entry)) (now (keys .entry)) (now (keys .exit)) r ⌝ }
 {
-    if i < octets.len() {
-        octets[i] as u16
-    } else {
-        0
+    let found = read_bitmap(octets, keys);
+    Pass {
+        count: found.count,
+        bad: octets.len(),
     }
 }
 
-// Octet i at the top of 32 bits; 0 past the end.
-fn octet_left(octets: &[u8], i: usize) -> u32
-    ensures { λ r. ⌜ (getD (now (octets .entry)) i 0 < 256) × (r ≡ leftIn (getD (now (octets .entry)) i 0) 0) ⌝ }
-{
-    (octet_at(octets, i) as u32) << 24
-}
-
-// The label of a bitmap's categories: in each octet the ones that stand together are a piece. `left` has the bits of octet i from category c on.
-fn read_bitmap(octets: &[u8], domain: u32, level: u8) -> Label
-    requires { ⌜ length (now octets) ≤ 30 ⌝ }
-    ensures { λ r. ⌜ r ≡ labelOf domain level (setRuns (bitAt (now (octets .entry))) (8 * length (now (octets .entry)))) ⌝ }
-{
-    let n = octets.len();
-    let mut label = Label {
-        domain: domain,
-        level: level,
-        count: 0,
-        runs: [Run { low: 0, high: 0 }; 120],
-    };
-    let mut last = Last {
-        count: 0,
-        low: 0,
-        next: 0,
-    };
-    let mut i: usize = 0;
-    let mut c: usize = 0;
-    let mut left = octet_left(octets, 0);
-    while i < n {
-        if left == 0 {
-            i += 1;
-            c = 8 * i;
-            left = octet_left(octets, i);
-        } else {
-            let zeros = u32::leading_zeros(left);
-            let raised = left << zeros;
-            let ones = u32::leading_zeros(4294967295 - raised);
-            let low = c + (zeros as usize);
-            c = low + (ones as usize);
-            let high = (c - 1) as u16;
-            last = add_piece(last, low as u16, high);
-            let at = last.count - 1;
-            label.runs[at] = Run {
-                low: last.low,
-                high: high,
-            };
-            left = raised << ones;
-        }
-    }
-    label.count = last.count;
-    label
-}
-
-// Two-octet number k; octets past the end count as 0.
+// Two-octet number k.
 fn number_at(octets: &[u8], k: usize) -> u16
-    requires { ⌜ k ≤ 100 ⌝ }
-    ensures { λ r. ⌜ r ≡ numberAt (now (octets .entry)) k ⌝ }
+    requires { ⌜ 2 * k + 1 < length (now octets) ⌝ }
+    ensures { λ r. ⌜ (r ≡ numberAt (now (octets .entry)) k) × (r < 65536) ⌝ }
 {
-    octet_at(octets, 2 * k) * 256 + octet_at(octets, 2 * k + 1)
+    wide(octets[2 * k]) * 256 + wide(octets[2 * k + 1])
 }
 
-// How many numbers a tag 2 has in n octets, or pairs a tag 5.
-fn count_in(tag: u8, n: usize) -> usize
-    requires { ⌜ n ≤ 30 ⌝ }
-    ensures { λ r. ⌜ r ≡ cond (eqb tag 2) (n / 2) ((n + 2) / 4) ⌝ }
+// Tag 2: 65535, or below the category after the number before it.
+fn bad_after(x: u16, next: u32) -> bool
+    ensures { λ r. ⌜ r ≡ (eqb x 65535 || leb (x + 1) next) ⌝ }
 {
-    if tag == 2 {
-        return n / 2;
-    }
-    (n + 2) / 4
-}
-
-// Piece k of a tag 2 or 5, lowest first: number k, or the pair that is k before the last.
-fn piece_at(tag: u8, octets: &[u8], k: usize) -> Run
-    requires { ⌜ (length (now octets) ≤ 30) × (k < countIn tag (now octets)) ⌝ }
-    ensures { λ r. ⌜ r ≡ run (lowIn tag (now (octets .entry)) k) (highIn tag (now (octets .entry)) k) ⌝ }
-{
-    if tag == 2 {
-        let x = number_at(octets, k);
-        return Run { low: x, high: x };
-    }
-    let j = (octets.len() + 2) / 4 - 1 - k;
-    Run {
-        low: number_at(octets, 2 * j + 1),
-        high: number_at(octets, 2 * j),
-    }
-}
-
-// The label of the categories of a tag 2 or 5.
-fn read_pieces(tag: u8, octets: &[u8], domain: u32, level: u8) -> Label
-    requires { ⌜ length (now octets) ≤ 30 ⌝ }
-    ensures { λ r. ⌜ r ≡ labelOf domain level (rangeRuns (lowIn tag (now (octets .entry))) (highIn tag (now (octets .entry))) (countIn tag (now (octets .entry)))) ⌝ }
-{
-    let n = count_in(tag, octets.len());
-    let mut label = Label {
-        domain: domain,
-        level: level,
-        count: 0,
-        runs: [Run { low: 0, high: 0 }; 120],
-    };
-    let mut last = Last {
-        count: 0,
-        low: 0,
-        next: 0,
-    };
-    let mut i: usize = 0;
-    while i < n {
-        let piece = piece_at(tag, octets, i);
-        last = add_piece(last, piece.low, piece.high);
-        let at = last.count - 1;
-        label.runs[at] = Run {
-            low: last.low,
-            high: piece.high,
-        };
-        i += 1;
-    }
-    label.count = last.count;
-    label
-}
-
-// Tag 2: 65535, or not above the number before it.
-fn bad_number(octets: &[u8], k: usize) -> bool
-    requires { ⌜ k ≤ 100 ⌝ }
-    ensures { λ r. ⌜ r ≡ badNumber (now (octets .entry)) k ⌝ }
-{
-    let x = number_at(octets, k);
-    if x == 65535 {
+    if x == NO_CATEGORY {
         return true;
     }
-    if k == 0 {
-        return false;
+    let after = (x as u32) + 1;
+    after <= next
+}
+
+// Tag 2: the numbers are checked and added in one pass, which ends at the first bad one.
+fn number_keys(octets: &[u8], keys: &mut [u32]) -> Pass
+    requires { ⌜ (length (now octets) ≤ 30) × (120 ≤ length (now keys)) ⌝ }
+    ensures { λ r. ⌜ PassOver 2 (now (octets .entry)) (now (keys .entry)) (now (keys .exit)) r ⌝ }
+{
+    let n = octets.len() / 2;
+    let mut last = Last {
+        count: 0,
+        low: 0,
+        next: 0,
+    };
+    let mut k: usize = 0;
+    while k < n {
+        let x = number_at(octets, k);
+        if bad_after(x, last.next) {
+            return Pass {
+                count: last.count,
+                bad: 2 * k,
+            };
+        }
+        last = add_piece(last, x, x);
+        let at = last.count - 1;
+        keys[at] = key_of(last.low, x);
+        k += 1;
     }
-    let y = number_at(octets, k - 1);
-    x <= y
+    Pass {
+        count: last.count,
+        bad: 2 * k,
+    }
+}
+
+// The bottom of pair j; the last one left out is 0.
+fn bottom_at(octets: &[u8], j: usize) -> u16
+    requires { ⌜ (j ≤ 40) × (length (now octets) % 2 ≡ 0) ⌝ }
+    ensures { λ r. ⌜ r ≡ bottomAt (now (octets .entry)) j ⌝ }
+{
+    if 4 * j + 2 < octets.len() {
+        return number_at(octets, 2 * j + 1);
+    }
+    0
 }
 
 // Tag 5: a top that is 65535, below its bottom, or not below the bottom before it; the category after the top may be that bottom.
 fn bad_pair(octets: &[u8], j: usize) -> bool
-    requires { ⌜ j ≤ 40 ⌝ }
+    requires { ⌜ (j ≤ 40) × (j < pairsOf (now octets)) × (length (now octets) % 2 ≡ 0) ⌝ }
     ensures { λ r. ⌜ r ≡ badPair (now (octets .entry)) j ⌝ }
 {
     let top = number_at(octets, 2 * j);
-    let bottom = number_at(octets, 2 * j + 1);
-    if top == 65535 {
+    let bottom = bottom_at(octets, j);
+    if top == NO_CATEGORY {
         return true;
     }
     if top < bottom {
@@ -229,62 +181,59 @@ fn bad_pair(octets: &[u8], j: usize) -> bool
     if j == 0 {
         return false;
     }
-    let before = number_at(octets, 2 * (j - 1) + 1);
+    let before = bottom_at(octets, j - 1);
     let next = (top as u32) + 1;
     (before as u32) < next
 }
 
-// Whether number k of a tag 2, or pair k of a tag 5, is bad.
-fn is_bad(tag: u8, octets: &[u8], k: usize) -> bool
-    requires { ⌜ k ≤ 40 ⌝ }
-    ensures { λ r. ⌜ r ≡ badIn tag (now (octets .entry)) k ⌝ }
+fn either(first: bool, a: usize, b: usize) -> usize
+    ensures { λ r. ⌜ r ≡ cond first a b ⌝ }
 {
-    if tag == 2 {
-        return bad_number(octets, k);
+    if first {
+        return a;
     }
-    bad_pair(octets, k)
+    b
 }
 
-// The first bad number of a tag 2, or pair of a tag 5; their count where none is bad.
-fn first_bad(tag: u8, octets: &[u8]) -> usize
-    requires { ⌜ length (now octets) ≤ 30 ⌝ }
-    ensures { λ r. ⌜ r ≡ firstTrue (badIn tag (now (octets .entry))) (countIn tag (now (octets .entry))) ⌝ }
+// Tag 5: the pairs are checked and added in one pass from the last to the first: the bad one that is met last is the first.
+fn pair_keys(octets: &[u8], keys: &mut [u32]) -> Pass
+    requires { ⌜ (length (now octets) ≤ 30) × (length (now octets) % 2 ≡ 0) × (120 ≤ length (now keys)) ⌝ }
+    ensures { λ r. ⌜ PassOver 5 (now (octets .entry)) (now (keys .entry)) (now (keys .exit)) r ⌝ }
 {
-    let n = count_in(tag, octets.len());
-    let mut i: usize = 0;
-    while i < n {
-        if is_bad(tag, octets, i) {
-            return i;
-        }
-        i += 1;
+    let n = (octets.len() + 2) / 4;
+    let mut last = Last {
+        count: 0,
+        low: 0,
+        next: 0,
+    };
+    let mut bad = n;
+    let mut j = n;
+    while 0 < j {
+        j -= 1;
+        bad = either(bad_pair(octets, j), j, bad);
+        let top = number_at(octets, 2 * j);
+        last = add_piece(last, bottom_at(octets, j), top);
+        let at = last.count - 1;
+        keys[at] = key_of(last.low, top);
     }
-    i
+    Pass {
+        count: last.count,
+        bad: 4 * bad,
+    }
 }
 
-// Where the first bad number or pair of the tag begins; not before the end where there is none.
-fn bad_place(tag: u8, octets: &[u8]) -> usize
-    requires { ⌜ length (now octets) ≤ 30 ⌝ }
-    ensures { λ r. ⌜ r ≡ badPlace tag (now (octets .entry)) ⌝ }
+// A tag's categories, checked and written as keys.
+fn category_keys(tag: u8, octets: &[u8], keys: &mut [u32]) -> Pass
+    requires { ⌜ (length (now octets) ≤ 30) × ((tag ≡ 1 → ⊥) → length (now octets) % 2 ≡ 0) × (120 ≤ length (now keys)) ⌝ }
+    ensures { λ r. ⌜ PassOver tag (now (octets .entry)) (now (keys .entry)) (now (keys .exit)) r ⌝ }
 {
     if tag == 1 {
-        return octets.len();
+        return bitmap_keys(octets, keys);
     }
-    let k = first_bad(tag, octets);
     if tag == 2 {
-        return 2 * k;
+        return number_keys(octets, keys);
     }
-    4 * k
-}
-
-// The label of a tag's categories.
-fn read_categories(tag: u8, octets: &[u8], domain: u32, level: u8) -> Label
-    requires { ⌜ (length (now octets) ≤ 30) × ((tag ≡ 1 → ⊥) → length (now octets) % 2 ≡ 0) ⌝ }
-    ensures { λ r. ⌜ r ≡ labelOf domain level (joined (pieces tag (now (octets .entry)))) ⌝ }
-{
-    if tag == 1 {
-        return read_bitmap(octets, domain, level);
-    }
-    read_pieces(tag, octets, domain, level)
+    pair_keys(octets, keys)
 }
 
 fn known_tag(tag: u8) -> bool
@@ -328,6 +277,12 @@ fn length_in(x: u8) -> usize
     x as usize
 }
 
+fn wide(x: u8) -> u16
+    ensures { λ r. ⌜ (r ≡ x) × (r < 256) ⌝ }
+{
+    x as u16
+}
+
 fn widen(x: u8) -> u32
     ensures { λ r. ⌜ (r ≡ x) × (r < 256) ⌝ }
 {
@@ -346,10 +301,10 @@ fn domain_in(octets: &[u8]) -> u32
     ((a * 256 + b) * 256 + c) * 256 + d
 }
 
-// Rows 9 to 13, and the label.
-fn read_tag(octets: &[u8], domain: u32) -> Reading
-    requires { ⌜ (10 ≤ length (now octets)) × (domain ≡ domainOf (now octets)) ⌝ }
-    ensures { λ r. ⌜ r ≡ firstOf (tagChecks (now (octets .entry))) (labelIn (now (octets .entry))) ⌝ }
+// Rows 9 to 13, and the keys.
+fn read_tag(octets: &[u8], keys: &mut [u32]) -> KeyReading
+    requires { ⌜ (10 ≤ length (now octets)) × (120 ≤ length (now keys)) ⌝ }
+    ensures { λ r. ⌜ ReadsTag (now (octets .entry)) (now (keys .entry)) (now (keys .exit)) r ⌝ }
 {
     let n = octets.len();
     let tag = octets[option::TAG_TYPE_AT];
@@ -365,24 +320,26 @@ fn read_tag(octets: &[u8], domain: u32) -> Reading
     }
     let end = size + option::TAG_TYPE_AT;
     let categories = &octets[option::CATEGORIES_AT..end];
-    let place = bad_place(tag, categories);
+    let pass = category_keys(tag, categories, keys);
+    let place = pass.bad;
     if place < categories.len() {
         return refuse(12, option::CATEGORIES_AT + place);
     }
     if end < n {
         return refuse(13, end);
     }
-    let label = read_categories(tag, categories, domain, octets[option::LEVEL_AT]);
-    Reading {
+    KeyReading {
         number: 0,
         pointer: 0,
-        label: label,
+        level: octets[option::LEVEL_AT],
+        count: pass.count,
     }
 }
 
-// Reads one option alone: the label that it means, or the first refusal of 3 and 7 to 13 with its place in the option.
-pub fn read_option(octets: &[u8]) -> Reading
-    ensures { λ r. ⌜ r ≡ readingOf (now (octets .entry)) ⌝ }
+// The keys of one option alone, or the first refusal of 3 and 7 to 13.
+fn read_alone(octets: &[u8], keys: &mut [u32]) -> KeyReading
+    requires { ⌜ 120 ≤ length (now keys) ⌝ }
+    ensures { λ r. ⌜ AloneRead (now (octets .entry)) (now (keys .exit)) r ⌝ }
 {
     let n = octets.len();
     if n < 2 {
@@ -398,22 +355,59 @@ pub fn read_option(octets: &[u8]) -> Reading
     if n < option::CATEGORIES_AT {
         return refuse(7, option::LENGTH_AT);
     }
-    let domain = domain_in(octets);
-    if domain == 0 {
+    if domain_in(octets) == 0 {
         return refuse(8, option::DOMAIN_AT);
     }
-    read_tag(octets, domain)
+    read_tag(octets, keys)
 }
 
-// Reads the option 134 of an area for a port of the domain: the label, or the first refusal of 7 to 13 with its place in the option.
-pub fn read_option_of(octets: &[u8], domain: u32) -> Reading
-    ensures { λ r. ⌜ r ≡ readingFor domain (now (octets .entry)) ⌝ }
+fn domain_for(number: u8, octets: &[u8]) -> u32
+    requires { ⌜ (number ≡ 0 → 10 ≤ length (now octets)) ⌝ }
+    ensures { λ r. ⌜ r ≡ cond (eqb number 0) (domainOf (now (octets .entry))) 0 ⌝ }
 {
+    if number == 0 {
+        return domain_in(octets);
+    }
+    0
+}
+
+// A reading into keys with its label.
+fn to_reading(read: KeyReading, domain: u32, keys: &[u32]) -> Reading
+    requires { ⌜ (read .count ≤ 120) × (read .count ≤ length (now keys)) ⌝ }
+    ensures { λ r. ⌜ r ≡ withLabel domain read (now (keys .entry)) ⌝ }
+{
+    let n = read.count;
+    let label = to_label(keys, n, domain, read.level);
+    Reading {
+        number: read.number,
+        pointer: read.pointer,
+        label: label,
+    }
+}
+
+// Reads one option alone: the label that it means, or the first refusal of 3 and 7 to 13 with its place in the option.
+pub fn read_option(octets: &[u8]) -> Reading
+    ensures { λ r. ⌜ r ≡ readingOf (now (octets .entry)) ⌝ }
+{
+    let mut keys = [0u32; 120];
+    let read = read_alone(octets, &mut keys);
+    let domain = domain_for(read.number, octets);
+    to_reading(read, domain, &keys)
+}
+
+// Reads the option 134 of an area for a port of the domain into keys: how many there are, or the first refusal of 7 to 13 with its place in
+// the option; 1 where the list has under 120 numbers.
+pub fn read_keys(octets: &[u8], domain: u32, keys: &mut [u32]) -> KeyReading
+    ensures { λ r. ⌜ ReadsKeys domain (now (octets .entry)) (now (keys .entry)) (now (keys .exit)) r ⌝ }
+{
+    if keys.len() < Label::MAX_RUNS {
+        return refuse(1, 0);
+    }
     if octets.len() < option::CATEGORIES_AT {
         return refuse(7, option::LENGTH_AT);
     }
     if domain_in(octets) != domain {
         return refuse(8, option::DOMAIN_AT);
     }
-    read_tag(octets, domain)
+    read_tag(octets, keys)
 }

@@ -13,9 +13,10 @@ use Rattle.label.specs.Label.{used, wellFormed}
 use Rattle.option.specs.Spelling.{tagFor, bodyFor, spelledBy, spellingOf, padded}
 use Rattle.option.proofs.Theorems.{spelled-is, spelled-none, spelled-some}
 use Rattle.spelling.specs.declared.Spelling.{Spelling}
-use Rattle.spelling.specs.Parts.{zeroed}
+use Rattle.spelling.specs.Stages.{zeroed}
 use Rattle.option.specs.Spelling.{spelledOf}
-use Rattle.spelling.specs.Spelling.{lengthOf, spellingNumber, spellingAnswer, spellingOut, Writes}
+use Rattle.spelling.specs.Spelling.{lengthOf, spellingNumber, spellingAnswer, spellingOut}
+use Rattle.spelling.specs.Keys.{inFront}
 use Rattle.spelling.proofs.Bodies.{body-short}
 use Rattle.spelling.proofs.Writing.{zero-after}
 
@@ -111,24 +112,30 @@ module _ (l : Label) (out : List ℕ) where
 
 -- What writing the option tells of the spelling.
 
-module _ (l : Label) (out out′ : List ℕ) (r : ℕ) (w : Writes l out out′ r) (f : wellFormed l ≡ true) (long : 40 ≤ length out) where
-  pub nothing-written : r ≡ 0 → spelledOf l ≡ none
-  nothing-written z = length-none l (go (spelledOf l) refl)
-    where
-      go : (o : Option (List ℕ)) → spelledOf l ≡ o → lengthOf (spelledOf l) ≡ 0
-      go none e = ap lengthOf e
-      go (some s) e = ap lengthOf e ∙ sym (w .spelled f long s e .0) ∙ z
+module _ (l : Label) (out out′ : List ℕ) (r : ℕ) (f : wellFormed l ≡ true) (long : 40 ≤ length out)
+    (w : (r ≡ lengthOf (spelledOf l)) × (out′ ≡ inFront (spelledOf l) out)) where
+  -- nothing is: the refusal 18
+  pub unwritten : r ≡ 0 → (_≡_ {A = Spelling} (record { number = 18; count = 0 }) (spellingAnswer l (length out))) × (out′ ≡ spellingOut l out)
+  unwritten z =
+      let e : spelledOf l ≡ none = length-none l (sym (w .0) ∙ z) in
+      let q = refused l out 18 (λ y. omega arith) (number-none l (length out) long f e) in
+      (q .0, w .1 ∙ ap (λ (o : Option (List ℕ)). inFront o out) e ∙ q .1)
 
-  pub something-written : (r ≡ 0 → ⊥) → Spelled l
-  something-written n = length-some l (λ z. n (w .unspelled f (length-none l z) .0))
+  pub written : (r ≡ 0 → ⊥) → Spelled l
+  written n = length-some l (λ z. n (w .0 ∙ z))
+
+  pub written-short : (r ≡ 0 → ⊥) → r ≤ 40
+  written-short n = let p = written n in omega (arith, w .0, ap lengthOf (p .spelled), p .short)
 
   -- done: the option's length, the option and zeros
-  pub completed : (z : List ℕ) → z ≡ zeroed r out′ → (p : Spelled l)
+  pub completed : (z : List ℕ) → z ≡ zeroed r out′ → (r ≡ 0 → ⊥)
       → (_≡_ {A = Spelling} (record { number = 0; count = r }) (spellingAnswer l (length out))) × (z ≡ spellingOut l out)
-  completed z e p =
+  completed z e m =
+      let p = written m in
       let n : spellingNumber l (length out) ≡ 0 = number-done l (length out) long f (p .option) (p .spelled) in
-      let q = w .spelled f long (p .option) (p .spelled) in
-      let a : _≡_ {A = Spelling} (record { number = 0; count = r }) (record { number = 0; count = length (p .option) }) = λ i. record { number = 0; count = q .0 i } in (
+      let k : r ≡ length (p .option) = w .0 ∙ ap lengthOf (p .spelled) in
+      let o : out′ ≡ p .option ++ drop (length (p .option)) out = w .1 ∙ ap (λ (x : Option (List ℕ)). inFront x out) (p .spelled) in
+      let a : _≡_ {A = Spelling} (record { number = 0; count = r }) (record { number = 0; count = length (p .option) }) = λ i. record { number = 0; count = k i } in (
         a ∙ sym (answer-done l (length out) (p .option) n (p .spelled)),
-        e ∙ (λ i. zeroed (q .0 i) (q .1 i)) ∙ zero-after (p .option) out (p .short) ∙ sym (out-done l out (p .option) n (p .spelled)),
+        e ∙ (λ i. zeroed (k i) (o i)) ∙ zero-after (p .option) out (p .short) ∙ sym (out-done l out (p .option) n (p .spelled)),
       )

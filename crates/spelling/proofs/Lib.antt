@@ -4,4 +4,5 @@ pub mod Numbers
 pub mod Bodies
 pub mod Writing
 pub mod Answers
+pub mod Keys
 pub mod Theorems

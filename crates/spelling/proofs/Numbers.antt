@@ -1,15 +1,19 @@
 -- Laws of two-octet numbers that are written one after another: the categories from run to run, and the ends of runs.
 use Prim.Native.Nat.{ℕ, zero, suc, _+_, _-_, _*_, _/_, _%_, _≤_, _<_}
 use mathlib.Core.Path.{_≡_, refl, ap, sym, _∙_}
-use mathlib.Core.List.{List, [], _∷_, _++_, append-assoc}
+use mathlib.Core.List.{List, [], _∷_, _++_, append-assoc, map-append}
 use mathlib.Core.Bool.{cond}
-use lib.ListN.{length, getD, set, take, drop, length-append, length-drop}
-use lib.Seq.{set-at, drop-cons, drop-drop, getD-drop, getD-take, length-take-le}
+use lib.ListN.{length, getD, set, take, drop, length-append, length-drop, length-map, drop-of-length-le}
+use lib.Seq.{set-at, drop-cons, drop-drop, getD-drop, take-suc}
 use lib.Dec.{eqb}
 use native.Mathlib.Omega.{arith}
 use native.Mathlib.Numerals.{add-one}
 use Rattle.label.specs.declared.Run.{Run}
-use Rattle.label.specs.Runs.{run, countOf}
+use Rattle.label.specs.Runs.{countOf}
+use Rattle.label.specs.Label.{noRun}
+use Rattle.label.specs.Keys.{keyRun, keyRuns}
+use Rattle.label.proofs.Keys.{key-at}
+use Rattle.label.proofs.Steps.{next}
 use Rattle.option.specs.Spelling.{countUp, numbersOf}
 use Rattle.option.specs.Index.{numbersOut, pairNumber}
 use Rattle.option.proofs.Spelled.{numbers-count}
@@ -52,6 +56,28 @@ module _ (f : ℕ → ℕ) where
 
       next : 2 * suc k ≡ suc (suc (2 * k))
       next = omega arith
+
+  -- the last of m numbers, a top without its bottom
+  pub top-store : (out was a : List ℕ) (j m x : ℕ) → 4 * j + 1 < length out → was ≡ numbersOut f (2 * j) ++ drop (2 * (2 * j)) out → x ≡ f (2 * j)
+      → a ≡ set (set was (2 * (2 * j)) (x / 256)) (2 * (2 * j) + 1) (x % 256) → 2 * j + 1 ≡ m → a ≡ numbersOut f m ++ drop (2 * m) out
+  top-store out was a j m x h w p d e =
+      d
+      ∙ ap (λ (z : List ℕ). set (set z (2 * (2 * j)) (x / 256)) (2 * (2 * j) + 1) (x % 256)) w
+      ∙ numbers-store out (2 * j) x (omega arith) p
+      ∙ ap (λ (k : ℕ). numbersOut f k ++ drop (2 * k) out) e
+
+  -- two numbers more, the ends of pair j
+  pub pair-store : (out was a b : List ℕ) (j x y : ℕ) → 4 * j + 3 < length out → was ≡ numbersOut f (2 * j) ++ drop (2 * (2 * j)) out → x ≡ f (2 * j) → y ≡ f (2 * j + 1)
+      → a ≡ set (set was (2 * (2 * j)) (x / 256)) (2 * (2 * j) + 1) (x % 256)
+      → b ≡ set (set a (2 * (2 * j + 1)) (y / 256)) (2 * (2 * j + 1) + 1) (y % 256)
+      → b ≡ numbersOut f (2 * (j + 1)) ++ drop (2 * (2 * (j + 1))) out
+  pair-store out was a b j x y h w p q d e =
+      let first : a ≡ numbersOut f (2 * j + 1) ++ drop (2 * (2 * j + 1)) out = top-store out was a j (2 * j + 1) x (omega arith) w p d refl in
+      let n : 2 * j + 1 + 1 ≡ 2 * (j + 1) = omega arith in
+      e
+      ∙ ap (λ (z : List ℕ). set (set z (2 * (2 * j + 1)) (y / 256)) (2 * (2 * j + 1) + 1) (y % 256)) first
+      ∙ numbers-store out (2 * j + 1) y (omega arith) q
+      ∙ ap (λ (k : ℕ). numbersOut f k ++ drop (2 * k) out) n
 
 -- Tag 2: j categories of the first run that is left are written, and k in all.
 abbrev pub Within : List Run → ℕ → Type 0
@@ -113,7 +139,25 @@ all-written rs {j} {k} w h =
     let n : length (drop j (numbersOf [])) ≡ 0 = omega (arith, length-drop j (numbersOf [])) in
     omega (arith, length-drop k (numbersOf rs), ap length (w .rest), numbers-count rs)
 
--- Tag 5: the end that is read is the number of the definition.
-pub end-is : (runs : List Run) (n k : ℕ) → n ≤ length runs → 0 < n
-    → cond (eqb (k % 2) 0) (getD runs (n - 1 - k / 2) (run 0 0) .high) (getD runs (n - 1 - k / 2) (run 0 0) .low) ≡ pairNumber (take n runs) k
-end-is runs n k h p = rw (length-take-le n runs h, getD-take n runs (n - 1 - k / 2) (run 0 0) (omega arith))
+-- Tag 5: the ends of a key's run are the numbers of the definition.
+pub top-is : (ks : List ℕ) (j : ℕ) → getD ks (length ks - 1 - j) 0 % 65536 ≡ pairNumber (keyRuns ks) (2 * j)
+top-is ks j =
+    let half : 2 * j / 2 ≡ j = omega arith in
+    let even : 2 * j % 2 ≡ 0 = omega arith in
+    rw (length-map ks keyRun, half, even, key-at ks (length ks - 1 - j))
+
+pub bottom-is : (ks : List ℕ) (j : ℕ) → getD ks (length ks - 1 - j) 0 / 65536 ≡ pairNumber (keyRuns ks) (2 * j + 1)
+bottom-is ks j =
+    let half : (2 * j + 1) / 2 ≡ j = omega arith in
+    let odd : (2 * j + 1) % 2 ≡ 1 = omega arith in
+    rw (length-map ks keyRun, half, odd, key-at ks (length ks - 1 - j))
+
+-- One key more, as a loop meets it.
+pub next-key : (ks : List ℕ) (i : ℕ) → i < length ks → drop i (keyRuns ks) ≡ keyRun (getD ks i 0) ∷ drop (i + 1) (keyRuns ks)
+next-key ks i h = next noRun (keyRuns ks) i (omega (arith, length-map ks keyRun)) ∙ ap (λ (r : Run). r ∷ drop (i + 1) (keyRuns ks)) (key-at ks i)
+
+pub keys-up : (ks : List ℕ) (i : ℕ) → length ks ≤ i → drop i (keyRuns ks) ≡ []
+keys-up ks i h = drop-of-length-le (keyRuns ks) {i = i} (omega (arith, length-map ks keyRun))
+
+pub keys-taken : (ks : List ℕ) (i : ℕ) → i < length ks → keyRuns (take (i + 1) ks) ≡ keyRuns (take i ks) ++ keyRun (getD ks i 0) ∷ []
+keys-taken ks i h = rw (add-one i, take-suc ks i 0 h) (map-append keyRun (take i ks) (getD ks i 0 ∷ []))

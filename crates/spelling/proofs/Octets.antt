@@ -1,22 +1,24 @@
--- Laws of bitmaps that are written octet by octet, in one pass over the octets and the runs.
+-- Laws of bitmaps that are written run by run.
 use Prim.Native.Nat.{ℕ, zero, suc, _+_, _-_, _*_, _/_, _%_, _^_, _≤_, _<_}
-use mathlib.Core.Path.{_≡_, refl, sym, _∙_}
-use mathlib.Core.List.{List, [], _∷_, _++_, append-assoc}
-use mathlib.Core.Bool.{Bool, true, false, not, _&&_, _||_, and-false}
-use lib.ListN.{length, getD, set, drop}
-use lib.Seq.{set-at, drop-cons}
+use mathlib.Core.Path.{_≡_, refl, ap, sym, _∙_}
+use mathlib.Core.List.{List, [], _∷_, _++_}
+use mathlib.Core.Bool.{Bool, true, false, not, _&&_, _||_, and-false, or-false, or-assoc}
+use mathlib.Core.Logic.{⊎-elim}
+use lib.Bits.{bitOr, or-block, or-zero-r}
+use lib.ListN.{length, getD, set, take, drop, replicate, length-append, length-drop, length-set, length-replicate, take-append-drop}
+use lib.Seq.{take-suc, drop-at, drop-set-lt, getD-set-same, getD-set-other}
 use lib.Dec.{leb, eqb}
 use native.Mathlib.Omega.{arith}
-use native.Mathlib.Numerals.{add-one}
 use native.Mathlib.Decide.{decLe}
 use borrow.Author.Tests.{le-leb, lt-leb, leb-true, eqb-true}
 use Rattle.label.specs.declared.Run.{Run}
 use Rattle.label.specs.Runs.{run, inRun, covers, allBelow}
-use Rattle.label.proofs.Bools.{all-below, implies-yes}
-use Rattle.label.proofs.Runs.{covers-over}
-use Rattle.label.proofs.Canon.{Canon, clear, canon-lower}
+use Rattle.label.proofs.Bools.{all-below, implies-yes, less-or}
 use Rattle.option.specs.Spelling.{bitOf, bitsOf, octetsOf}
-use Rattle.option.proofs.Bits.{bits-lt, octets-length}
+use Rattle.option.proofs.Bits.{bit-le}
+use Rattle.label.specs.Keys.{keyRun, keyRuns}
+use Rattle.spelling.specs.Stages.{RunAdded}
+use Rattle.spelling.proofs.Numbers.{keys-taken}
 
 same-leb : (x y x′ y′ : ℕ) → (x ≤ y → x′ ≤ y′) → (x′ ≤ y′ → x ≤ y) → leb x y ≡ leb x′ y′
 same-leb x y x′ y′ f g = elim (decLe x y) [ yes u ↦ le-leb x y u ∙ sym (le-leb x′ y′ (f u)) | no u ↦ lt-leb x y (omega arith) ∙ sym (lt-leb x′ y′ (lt-of-not y′ x′ (λ v. u (g v)))) ]
@@ -33,15 +35,18 @@ bits-none : (f : ℕ → Bool) (base k : ℕ) → ((j : ℕ) → j < k → f (ba
 bits-none f base zero h = refl
 bits-none f base (suc k) h = rw (bits-none f base k (λ j l. h j (omega arith)), h k (omega arith))
 
--- two sets with nothing in common
-bits-or : (p q : ℕ → Bool) (base k : ℕ) → ((c : ℕ) → (p c && q c) ≡ false) → bitsOf (λ c. p c || q c) base k ≡ bitsOf p base k + bitsOf q base k
-bits-or p q base zero h = refl
-bits-or p q base (suc k) h = omega (arith, bits-or p q base k h, one (p (base + k)) (q (base + k)) (h (base + k)))
+-- the octet of two sets together
+pub bits-or : (p q : ℕ → Bool) (base k : ℕ) → bitOr (bitsOf p base k) (bitsOf q base k) ≡ bitsOf (λ c. p c || q c) base k
+bits-or p q base zero = refl
+bits-or p q base (suc k) =
+    or-block 1 (bitsOf p base k) (bitsOf q base k) (bitOf (p (base + k))) (bitOf (q (base + k))) (omega (arith, bit-le (p (base + k)))) (omega (arith, bit-le (q (base + k))))
+    ∙ (λ i. bits-or p q base k i * 2 + one (p (base + k)) (q (base + k)) i)
   where
-    one : (a b : Bool) → (a && b) ≡ false → bitOf (a || b) ≡ bitOf a + bitOf b
-    one false b e = omega arith
-    one true false e = refl
-    one true true e = let z : _≡_ {A = ℕ} 0 1 = cc in absurd (omega arith)
+    one : (a b : Bool) → bitOr (bitOf a) (bitOf b) ≡ bitOf (a || b)
+    one false false = refl
+    one false true = refl
+    one true false = refl
+    one true true = refl
 
 -- Ones from bit a on, without those after bit b: the rule at every a and b, by computing.
 between : ℕ → ℕ → ℕ → Bool
@@ -98,53 +103,113 @@ module _ (low high base : ℕ) where
       same : (j : ℕ) → j < 8 → (leb (low - base) (0 + j) && leb (0 + j) b) ≡ (leb low (base + j) && leb (base + j) high)
       same j h = rw (same-leb (low - base) (0 + j) low (base + j) (λ p. omega arith) (λ p. omega arith), top j h)
 
-pub octet-small : (r : Run) (base : ℕ) → bitsOf (inRun r) base 8 ≤ 255
-octet-small r base = omega (arith, bits-lt (inRun r) base 8)
+-- Where a run is being added to a bitmap: octets before o have its bits, those from o on are as they were.
+pub record Adding (r : Run) (n o : ℕ) (was out : List ℕ) : Type 0 where
+  pub sized : length out ≡ length was
+  pub rest : drop n out ≡ drop n was
+  pub before : (j : ℕ) → j < o → j < n → getD out j 0 ≡ bitOr (getD was j 0) (bitsOf (inRun r) (8 * j) 8)
+  pub after : (j : ℕ) → o ≤ j → getD out j 0 ≡ getD was j 0
 
--- Where the pass stands at octet k: with what is left of the runs, x makes up the octet; what comes after it is not touched yet.
-pub record Standing (rs left : List Run) (k x : ℕ) : Type 0 where
-  pub canon : Canon 0 left
-  pub part : x + bitsOf (covers left) (8 * k) 8 ≡ bitsOf (covers rs) (8 * k) 8
-  pub after : (c : ℕ) → 8 * k + 8 ≤ c → covers left c ≡ covers rs c
+-- an octet without bits of the run stays
+unset : (r : Run) (was out : List ℕ) (j : ℕ) → bitsOf (inRun r) (8 * j) 8 ≡ 0 → getD out j 0 ≡ getD was j 0 → getD out j 0 ≡ bitOr (getD was j 0) (bitsOf (inRun r) (8 * j) 8)
+unset r was out j e f = f ∙ sym (ap (bitOr (getD was j 0)) e ∙ or-zero-r (getD was j 0))
 
-pub begin : (rs : List Run) → Canon 0 rs → Standing rs rs 0 0
-begin rs k = record { canon = k; part = omega arith; after = λ c h. refl }
+pub adding-start : (low high n : ℕ) (was : List ℕ) → Adding (run low high) n (low / 8) was was
+adding-start low high n was =
+    record {
+      sized = refl;
+      rest = refl;
+      before = λ j p q. unset (run low high) was was j (octet-after low high (8 * j) (omega arith)) refl;
+      after = λ j p. refl;
+    }
 
-apart : (r : Run) (left : List Run) → Canon 0 (r ∷ left) → (c : ℕ) → (inRun r c && covers left c) ≡ false
-apart r left k c = elim (decLe c (r .high)) [ yes u ↦ rw (clear (r .high + 2) left c (k .2) (omega arith)) (and-false (inRun r c)) | no u ↦ rw (lt-leb c (r .high) (omega arith), and-false (leb (r .low) c)) ]
+pub adding-store : {r : Run} {n o : ℕ} {was out : List ℕ} → Adding r n o was out → o < n → n ≤ length out → (x : ℕ) → x ≡ bitsOf (inRun r) (8 * o) 8
+    → Adding r n (o + 1) was (set out o (bitOr (getD out o 0) x))
+adding-store {r} {n} {o} {was} {out} t h k x e =
+    record {
+      sized = length-set out o (bitOr (getD out o 0) x) ∙ t .sized;
+      rest = drop-set-lt n out o (bitOr (getD out o 0) x) h ∙ t .rest;
+      before = λ j p q. ⊎-elim (λ w. other j (omega arith) ∙ t .before j w q) (λ w. here j (omega arith)) (less-or j o);
+      after = λ j p. other j (omega arith) ∙ t .after j (omega arith);
+    }
+  where
+    other : (j : ℕ) → (j ≡ o → ⊥) → getD (set out o (bitOr (getD out o 0) x)) j 0 ≡ getD out j 0
+    other j z = getD-set-other out o j (bitOr (getD out o 0) x) 0 z
 
-module _ {rs left : List Run} {k x : ℕ} where
-  -- the next octet begins
-  pub onward : Standing rs left k x → Standing rs left (k + 1) 0
-  onward s =
-      record {
-        canon = s .canon;
-        part = omega (arith, bits-same (covers left) (covers rs) (8 * (k + 1)) (8 * (k + 1)) 8 (λ j l. s .after (8 * (k + 1) + j) (omega arith)));
-        after = λ c h. s .after c (omega arith);
-      }
+    here : (j : ℕ) → j ≡ o → getD (set out o (bitOr (getD out o 0) x)) j 0 ≡ bitOr (getD was j 0) (bitsOf (inRun r) (8 * j) 8)
+    here j z = rw (z, getD-set-same out o (bitOr (getD out o 0) x) 0 (omega arith)) (λ i. bitOr (t .after o (omega arith) i) (e i))
 
-  -- a run that ends in the octet is taken
-  pub taken : (r : Run) → Standing rs (r ∷ left) k x → r .high < 8 * k + 8 → Standing rs left k (x + bitsOf (inRun r) (8 * k) 8)
-  taken r s h =
-      let e : bitsOf (covers (r ∷ left)) (8 * k) 8 ≡ bitsOf (inRun r) (8 * k) 8 + bitsOf (covers left) (8 * k) 8 = bits-or (inRun r) (covers left) (8 * k) 8 (apart r left (s .canon)) in
-      record {
-        canon = canon-lower (r .high + 2) 0 left (omega arith) (s .canon .2);
-        part = omega (arith, e, s .part);
-        after = λ c l. sym (covers-over r left c (omega arith)) ∙ s .after c l;
-      }
+-- past the last octet of the bitmap, or of the run
+pub adding-done : {r : Run} {n o : ℕ} {was out : List ℕ} → Adding r n o was out → n ≤ o → RunAdded r n was out
+adding-done t h = record { sized = t .sized; rest = t .rest; added = λ j q. t .before j (omega arith) q }
 
-  -- a run that goes on past the octet fills it up
-  pub filled : (r : Run) → Standing rs (r ∷ left) k x → 8 * k + 8 ≤ r .high → x + bitsOf (inRun r) (8 * k) 8 ≡ bitsOf (covers rs) (8 * k) 8
-  filled r s h =
-      let e : bitsOf (covers (r ∷ left)) (8 * k) 8 ≡ bitsOf (inRun r) (8 * k) 8 + bitsOf (covers left) (8 * k) 8 = bits-or (inRun r) (covers left) (8 * k) 8 (apart r left (s .canon)) in
-      let z : bitsOf (covers left) (8 * k) 8 ≡ 0 = bits-none (covers left) (8 * k) 8 (λ j l. clear (r .high + 2) left (8 * k + j) (s .canon .2) (omega arith)) in
-      omega (arith, e, z, s .part)
+pub adding-past : (low high : ℕ) {n o : ℕ} {was out : List ℕ} → Adding (run low high) n o was out → high < 8 * o → RunAdded (run low high) n was out
+adding-past low high {n} {o} {was} {out} t h =
+    record {
+      sized = t .sized;
+      rest = t .rest;
+      added = λ j q. ⊎-elim (λ w. t .before j w q) (λ w. unset (run low high) was out j (octet-before low high (8 * j) (omega arith)) (t .after j w)) (less-or j o);
+    }
 
-pub done : {rs : List Run} {k x : ℕ} → Standing rs [] k x → x ≡ bitsOf (covers rs) (8 * k) 8
-done {rs} {k} {x} s = let z : bitsOf (covers []) (8 * k) 8 ≡ 0 = bits-none (covers []) (8 * k) 8 (λ j l. refl) in omega (arith, z, s .part)
+pub added-none : (low high n : ℕ) (was : List ℕ) → high < low → RunAdded (run low high) n was was
+added-none low high n was h =
+    record { sized = refl; rest = refl; added = λ j q. unset (run low high) was was j (octet-empty low high (8 * j) h) refl }
 
--- one octet more is written
-pub octet-store : (f : ℕ → Bool) (out : List ℕ) (i y : ℕ) → i < length out → y ≡ bitsOf f (8 * i) 8 → set (octetsOf f i ++ drop i out) i (y % 256) ≡ octetsOf f (i + 1) ++ drop (i + 1) out
-octet-store f out i y h e =
-    let m : y % 256 ≡ bitsOf f (8 * i) 8 = omega (arith, bits-lt f (8 * i) 8) in
-    rw (m, drop-cons out i 0 h, set-at (octetsOf f i) (getD out i 0) (drop (suc i) out) (bitsOf f (8 * i) 8) i (octets-length f i), add-one i) (sym (append-assoc (octetsOf f i) (bitsOf f (8 * i) 8 ∷ []) (drop (suc i) out)))
+-- The octet that the code adds: the run's first, one that it fills up, its last.
+pub octet-inner : (low high o : ℕ) → low ≤ 8 * o + 7 → 8 * o + 8 ≤ high → 255 / 2 ^ (low - 8 * o) ≡ bitsOf (inRun (run low high)) (8 * o) 8
+octet-inner low high o h k =
+    let e : 255 / 2 ^ (low - 8 * o) ≡ 255 / 2 ^ (low - 8 * o) - 127 / 2 ^ 7 = omega arith in
+    e ∙ octet-is low high (8 * o) 7 h (omega arith) (omega arith) (λ z. omega arith) (λ z. refl)
+
+pub octet-last : (low high o : ℕ) → low ≤ high → low ≤ 8 * o + 7 → o ≡ high / 8 → 255 / 2 ^ (low - 8 * o) - 127 / 2 ^ (high % 8) ≡ bitsOf (inRun (run low high)) (8 * o) 8
+octet-last low high o h k e = octet-is low high (8 * o) (high % 8) k (omega arith) (omega arith) (λ z. omega arith) (λ z. omega arith)
+
+-- The first n octets are the bitmap of f.
+pub record Bitmap (f : ℕ → Bool) (n : ℕ) (was out : List ℕ) : Type 0 where
+  pub sized : length out ≡ length was
+  pub rest : drop n out ≡ drop n was
+  pub octets : (j : ℕ) → j < n → getD out j 0 ≡ bitsOf f (8 * j) 8
+
+zeros-at : (n j : ℕ) (ys : List ℕ) → j < n → getD (replicate n 0 ++ ys) j 0 ≡ 0
+zeros-at zero j ys h = absurd (omega arith)
+zeros-at (suc n) zero ys h = refl
+zeros-at (suc n) (suc j) ys h = zeros-at n j ys (omega arith)
+
+-- octets that were cleared
+module _ (n : ℕ) (was out : List ℕ) (e : out ≡ replicate n 0 ++ drop n was) where
+  pub cleared-rest : drop n out ≡ drop n was
+  cleared-rest = ap (drop n) e ∙ drop-at (replicate n 0) (drop n was) n (length-replicate n 0)
+
+  pub cleared-length : n ≤ length was → length out ≡ length was
+  cleared-length h = omega (arith, ap length e, length-append (replicate n 0) (drop n was), length-replicate {A = ℕ} n 0, length-drop n was)
+
+  pub cleared-bitmap : Bitmap (covers []) n out out
+  cleared-bitmap = record { sized = refl; rest = refl; octets = λ j h. ap (λ (z : List ℕ). getD z j 0) e ∙ zeros-at n j (drop n was) h ∙ sym (bits-none (covers []) (8 * j) 8 (λ k l. refl)) }
+
+covers-snoc : (xs : List Run) (r : Run) (c : ℕ) → (covers xs c || inRun r c) ≡ covers (xs ++ r ∷ []) c
+covers-snoc [] r c = sym (or-false (inRun r c))
+covers-snoc (x ∷ xs) r c = or-assoc (inRun x c) (covers xs c) (inRun r c) ∙ ap (λ (b : Bool). inRun x c || b) (covers-snoc xs r c)
+
+bitmap-next : {n : ℕ} {was out out′ : List ℕ} (xs : List Run) (r : Run) → Bitmap (covers xs) n was out → RunAdded r n out out′ → Bitmap (covers (xs ++ r ∷ [])) n was out′
+bitmap-next xs r t a =
+    record {
+      sized = a .sized ∙ t .sized;
+      rest = a .rest ∙ t .rest;
+      octets = λ j h.
+          a .added j h
+          ∙ ap (λ (x : ℕ). bitOr x (bitsOf (inRun r) (8 * j) 8)) (t .octets j h)
+          ∙ bits-or (covers xs) (inRun r) (8 * j) 8
+          ∙ bits-same (λ c. covers xs c || inRun r c) (covers (xs ++ r ∷ [])) (8 * j) (8 * j) 8 (λ k l. covers-snoc xs r (8 * j + k));
+    }
+
+pub bitmap-turn : {n : ℕ} {was out out′ : List ℕ} (ks : List ℕ) (i : ℕ) → i < length ks → Bitmap (covers (keyRuns (take i ks))) n was out → RunAdded (keyRun (getD ks i 0)) n out out′ → Bitmap (covers (keyRuns (take (i + 1) ks))) n was out′
+bitmap-turn ks i h t a = rw (keys-taken ks i h) (bitmap-next (keyRuns (take i ks)) (keyRun (getD ks i 0)) t a)
+
+octets-take : (f : ℕ → Bool) (n : ℕ) (out : List ℕ) → n ≤ length out → ((j : ℕ) → j < n → getD out j 0 ≡ bitsOf f (8 * j) 8) → take n out ≡ octetsOf f n
+octets-take f zero out h o = refl
+octets-take f (suc n) out h o =
+    take-suc out n 0 h ∙ (λ i. octets-take f n out (omega arith) (λ j l. o j (omega arith)) i ++ o n (omega arith) i ∷ [])
+
+pub bitmap-whole : {f : ℕ → Bool} {n : ℕ} {was out : List ℕ} → Bitmap f n was out → n ≤ length was → out ≡ octetsOf f n ++ drop n was
+bitmap-whole {f} {n} {was} {out} t h =
+    sym (take-append-drop n out) ∙ (λ i. octets-take f n out (omega (arith, t .sized)) (t .octets) i ++ t .rest i)

@@ -15,7 +15,7 @@ use Rattle.option.specs.Spelling.{size1, size2, size5, tagFor, bodyFor}
 use Rattle.option.proofs.Choice.{Choice, take0, take1, take2, take5, choice}
 use Rattle.option.proofs.Spelled.{body1-length, body2-length, body5-length}
 use Rattle.spelling.specs.declared.Chosen.{Chosen}
-use Rattle.spelling.specs.Parts.{capped, leastOf, choiceOf}
+use Rattle.spelling.specs.Stages.{capped, leastOf, choiceOf}
 
 -- the count so far is within the cap
 pub capped-low : (n : ℕ) → n ≤ 15 → capped n ≡ n

@@ -1,5 +1,5 @@
 -- Laws of writing over a list: zeros up to octet 39, the ten octets before the categories, and the whole option.
-use Prim.Native.Nat.{ℕ, suc, _+_, _-_, _≤_, _<_}
+use Prim.Native.Nat.{ℕ, zero, suc, _+_, _-_, _≤_, _<_}
 use mathlib.Core.Path.{_≡_, refl, sym, ap, _∙_}
 use mathlib.Core.List.{List, [], _∷_, _++_, append-assoc, append-nil}
 use mathlib.Core.Option.{some}
@@ -10,7 +10,7 @@ use lib.Seq.{take-suc-set, drop-set-lt, take-append-seam, take-length, drop-drop
 use Rattle.label.specs.declared.Run.{Run}
 use Rattle.option.specs.Spelling.{tagFor, bodyFor, optionOf, spelledBy, spellingOf, padded}
 use Rattle.option.proofs.Theorems.{spelled-some}
-use Rattle.spelling.specs.Parts.{headOf, zeroed}
+use Rattle.spelling.specs.Stages.{headOf, zeroed}
 
 pub zero-more : (out : List ℕ) (i : ℕ) → i < 40 → 40 ≤ length out → zeroed (i + 1) (set out i 0) ≡ zeroed i out
 zero-more out i h l =
@@ -18,6 +18,12 @@ zero-more out i h l =
     let hl : i < length out = omega arith in
     rw (add-one, take-suc-set out i 0 hl, drop-set-lt 40 out i 0 h, e)
     (append-assoc (take i out) (0 ∷ []) (replicate (40 - suc i) 0 ++ drop 40 out))
+
+-- one octet more at the front is 0
+pub zeros-store : (out : List ℕ) (i : ℕ) → i < length out → set (replicate i 0 ++ drop i out) i 0 ≡ replicate (suc i) 0 ++ drop (suc i) out
+zeros-store [] i h = absurd (omega arith)
+zeros-store (x ∷ out) zero h = refl
+zeros-store (x ∷ out) (suc i) h = ap (λ (z : List ℕ). 0 ∷ z) (zeros-store out i (omega arith))
 
 pub zero-last : (out : List ℕ) (i : ℕ) → i ≡ 40 → zeroed i out ≡ out
 zero-last out i e = rw e (take-append-drop 40 out)

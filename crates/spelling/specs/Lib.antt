@@ -1,3 +1,4 @@
 pub mod Spelling
-pub mod Parts
+pub mod Keys
+pub mod Stages
 pub mod Theorems

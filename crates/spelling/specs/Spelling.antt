@@ -36,14 +36,3 @@ laid (some s) out = padded s ++ drop 40 out
 -- a refusal writes nothing
 unfoldable pub spellingOut : Label → List ℕ → List ℕ
 spellingOut l out = cond (eqb (spellingNumber l (length out)) 0) (laid (spelledOf l) out) out
-
--- what the length is of the spelling of a label that is known to be well formed: 0 where it has none
-pub record Measures (l : Label) (r : ℕ) : Type 0 where
-  pub measures : wellFormed l ≡ true → r ≡ lengthOf (spelledOf l)
-
--- what writing the spelling of a label that is known to be well formed does: the option stands in front of what is left of the output
-pub record Writes (l : Label) (out out′ : List ℕ) (r : ℕ) : Type 0 where
-  pub sized : length out′ ≡ length out
-  pub short : length out < 40 → (r ≡ 0) × (out′ ≡ out)
-  pub unspelled : wellFormed l ≡ true → spelledOf l ≡ none → (r ≡ 0) × (out′ ≡ out)
-  pub spelled : wellFormed l ≡ true → 40 ≤ length out → (s : List ℕ) → spelledOf l ≡ some s → (r ≡ length s) × (out′ ≡ s ++ drop (length s) out)

@@ -1,17 +1,20 @@
 // Spelling: the one shortest option of a label is chosen and written (document 01, "Option and tags" and "Asked alone").
 ghost use mathlib.Core.Path.{_≡_};
 ghost use mathlib.Core.Bool.{true, cond, _&&_};
-ghost use mathlib.Core.List.{_++_};
-ghost use Prim.Native.Nat.{_+_, _-_, _*_, _/_, _%_, _≤_, _<_};
+ghost use mathlib.Core.List.{map, _++_};
+ghost use Prim.Native.Nat.{ℕ, _+_, _-_, _*_, _/_, _%_, _^_, _≤_, _<_};
 ghost use lib.Dec.{leb, eqb};
-ghost use lib.ListN.{length, drop};
-ghost use Rattle.label.specs.Runs.{run, inRun, covers, spaced, countOf};
-ghost use Rattle.label.specs.Label.{used};
-ghost use Rattle.option.specs.Spelling.{bitsOf, octetsOf, octetsOut, numbersOf, tagFor, bodyFor};
+ghost use lib.ListN.{length, take, drop, set, replicate};
+ghost use Rattle.label.specs.Runs.{spaced, unused, covers, countOf};
+ghost use Rattle.label.specs.Label.{used, wellFormed};
+ghost use Rattle.label.specs.Keys.{keyRun, keyRuns, runKey};
+ghost use Rattle.option.specs.Spelling.{octetsOf, octetsOut, numbersOf, tagFor, bodyFor};
 ghost use Rattle.option.specs.Index.{numbersOut, pairNumber};
-ghost use Rattle.spelling.specs.Spelling.{spellingAnswer, spellingOut, Measures, Writes};
-ghost use Rattle.spelling.specs.Parts.{capped, leastOf, choiceOf, headOf, zeroed};
+ghost use Rattle.spelling.specs.Spelling.{lengthOf, spellingAnswer, spellingOut};
+ghost use Rattle.spelling.specs.Keys.{keysSpelled, keysCount, keysWritten};
+ghost use Rattle.spelling.specs.Stages.{capped, leastOf, choiceOf, headOf, zeroed, RunAdded};
 use label::Label;
+use label::Run;
 use option::ALIGNMENT_AT;
 use option::CATEGORIES_AT;
 use option::DOMAIN_AT;
@@ -25,7 +28,7 @@ use option::TAG_TYPE_AT;
 pub const OPTION_OCTETS: usize = 40;
 
 // The most octets of categories that a tag 1, a tag 2 and a tag 5 have: 240 bits, 15 numbers, 7 pairs.
-const BITMAP_OCTETS: usize = 30;
+const BITMAP_OCTETS: usize = (Label::BITMAP_CATEGORIES / 8) as usize;
 
 const NUMBERS_OCTETS: usize = 30;
 
@@ -56,13 +59,15 @@ pub fn spell_label(label: Label, out: &mut [u8]) -> Spelling
             count: 0,
         };
     }
-    if !label.well_formed() {
+    let n = label.count;
+    let mut keys = [0u32; 120];
+    if !keys_formed(label, &mut keys) {
         return Spelling {
             number: 2,
             count: 0,
         };
     }
-    let length = write_option(label, &mut out[..]);
+    let length = write_keys(&keys[..n], label.domain, label.level, &mut out[..]);
     if length == 0 {
         return Spelling {
             number: 18,
@@ -76,67 +81,129 @@ pub fn spell_label(label: Label, out: &mut [u8]) -> Spelling
     }
 }
 
-// The length of the spelling of a label that the caller knows to be well formed, or 0 where it has none.
-pub fn option_length(label: Label) -> usize
-    ensures { λ r. ⌜ Measures label r ⌝ }
+// Whether the label is well formed; then its keys stand at the front of the list.
+fn keys_formed(label: Label, keys: &mut [u32]) -> bool
+    requires { ⌜ 120 ≤ length (now keys) ⌝ }
+    ensures { λ r. ⌜ (r ≡ wellFormed label) × (r ≡ true → keyRuns (take (label .count) (now (keys .exit))) ≡ used label) × (length (now (keys .exit)) ≡ length (now (keys .entry))) ⌝ }
 {
-    if Label::MAX_RUNS < label.count {
+    let n = label.count;
+    if n <= 1 {
+        // no place is indexed by a number that is not fixed, so that the label is not copied
+        let run = label.runs[0];
+        keys[0] = key_of(run);
+        return label.well_formed();
+    }
+    if label.domain == 0 {
+        return false;
+    }
+    if Label::MAX_RUNS < n {
+        return false;
+    }
+    runs_formed(label, keys)
+}
+
+fn key_of(run: Run) -> u32
+    ensures { λ r. ⌜ r ≡ runKey run ⌝ }
+{
+    (run.low as u32) * 65536 + (run.high as u32)
+}
+
+// The run's two numbers as they lie in memory: one load.
+fn word(run: Run) -> u32
+    ensures { λ r. ⌜ r ≡ run .low + run .high * 65536 ⌝ }
+{
+    run.low as u32 + (run.high as u32) * 65536
+}
+
+// The form of a label's runs, as crate `label` looks at it, and their keys, in one pass: the label is copied once.
+fn runs_formed(label: Label, keys: &mut [u32]) -> bool
+    requires { ⌜ (label .count ≤ 120) × (120 ≤ length (now keys)) ⌝ }
+    ensures { λ r. ⌜ (r ≡ (spaced 0 (used label) && unused (drop (label .count) (label .runs)))) × (now (keys .exit) ≡ map runKey (used label) ++ drop (label .count) (now (keys .entry))) ⌝ }
+{
+    let n = label.count;
+    let mut good = true;
+    let mut floor: u32 = 0;
+    let mut i: usize = 0;
+    while i < n {
+        let run = label.runs[i];
+        let low = run.low as u32;
+        let high = run.high as u32;
+        good = good & (floor <= low) & (low <= high);
+        floor = high + 2;
+        keys[i] = key_of(run);
+        i += 1;
+    }
+    let mut rest: u32 = 0;
+    while i < 120 {
+        let run = label.runs[i];
+        rest = rest | word(run);
+        i += 1;
+    }
+    good & (floor <= 65536) & (rest == 0)
+}
+
+// The length of the spelling of the keys' runs, in any domain at any level, or 0 where they have none.
+pub fn keys_length(keys: &[u32]) -> usize
+    ensures { λ r. ⌜ ((d v : ℕ) → r ≡ lengthOf (keysSpelled d v (now (keys .entry)))) ⌝ }
+{
+    if Label::MAX_RUNS < keys.len() {
         return 0;
     }
-    let choice = choose(label);
+    let choice = choose(keys);
     if choice.tag == 0 {
         return 0;
     }
     CATEGORIES_AT + choice.size
 }
 
-// Writes the spelling of a label that the caller knows to be well formed, and returns its length; or writes nothing and returns 0.
-pub fn write_option(label: Label, out: &mut [u8]) -> usize
-    ensures { λ r. ⌜ Writes label (now (out .entry)) (now (out .exit)) r ⌝ }
+// Writes the spelling of the keys' runs to the front of the output and returns its length; or writes nothing and returns 0, where they have
+// none or the output has under 40 octets.
+pub fn write_keys(keys: &[u32], domain: u32, level: u8, out: &mut [u8]) -> usize
+    ensures { λ r. ⌜ (r ≡ keysCount domain level (now (keys .entry)) (length (now (out .entry)))) × (now (out .exit) ≡ keysWritten domain level (now (keys .entry)) (now (out .entry))) ⌝ }
 {
     if out.len() < OPTION_OCTETS {
         return 0;
     }
-    if Label::MAX_RUNS < label.count {
+    if Label::MAX_RUNS < keys.len() {
         return 0;
     }
-    let choice = choose(label);
+    let choice = choose(keys);
     let tag = choice.tag;
     let size = choice.size;
     if tag == 0 {
         return 0;
     }
-    write_body(label, tag, size, &mut out[CATEGORIES_AT..]);
-    write_head(label.domain, label.level, tag, size, &mut out[..]);
+    write_body(keys, tag, size, &mut out[CATEGORIES_AT..]);
+    write_head(domain, level, tag, size, &mut out[..]);
     CATEGORIES_AT + size
 }
 
 // The tag of the spelling and its size.
-fn choose(label: Label) -> Chosen
-    requires { ⌜ label .count ≤ 120 ⌝ }
-    ensures { λ r. ⌜ r ≡ choiceOf (used label) ⌝ }
+fn choose(keys: &[u32]) -> Chosen
+    requires { ⌜ length (now keys) ≤ 120 ⌝ }
+    ensures { λ r. ⌜ r ≡ choiceOf (keyRuns (now (keys .entry))) ⌝ }
 {
-    let n = label.count;
+    let n = keys.len();
     if n == 0 {
         return Chosen { tag: 1, size: 0 };
     }
-    let first = label.runs[0];
-    let last = label.runs[n - 1];
-    let one = bitmap_size(last.high);
-    let two = 2 * count_categories(label);
-    let five = pairs_size(n, first.low);
+    let first = keys[0];
+    let last = keys[n - 1];
+    let one = bitmap_size(last % 65536);
+    let two = 2 * count_categories(keys);
+    let five = pairs_size(n, first / 65536);
     least(one, two, five)
 }
 
 // The octets of a bitmap up to the category.
-fn bitmap_size(high: u16) -> usize
+fn bitmap_size(high: u32) -> usize
     ensures { λ r. ⌜ r ≡ (high + 1 + 7) / 8 ⌝ }
 {
     (high as usize + 1 + 7) / 8
 }
 
 // The octets of n pairs; a last bottom of 0 is left out.
-fn pairs_size(n: usize, low: u16) -> usize
+fn pairs_size(n: usize, low: u32) -> usize
     requires { ⌜ (0 < n) × (n ≤ 120) ⌝ }
     ensures { λ r. ⌜ r ≡ 4 * n - cond (eqb low 0) 2 0 ⌝ }
 {
@@ -146,27 +213,27 @@ fn pairs_size(n: usize, low: u16) -> usize
     4 * n
 }
 
-// How many categories a run has.
-fn span(low: u16, high: u16) -> usize
-    ensures { λ r. ⌜ (r ≡ high + 1 - low) × (r ≤ 65536) ⌝ }
+// How many categories a key's run has.
+fn span(key: u32) -> usize
+    ensures { λ r. ⌜ (r ≡ key % 65536 + 1 - key / 65536) × (r ≤ 65536) ⌝ }
 {
+    let low = key / 65536;
+    let high = key % 65536;
     if high < low {
         return 0;
     }
-    (high as usize) + 1 - (low as usize)
+    (high + 1 - low) as usize
 }
 
-// How many categories the label has, or 16 where they are over 15: too many for tag 2.
-fn count_categories(label: Label) -> usize
-    requires { ⌜ label .count ≤ 120 ⌝ }
-    ensures { λ r. ⌜ r ≡ capped (countOf (used label)) ⌝ }
+// How many categories the runs have, or 16 where they are over 15: too many for tag 2.
+fn count_categories(keys: &[u32]) -> usize
+    ensures { λ r. ⌜ r ≡ capped (countOf (keyRuns (now (keys .entry)))) ⌝ }
 {
-    let m = label.count;
+    let m = keys.len();
     let mut n: usize = 0;
     let mut i: usize = 0;
     while i < m {
-        let run = label.runs[i];
-        n += span(run.low, run.high);
+        n += span(keys[i]);
         if TOO_MANY_NUMBERS <= n {
             return TOO_MANY_NUMBERS;
         }
@@ -210,141 +277,140 @@ fn least(one: usize, two: usize, five: usize) -> Chosen
 }
 
 // The categories of the spelling, in its tag.
-fn write_body(label: Label, tag: u8, size: usize, out: &mut [u8])
-    requires { ⌜ label .count ≤ 120 ⌝ }
-    requires { ⌜ (tag ≡ tagFor (used label)) × (0 < tag) × (size ≡ length (bodyFor tag (used label))) × (30 ≤ length (now out)) ⌝ }
-    ensures { λ _. ⌜ (spaced 0 (used label) ≡ true → now (out .exit) ≡ bodyFor tag (used label) ++ drop size (now (out .entry))) ⌝ }
+fn write_body(keys: &[u32], tag: u8, size: usize, out: &mut [u8])
+    requires { ⌜ length (now keys) ≤ 120 ⌝ }
+    requires { ⌜ (tag ≡ tagFor (keyRuns (now keys))) × (0 < tag) × (size ≡ length (bodyFor tag (keyRuns (now keys)))) × (30 ≤ length (now out)) ⌝ }
+    ensures { λ _. ⌜ now (out .exit) ≡ bodyFor tag (keyRuns (now (keys .entry))) ++ drop size (now (out .entry)) ⌝ }
 {
     if tag == 1 {
-        write_bitmap(label, size, out);
+        write_bitmap(keys, size, out);
         return;
     }
     if tag == 2 {
-        write_numbers(label, out);
+        write_numbers(keys, out);
         return;
     }
-    write_pairs(label, size / 2, out);
+    write_pairs(keys, size / 2, out);
 }
 
-// How far a number lies above the base.
-fn above(x: usize, base: usize) -> usize
-    ensures { λ r. ⌜ r ≡ x - base ⌝ }
+// Zeros in the first n octets.
+fn clear_front(n: usize, out: &mut [u8])
+    requires { ⌜ n ≤ length (now out) ⌝ }
+    ensures { λ _. ⌜ now (out .exit) ≡ replicate n 0 ++ drop n (now (out .entry)) ⌝ }
 {
-    if x < base {
-        return 0;
-    }
-    x - base
-}
-
-// The last bit, counted from the top, of the octet from `base` on that a run up to `high` covers.
-fn last_bit(high: usize, base: usize) -> usize
-    requires { ⌜ (base ≤ high) × (base ≤ 65535) ⌝ }
-    ensures { λ r. ⌜ (r ≤ 7) × (high < base + 7 → base + r ≡ high) × (base + 7 ≤ high → r ≡ 7) ⌝ }
-{
-    if base + 7 <= high {
-        return 7;
-    }
-    high - base
-}
-
-// The octet from category `base` on of a run's bitmap: ones from its first bit on, without those after its last.
-fn octet_of(low: u16, high: u16, base: usize) -> usize
-    requires { ⌜ base ≤ 65535 ⌝ }
-    ensures { λ x. ⌜ (x ≡ bitsOf (inRun (run low high)) base 8) × (x ≤ 255) ⌝ }
-{
-    let l = low as usize;
-    let h = high as usize;
-    if h < l {
-        return 0;
-    }
-    if h < base {
-        return 0;
-    }
-    if base + 7 < l {
-        return 0;
-    }
-    let a = above(l, base);
-    let b = last_bit(h, base);
-    (255 >> a) - (127 >> b)
-}
-
-// Tag 1: n octets of the bitmap of runs that are spaced; one pass over the octets and the runs.
-fn write_bitmap(label: Label, n: usize, out: &mut [u8])
-    requires { ⌜ (label .count ≤ 120) × (n ≤ 30) × (n ≤ length (now out)) ⌝ }
-    ensures { λ _. ⌜ (spaced 0 (used label) ≡ true → now (out .exit) ≡ octetsOf (covers (used label)) n ++ drop n (now (out .entry))) ⌝ }
-{
-    let m = label.count;
-    let mut x: usize = 0;
     let mut i: usize = 0;
-    let mut k: usize = 0;
-    while k < n {
-        if i < m {
-            let run = label.runs[i];
-            let y = x + octet_of(run.low, run.high, 8 * k);
-            if (run.high as usize) < 8 * k + 8 {
-                x = y;
-                i += 1;
-            } else {
-                out[k] = (y % 256) as u8;
-                x = 0;
-                k += 1;
-            }
-        } else {
-            out[k] = (x % 256) as u8;
-            x = 0;
-            k += 1;
+    while i < n {
+        out[i] = 0;
+        i += 1;
+    }
+}
+
+// An octet's ones from a bit on; bit 0 is the top one.
+fn ones_from(bit: usize) -> u8
+    requires { ⌜ bit < 8 ⌝ }
+    ensures { λ r. ⌜ r ≡ 255 / 2 ^ bit ⌝ }
+{
+    255 >> bit
+}
+
+// A run's bits are added to n octets of a bitmap: ones from its first bit on, without those after its last. What lies past the n octets is
+// left out.
+fn add_run(key: u32, n: usize, out: &mut [u8])
+    requires { ⌜ (n ≤ 30) × (n ≤ length (now out)) ⌝ }
+    ensures { λ _. ⌜ RunAdded (keyRun key) n (now (out .entry)) (now (out .exit)) ⌝ }
+{
+    let low = (key / 65536) as usize;
+    let high = (key % 65536) as usize;
+    if high < low {
+        return;
+    }
+    let last = high / 8;
+    let mut ones = ones_from(low % 8);
+    let mut o = low / 8;
+    while o < n {
+        if o == last {
+            let after: u8 = 127 >> (high % 8);
+            out[o] = out[o] | (ones - after);
+            return;
         }
+        out[o] = out[o] | ones;
+        ones = 255;
+        o += 1;
+    }
+}
+
+// Tag 1: n octets of the bitmap, one run after the other; the runs may come in any order and overlap.
+fn write_bitmap(keys: &[u32], n: usize, out: &mut [u8])
+    requires { ⌜ (n ≤ 30) × (n ≤ length (now out)) ⌝ }
+    ensures { λ _. ⌜ now (out .exit) ≡ octetsOf (covers (keyRuns (now (keys .entry)))) n ++ drop n (now (out .entry)) ⌝ }
+{
+    clear_front(n, &mut out[..]);
+    let m = keys.len();
+    let mut i: usize = 0;
+    while i < m {
+        add_run(keys[i], n, &mut out[..]);
+        i += 1;
     }
 }
 
 // Tag 2: every category as a two-octet number, lowest first.
-fn write_numbers(label: Label, out: &mut [u8])
-    requires { ⌜ (label .count ≤ 120) × (2 * countOf (used label) ≤ length (now out)) ⌝ }
-    ensures { λ _. ⌜ now (out .exit) ≡ octetsOut (numbersOf (used label)) ++ drop (2 * countOf (used label)) (now (out .entry)) ⌝ }
+fn write_numbers(keys: &[u32], out: &mut [u8])
+    requires { ⌜ 2 * countOf (keyRuns (now keys)) ≤ length (now out) ⌝ }
+    ensures { λ _. ⌜ now (out .exit) ≡ octetsOut (numbersOf (keyRuns (now (keys .entry)))) ++ drop (2 * countOf (keyRuns (now (keys .entry)))) (now (out .entry)) ⌝ }
 {
-    let m = label.count;
+    let m = keys.len();
     let mut i: usize = 0;
     let mut j: usize = 0;
     let mut k: usize = 0;
     while i < m {
-        let run = label.runs[i];
-        let x = (run.low as usize) + j;
-        if (run.high as usize) < x {
+        let key = keys[i];
+        let x = ((key / 65536) as usize) + j;
+        let high = (key % 65536) as usize;
+        if high < x {
             i += 1;
             j = 0;
         } else {
             out[2 * k] = (x / 256) as u8;
             out[2 * k + 1] = (x % 256) as u8;
             k += 1;
-            j += 1;
+            // a run's last category: the next turn has the next run
+            if high == x {
+                i += 1;
+                j = 0;
+            } else {
+                j += 1;
+            }
         }
     }
 }
 
-// One end of a run: its top, then its bottom.
-fn end_of(low: u16, high: u16, k: usize) -> u16
-    ensures { λ x. ⌜ x ≡ cond (eqb (k % 2) 0) high low ⌝ }
+// Number k, in two octets.
+fn put_number(k: usize, x: u32, out: &mut [u8])
+    requires { ⌜ (2 * k + 1 < length (now out)) × (k ≤ 300) × (x < 65536) ⌝ }
+    ensures { λ _. ⌜ (now (out .exit) ≡ set (set (now (out .entry)) (2 * k) (x / 256)) (2 * k + 1) (x % 256)) × (length (now (out .exit)) ≡ length (now (out .entry))) ⌝ }
 {
-    if k % 2 == 0 {
-        return high;
-    }
-    low
+    out[2 * k] = (x / 256) as u8;
+    out[2 * k + 1] = (x % 256) as u8;
 }
 
-// Tag 5: the first m ends, from the last run to the first; m is odd where the last bottom is left out.
-fn write_pairs(label: Label, m: usize, out: &mut [u8])
-    requires { ⌜ (label .count ≤ 120) × (m ≤ 2 * label .count) × (2 * m ≤ length (now out)) ⌝ }
-    ensures { λ _. ⌜ now (out .exit) ≡ numbersOut (pairNumber (used label)) m ++ drop (2 * m) (now (out .entry)) ⌝ }
+// Tag 5: the first m ends, from the last run to the first, each run's top and then its bottom; m is odd where the last bottom is left out.
+fn write_pairs(keys: &[u32], m: usize, out: &mut [u8])
+    requires { ⌜ (length (now keys) ≤ 120) × (m ≤ 2 * length (now keys)) × (2 * m ≤ length (now out)) ⌝ }
+    ensures { λ _. ⌜ now (out .exit) ≡ numbersOut (pairNumber (keyRuns (now (keys .entry)))) m ++ drop (2 * m) (now (out .entry)) ⌝ }
 {
-    let n = label.count;
-    let mut k: usize = 0;
-    while k < m {
-        let j = n - 1 - k / 2;
-        let run = label.runs[j];
-        let x = end_of(run.low, run.high, k);
-        out[2 * k] = (x / 256) as u8;
-        out[2 * k + 1] = (x % 256) as u8;
-        k += 1;
+    let n = keys.len();
+    let pairs = m / 2;
+    let mut j: usize = 0;
+    while j < pairs {
+        let at = n - 1 - j;
+        let key = keys[at];
+        put_number(2 * j, key % 65536, &mut out[..]);
+        put_number(2 * j + 1, key / 65536, &mut out[..]);
+        j += 1;
+    }
+    if 2 * j < m {
+        let at = n - 1 - j;
+        put_number(2 * j, keys[at] % 65536, &mut out[..]);
     }
 }
 

@@ -1,20 +1,124 @@
 // Cases that don't parse.
 
-use crate::cases::{encode, Case, Encoder, Output, CONTAINS, FORWARD, MAX_OUTPUT, RENUMBER};
+use crate::cases::{
+    encode, Case, Encoder, Output, BITMAP, CONTAINS, DELIVER, DELIVER_FACTS, FORWARD, FORWARD_FACTS, MAX_OUTPUT, MAX_ROOM, READ,
+    READ_AND_WRITE, READ_FILE, RENUMBER, REVERSE, SPELL, WITHIN, WRITE_FILE,
+};
+use crate::entries::Entries;
+use crate::file::SetRecord;
 use crate::label::HeldLabel;
 
+use super::bitmaps::bitmap_read;
 use super::deliver::delivered;
 use super::drafts::*;
+use super::files::{file_rule_broken, file_written, rich_set, set_written};
 use super::forward::forwarded;
 use super::labels::{contains_yes, renumbered, spelled, within_yes};
 use super::random::Random;
 use super::reading::read_valid;
-use super::{octets_of, Made, Maker};
+use super::reverse::reversed;
+use super::{octets_of, with_facts, Made, Maker};
+
+/// A maker of good cases for each entry.
+const GOOD: &[(u8, Maker)] = &[
+    (CONTAINS, contains_yes),
+    (WITHIN, within_yes),
+    (RENUMBER, renumbered),
+    (SPELL, spelled),
+    (READ, read_valid),
+    (FORWARD, forwarded),
+    (DELIVER, delivered),
+    (FORWARD_FACTS, forwarded),
+    (DELIVER_FACTS, delivered),
+    (READ_FILE, file_rule_broken),
+    (READ_AND_WRITE, file_written),
+    (WRITE_FILE, set_written),
+    (REVERSE, reversed),
+    (BITMAP, bitmap_read),
+];
 
 /// The octets of a good case of any entry.
-pub fn any_case(random: &mut Random) -> Vec<u8> {
-    let make: Maker = random.pick(&[contains_yes as Maker, within_yes, renumbered, spelled, read_valid, forwarded, delivered]);
-    octets_of(make(random, 3, 0), 0)
+pub fn any_case(random: &mut Random, entries: &Entries) -> Vec<u8> {
+    let good: Vec<(u8, Maker)> = GOOD.iter().copied().filter(|(entry, _)| entries.has(*entry)).collect();
+    let (entry, make) = random.pick(&good);
+    octets_of(with_facts(make(random, 3, 0), Some(entry), random, 7), 0)
+}
+
+/// Ways in which cases of the later entries are broken.
+type Way = fn(&mut Random, usize) -> Vec<u8>;
+const LATER_WAYS: &[(u8, Way)] = &[
+    (FORWARD_FACTS, bad_fact_forward),
+    (DELIVER_FACTS, bad_fact_deliver),
+    (WRITE_FILE, bad_group),
+    (WRITE_FILE, stored_set),
+    (REVERSE, long_room),
+];
+
+/// One of the five facts is neither 0 nor 1.
+fn bad_fact_forward(random: &mut Random, round: usize) -> Vec<u8> {
+    let case = forward_draft(random, &ANY).finish(random);
+    let after = 1 + case.area.len() + 3;
+    let mut octets = encode(&Case::ForwardFacts(Box::new(case)), 0);
+    let fact = octets.len() - after - 1 - round % 5;
+    octets[fact] = [2, 255, 3, 128][round % 4];
+    octets
+}
+
+fn bad_fact_deliver(random: &mut Random, round: usize) -> Vec<u8> {
+    let case = deliver_draft(random, &ANY).finish(random);
+    let after = 1 + case.area.len();
+    let mut octets = encode(&Case::DeliverFacts(Box::new(case)), 0);
+    let fact = octets.len() - after - 1 - round % 5;
+    octets[fact] = [2, 255, 3, 128][round % 4];
+    octets
+}
+
+/// Groups of port fields that are not there yet, in the first or the last port.
+fn bad_group(random: &mut Random, round: usize) -> Vec<u8> {
+    let mut set = rich_set(random);
+    (set.table_count, set.tables) = (0, SetRecord::empty().tables);
+    let port = set.ports[0].clone();
+    let mut octets = encode(&Case::WriteFile(Box::new(set), Output { length: 40, fill: 0 }), 0);
+    let group = if round % 2 == 0 {
+        let mut first = Encoder { octets: Vec::new(), spare: 0 };
+        first.port(&port);
+        3 + first.octets.len()
+    } else {
+        octets.len() - 6
+    };
+    octets[group] = [1, 2, 4, 8, 15, 16, 255][round % 7];
+    octets
+}
+
+/// A set with that many stored ports, tables, level pairs and rows, each over its limit in turn, though all octets are there.
+fn stored_set(_random: &mut Random, round: usize) -> Vec<u8> {
+    let over = |way: usize, limit: usize| if round % 4 == way { limit + 1 + round / 4 % 2 } else { 1 };
+    let (ports, tables, pairs, rows) = (over(0, 16), over(1, 8), over(2, 16), over(3, 64));
+    let mut octets = vec![WRITE_FILE, 0, ports as u8];
+    octets.extend(vec![0; ports * (4 + 3 * 7 + 1 + 1)]);
+    octets.extend([0, tables as u8]);
+    for _ in 0..tables {
+        octets.extend(vec![0; 10]);
+        octets.extend((pairs as u16).to_be_bytes());
+        octets.extend(vec![0; 2 * pairs + 2]);
+        octets.extend((rows as u16).to_be_bytes());
+        octets.extend(vec![0; 6 * rows]);
+    }
+    octets.extend([0, 40, 0]);
+    octets
+}
+
+/// Room for more than 1024 rows, and tables with too much stored or lent.
+fn long_room(_random: &mut Random, round: usize) -> Vec<u8> {
+    let over = |way: usize, limit: usize| if round % 3 == way { limit + 1 } else { 0 };
+    let (pairs, rows, room) = (over(1, 16), over(2, 64), over(0, [MAX_ROOM, 65_534, MAX_ROOM + 1][round / 3 % 3]));
+    let mut octets = vec![REVERSE, 0, 0, 0, 5, 0, 0, 0, 9, 0, 0];
+    octets.extend((pairs as u16).to_be_bytes());
+    octets.extend(vec![0; 2 * pairs + 2]);
+    octets.extend((rows as u16).to_be_bytes());
+    octets.extend(vec![0; 6 * rows]);
+    octets.extend((room as u16).to_be_bytes());
+    octets
 }
 
 /// A label with `stored` places, as an entry 1; over 120 it doesn't parse, though all octets are there.
@@ -34,13 +138,18 @@ pub fn stored_table(levels: usize, rows: usize) -> Vec<u8> {
     octets
 }
 
-pub fn broken(random: &mut Random, turn: usize, _number: u8) -> Made {
-    let mut octets = any_case(random);
-    let (kind, round) = (turn % 16, turn / 16);
+pub fn broken(random: &mut Random, turn: usize, entries: &Entries) -> Made {
+    let later: Vec<Way> = LATER_WAYS.iter().filter(|(entry, _)| entries.has(*entry)).map(|(_, way)| *way).collect();
+    let mut octets = any_case(random, entries);
+    let ways = 16 + later.len();
+    let (kind, round) = (turn % ways, turn / ways);
     match kind {
         // No entry octet; an unknown one; nothing but one.
         0 => octets.clear(),
-        1 => octets[0] = [0, 8, 255, 9, 128][round % 5],
+        1 => {
+            let unknown = [0, 8, 255, 9, 128][round % 5];
+            octets[0] = if entries.has(unknown) { 23 } else { unknown };
+        }
         2 => octets.truncate(1),
         // A field is cut off.
         3 => octets.truncate(octets.len() - 1),
@@ -90,7 +199,8 @@ pub fn broken(random: &mut Random, turn: usize, _number: u8) -> Made {
             let length = [MAX_OUTPUT + 1, 65_535, MAX_OUTPUT + 2][round % 3];
             octets = encode(&Case::Spell(HeldLabel::empty(5, 3), Output { length, fill: 0 }), 0);
         }
-        // Longer than any case that parses; once the longest there can be.
+        16.. => octets = later[kind - 16](random, round),
+        // Longer than any case of the first entries that parses; once the longest there can be.
         _ => {
             let length = if round == 0 { 65_535 } else { random.between(3700, 4200) };
             octets.resize(length, 0);
@@ -100,8 +210,8 @@ pub fn broken(random: &mut Random, turn: usize, _number: u8) -> Made {
 }
 
 /// What stands at the very end: a length cut off, or one that runs past the end of input.
-pub fn cut_off(random: &mut Random) -> Vec<u8> {
-    let octets = any_case(random);
+pub fn cut_off(random: &mut Random, entries: &Entries) -> Vec<u8> {
+    let octets = any_case(random, entries);
     let length = (octets.len() as u16).to_be_bytes();
     match random.below(4) {
         0 => length[..1].to_vec(),

@@ -1,6 +1,7 @@
 // Drafts of a forward and a deliver that are likely to be done, before their options are laid out as an area.
 
 use crate::cases::{DeliverCase, ForwardCase, Output};
+use crate::decision::Facts;
 use crate::label::HeldLabel;
 use crate::option::{spell, MAX_OCTETS};
 use crate::records::{renumber_alone, TableRecord};
@@ -165,7 +166,7 @@ pub fn forward_draft(random: &mut Random, wish: &Wish) -> ForwardDraft {
             // It isn't read, and may be anything.
             TableRecord {
                 from: random.next() as u32,
-                level_count: random.octet(),
+                level_count: random.octet() as u16,
                 row_count: random.next() as u16,
                 ..TableRecord::ALL_ZERO
             }
@@ -190,8 +191,14 @@ pub fn forward_draft(random: &mut Random, wish: &Wish) -> ForwardDraft {
         let leaving_length = leaving_label.as_ref().and_then(|label| spell(&label.label()?)).map_or(10, |option| option.len());
         let kept = kept_options(random, MAX_OCTETS - arriving_length.max(leaving_length));
         let datagram = datagram_of(random, cipso, kept);
-        let case =
-            ForwardCase { arriving, leaving, table, icmp_mark: random.chance(1, 5), area: Vec::new(), output: random_output(random) };
+        let case = ForwardCase {
+            arriving,
+            leaving,
+            table,
+            facts: Facts::marked(random.chance(1, 5)),
+            area: Vec::new(),
+            output: random_output(random),
+        };
         return ForwardDraft { case, datagram, label, leaving_label };
     }
 }
@@ -228,7 +235,7 @@ pub fn deliver_draft(random: &mut Random, wish: &Wish) -> DeliverDraft {
         let case = DeliverCase {
             port: port_around(random, &label, wish.rich, !labelled),
             host: host_around(random, &label, wish.rich),
-            icmp_mark: random.chance(1, 5),
+            facts: Facts::marked(random.chance(1, 5)),
             area: Vec::new(),
         };
         return DeliverDraft { case, datagram, label };

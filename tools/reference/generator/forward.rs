@@ -1,7 +1,7 @@
 // Cases of forward.
 
 use crate::cases::Case;
-use crate::decision::forward;
+use crate::decision::{forward, Facts};
 use crate::label::{HeldLabel, Run, HIGHEST_CATEGORY};
 use crate::option::{spell, MAX_OCTETS};
 
@@ -22,7 +22,7 @@ pub fn forward_case(draft: ForwardDraft, random: &mut Random) -> Made {
 pub fn forwards(draft: &ForwardDraft, random: &mut Random) -> bool {
     let case = draft.clone().finish(random);
     let mut output = vec![0; case.output.length];
-    forward(&case.arriving, &case.leaving, &case.table, false, &case.area, &mut output).number == 0
+    forward(&case.arriving, &case.leaving, &case.table, &Facts::NONE, &case.area, &mut output).number == 0
 }
 
 /// A forward that is done, with several runs in every label and several rows, so that any clause can be broken alone.

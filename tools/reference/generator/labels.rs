@@ -2,6 +2,7 @@
 
 use crate::cases::{Case, Output};
 use crate::label::{HeldLabel, Run};
+use crate::records::TableRecord;
 
 use super::drafts::*;
 use super::forward::sound_draft;
@@ -103,6 +104,15 @@ pub fn renumbered(random: &mut Random, turn: usize, _number: u8) -> Made {
         table_for(random, &label, far_domain, false, targets)
     };
     Made::Case(Case::Renumber(label, table))
+}
+
+/// A label with a sound table that has a number for every part of it.
+pub fn random_label_and_table(random: &mut Random) -> (HeldLabel, TableRecord) {
+    let turn = random.below(24);
+    match renumbered(random, turn, 0) {
+        Made::Case(Case::Renumber(label, table)) => (label, table),
+        _ => unreachable!("it makes such cases alone"),
+    }
 }
 
 pub fn renumber_no_number(random: &mut Random, turn: usize, _number: u8) -> Made {

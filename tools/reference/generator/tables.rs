@@ -39,7 +39,7 @@ pub fn full_table_for(random: &mut Random, label: &HeldLabel, to: u32, targets: 
 
 /// Writes the rows and level pairs into a table.
 pub fn table_of(from: u32, to: u32, levels: &[[u8; 2]], rows: &[Row]) -> TableRecord {
-    let (level_count, row_count) = (levels.len() as u8, rows.len() as u16);
+    let (level_count, row_count) = (levels.len() as u16, rows.len() as u16);
     let mut table = TableRecord { from, to, level_count, row_count, ..TableRecord::ALL_ZERO };
     table.levels[..levels.len()].copy_from_slice(levels);
     table.rows[..rows.len()].copy_from_slice(rows);

@@ -1,17 +1,17 @@
-use Prim.Native.Nat.{ℕ, _≤_, _<_, _-_, _+_}
+use Prim.Native.Nat.{ℕ, _≤_, _-_, _+_}
 use mathlib.Core.Path.{_≡_, refl, sym, ap, _∙_}
 use native.Mathlib.Omega.{arith}
 use borrow.Author.Needs.{needs}
-use lib.ListN.{length, drop, take, getD, length-drop}
-use lib.Seq.{take-all, drop-drop, drop-length}
+use lib.ListN.{length, drop}
+use lib.Seq.{drop-drop}
 use mathlib.Core.List.{List}
-use Rattle.area.specs.Area.{walkOf, walkFrom}
+use Rattle.area.specs.Area.{metFrom, metOf, judged, walkOf}
 use Rattle.area.proofs.Laws.{turn-here, turn-moves, walk-end, afterTurn}
 use Rattle.area.proofs.walk_area.Statement.{statement}
 use Rattle.area.proofs.walk_area.Tie as tie
 
 abbrev Inv-loop : tie.InvT-loop
-Inv-loop area at₀ seen₀ at seen = (at ≤ length area) × (walkOf area ≡ walkFrom (drop at area) 0 at seen)
+Inv-loop area at₀ seen₀ at seen = (at ≤ length area) × (walkOf area ≡ judged (metFrom (drop at area) 0 at) seen)
 
 abbrev μ-loop : tie.MeasureT-loop
 μ-loop area at₀ seen₀ at seen = length area - at
@@ -41,7 +41,7 @@ moved c =
     (i .loop-test .taken) (t .before .read-size .ensures) (t .take-turn .ensures) _ _ (c .n .given .1)
 
 loop-holds : tie.Need-loop-holds Inv-loop μ-loop
-unfolding walkOf
+unfolding walkOf metOf
 loop-holds c = (omega arith, refl)
 
 sub-rest : tie.Need-sub-rest Inv-loop μ-loop

@@ -1,23 +1,61 @@
 -- `arrival::arrive` meets its contract.
 use borrow.Author.Needs.{needs}
 use native.Mathlib.Omega.{arith}
-use mathlib.Core.Path.{_≡_, refl, sym, _∙_, ap}
-use mathlib.Core.Bool.{false}
-use mathlib.Core.Option.{Option}
+use borrow.Author.Tests.{not-true, not-false, lt-ltb, le-ltb}
+use mathlib.Core.Path.{_≡_, sym, _∙_}
+use mathlib.Core.Bool.{true, false, _||_}
+use lib.Dec.{ltb}
+use lib.ListN.{length}
 use Rattle.area.specs.declared.Walk.the-variants.{Sound, Refused}
 use Rattle.area.specs.Area.{walkOf}
 use Rattle.area.proofs.Laws.{area-refused, sound-placed}
-use Rattle.arrival.specs.Checks.{Refusal, arrivingLabel}
-use Rattle.arrival.specs.Decision.{decided}
-use Rattle.arrival.proofs.Arrival.{arrival-refused, arrival-placed}
+use Rattle.port.specs.Port.{portSound}
+use Rattle.arrival.specs.Checks.{badArea}
+use Rattle.arrival.proofs.Arrival.{area-short, port-sized, port-unsound, port-walked, port-placed}
 use Rattle.arrival.proofs.arrive.Statement.{statement}
 use Rattle.arrival.proofs.arrive.Tie as tie
 
-refuse-requires : tie.Need-refuse-requires
-refuse-requires c κs = search needs
+bad-area-requires : tie.Need-bad-area-requires
+bad-area-requires c κs = search needs
+
+stop-requires : tie.Need-stop-requires
+stop-requires c κs = search needs
 
 returns : tie.Need-returns
-returns c = record { arrives = λ sp h. absurd (omega (arith, c .before .if1 .taken)) }
+returns c =
+    let s = c .before .before .before .before .before in
+    rw (c .stop .ensures) (port-sized (s .args .port) (s .args .area .now) (s .args .keys .now) (s .args .code) (rw (sym (c .before .before .bad-area .ensures) ∙ c .before .if1 .taken)))
+
+stop-requires-2 : tie.Need-stop-requires-2
+stop-requires-2 c κs = search needs
+
+returns-2 : tie.Need-returns-2
+returns-2 c =
+    let e = c .before .before in
+    let s = e .before .before .before .before in
+    rw (c .stop2 .ensures)
+    (port-sized (s .args .port) (s .args .area .now) (s .args .keys .now) (s .args .code) (rw (sym (e .before .bad-area .ensures) ∙ e .if1 .left, lt-ltb (length (s .args .keys .now)) 120 (c .before .if2 .taken))))
+
+port-sound-requires : tie.Need-port-sound-requires
+port-sound-requires c κs = search needs
+
+stop-requires-3 : tie.Need-stop-requires-3
+stop-requires-3 c κs = search needs
+
+-- past check 1
+small : (c : tie.Else2) → badArea (c .before .before .before .before .before .args .area .now) ≡ false
+small c = sym (c .before .before .bad-area .ensures) ∙ c .before .if1 .left
+
+sized : (c : tie.Else2) → (badArea (c .before .before .before .before .before .args .area .now) || ltb (length (c .before .before .before .before .before .args .keys .now)) 120) ≡ false
+sized c = rw (small c) (le-ltb (length (c .before .before .before .before .before .args .keys .now)) 120 (c .if2 .left))
+
+returns-3 : tie.Need-returns-3
+returns-3 c =
+    let p = c .before .before in
+    let e = p .before in
+    let s = e .before .before .before .before .before in
+    rw (c .stop3 .ensures)
+    (port-unsound (s .args .port) (s .args .area .now) (s .args .keys .now) (s .args .code) (sized e) (sym (p .port-sound .ensures) ∙ not-true _ (c .before .if3 .taken)))
 
 walk-area-requires : tie.Need-walk-area-requires
 walk-area-requires c κs = search needs
@@ -26,65 +64,81 @@ enum-known-number : tie.Need-enum-known-number
 enum-known-number c = search needs
 
 -- the walk refused the area
-walked : (c : tie.After-number) →
-    walkOf (c .before .before .before .before .before .args .area .now) ≡ Refused (c .number .given .0 .0) (c .number .given .0 .1 .0)
+walked : (c : tie.After-number) → walkOf (c .before .before .before .before .before .before .before .before .before .before .args .area .now) ≡ Refused (c .number .given .0 .0) (c .number .given .0 .1 .0)
 walked c = sym (c .before .before .walk-area .ensures) ∙ c .number .given .1
 
-add-refuse : tie.Need-add-refuse
-add-refuse c =
-    let n = c .before in
-    omega (arith, area-refused _ _ _ (walked n) .1, n .before .before .before .if1 .left)
+-- or found it sound
+found : (c : tie.After-place) → walkOf (c .before .before .before .before .before .before .before .before .before .before .args .area .now) ≡ Sound (c .place .given .0 .0)
+found c = sym (c .before .before .walk-area .ensures) ∙ c .place .given .1
 
-cast-refuse : tie.Need-cast-refuse
-cast-refuse c =
-    let n = c .before in
-    omega (arith, area-refused _ _ _ (walked n) .1, n .before .before .before .if1 .left)
+-- the port is sound
+ported : (c : tie.Else3) → portSound (c .before .before .before .before .before .before .before .args .port) ≡ true
+ported c = sym (c .before .port-sound .ensures) ∙ not-false _ (c .if3 .left)
 
-refuse-requires-2 : tie.Need-refuse-requires-2
-refuse-requires-2 c κs = search needs
+add-stop : tie.Need-add-stop
+add-stop c =
+    let n = c .before in
+    let e = n .before .before .before .before .before in
+    omega (arith, area-refused _ _ _ (walked n) .1, area-short (e .before .before .before .before .before .args .area .now) (small e))
+
+cast-stop : tie.Need-cast-stop
+cast-stop c =
+    let n = c .before in
+    let e = n .before .before .before .before .before in
+    omega (arith, area-refused _ _ _ (walked n) .1, area-short (e .before .before .before .before .before .args .area .now) (small e))
+
+stop-requires-4 : tie.Need-stop-requires-4
+stop-requires-4 c κs = search needs
 
 enum-known-place : tie.Need-enum-known-place
 enum-known-place c = search needs
 
--- the walk found the area sound
-found : (c : tie.After-place) →
-    walkOf (c .before .before .before .before .before .args .area .now) ≡ Sound (c .place .given .0 .0)
-found c = sym (c .before .before .walk-area .ensures) ∙ c .place .given .1
-
 arrive-at-requires : tie.Need-arrive-at-requires
 arrive-at-requires c κs =
-    let p = c .before in
-    (p .before .before .before .if1 .left, sound-placed _ _ (found p))
-
-returns-2 : tie.Need-returns-2
-returns-2 c =
-    let n = c .before .before in
-    let s = n .before .before .before .before .before in
-    record {
-      arrives = λ sp h.
-          c .refuse2 .ensures
-          ∙ ap (λ (o : Option Refusal). decided false o (arrivingLabel (s .args .port) (s .args .area .now)) 0) (sym (arrival-refused (s .args .port) (s .args .area .now) (s .args .code) _ _ (walked n)));
-    }
-
-returns-3 : tie.Need-returns-3
-returns-3 c =
     let p = c .before .before in
-    let s = p .before .before .before .before .before in
-    let q = arrival-placed (s .args .port) (s .args .area .now) (s .args .code) (p .place .given .0 .0) (found p) in
-    record { arrives = λ sp h. c .arrive-at .ensures sp ∙ sym (rw (q .0, q .1)) }
+    let t = p .before .before .before in
+    let e = t .before .before in
+    (area-short (e .before .before .before .before .before .args .area .now) (small e), (sound-placed _ _ (found p), (ported t, e .if2 .left)))
+
+returns-4 : tie.Need-returns-4
+returns-4 c =
+    let n = c .before .before in
+    let t = n .before .before .before in
+    let e = t .before .before in
+    let s = e .before .before .before .before .before in
+    rw (c .stop4 .ensures) (port-walked (s .args .port) (s .args .area .now) (s .args .keys .now) (s .args .code) (sized e) (ported t) _ _ (walked n))
+
+same-length : tie.Need-same-length
+same-length c = search needs
+
+returns-5 : tie.Need-returns-5
+returns-5 c =
+    let a = c .before .before in
+    let p = a .before .before .before in
+    let t = p .before .before .before in
+    let e = t .before .before in
+    let s = e .before .before .before .before .before in
+    port-placed (s .args .port) (s .args .area .now) (s .args .keys .now) (s .args .code) (sized e) (ported t) (p .place .given .0 .0) _ _ (found p) (a .arrive-at .ensures)
 
 pub arrive-spec : {M : Type 1} → statement M
 arrive-spec =
     tie.close
     (tie.spec
-    refuse-requires
+    bad-area-requires
+    stop-requires
     returns
+    stop-requires-2
+    returns-2
+    port-sound-requires
+    stop-requires-3
+    returns-3
     walk-area-requires
     enum-known-number
-    add-refuse
-    cast-refuse
-    refuse-requires-2
+    add-stop
+    cast-stop
+    stop-requires-4
     enum-known-place
     arrive-at-requires
-    returns-2
-    returns-3)
+    returns-4
+    same-length
+    returns-5)

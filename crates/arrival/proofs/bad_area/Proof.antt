@@ -1,6 +1,5 @@
 -- `arrival::bad_area` meets its contract.
 use borrow.Author.Tests.{lt-ltb, le-ltb}
-use mathlib.Core.Bool.{not}
 use Rattle.arrival.proofs.bad_area.Statement.{statement}
 use Rattle.arrival.proofs.bad_area.Tie as tie
 

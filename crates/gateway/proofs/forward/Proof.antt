@@ -2,71 +2,114 @@
 use borrow.Author.Needs.{needs}
 use native.Mathlib.Omega.{arith}
 use mathlib.Core.Path.{_≡_, refl, sym, _∙_, ap}
-use mathlib.Core.Bool.{Bool, false}
-use mathlib.Core.Option.{Option, none, some}
-use Prim.Native.Nat.{ℕ}
 use lib.ListN.{length}
-use Rattle.arrival.specs.declared.Decision.{Decision}
-use Rattle.arrival.specs.Checks.{Refusal, firstOf}
-use Rattle.arrival.specs.Decision.{refused, done, decided}
-use Rattle.arrival.specs.Stages.{reported}
-use Rattle.arrival.proofs.First.{passed, stopped, reported-is}
-use Rattle.gateway.specs.Crossing.{Forwarding, crossing, leavingLabel}
-use Rattle.gateway.specs.Forward.{forwardChecks}
-use Rattle.gateway.specs.Stages.{forwardingOf}
-use Rattle.gateway.proofs.Forwards.{mark-alike, forward-refused, forward-real, forward-written}
+use Rattle.gateway.specs.Crossing.{Forwarding}
+use Rattle.gateway.specs.Stages.{forwardingOf, recordedBy}
+use Rattle.gateway.proofs.Stages.{forwarded}
 use Rattle.gateway.proofs.forward.Statement.{statement}
 use Rattle.gateway.proofs.forward.Tie as tie
 
--- what is asked, with the mark or without
-abbrev asked : (c : tie.Start) → Bool → Forwarding
-asked c icmp = forwardingOf (c .args .arriving) (c .args .leaving) (c .args .table) (c .args .levels) icmp (c .args .area .now) (length (c .args .out .now))
+port-sound-requires : tie.Need-port-sound-requires
+port-sound-requires c κs = search needs
 
-unmarked : (c : tie.Start) → firstOf (forwardChecks (asked c (c .args .icmp))) ≡ firstOf (forwardChecks (asked c false))
-unmarked c = mark-alike (c .args .arriving) (c .args .leaving) (c .args .table) (c .args .levels) (c .args .icmp) false (c .args .area .now) (length (c .args .out .now))
+slice-aggregate-arrive : tie.Need-slice-aggregate-arrive
+slice-aggregate-arrive c = search needs
 
-decide-requires : tie.Need-decide-requires
-decide-requires c κs = search needs
+arrive-requires : tie.Need-arrive-requires
+arrive-requires c κs = search needs
 
-report-requires : tie.Need-report-requires
-report-requires c κs = search needs
+check-leaving-requires : tie.Need-check-leaving-requires
+check-leaving-requires c κs = search needs
 
-returns : tie.Need-returns
-returns c =
-    let d = c .before .before .before in
-    let s = d .before .before .before in
-    let x = stopped _ _ 0 (d .decide .result) (forward-real (asked s false)) (d .decide .ensures) (c .before .if1 .taken) in
-    let q = forward-refused (asked s (s .args .icmp)) (x .0) (s .args .out .now) (unmarked s ∙ x .1) in
-    (c .report .ensures ∙ ap (reported (s .args .icmp)) (x .2) ∙ reported-is (s .args .icmp) (x .0) ∙ q .0, q .1)
+slice-aggregate-cross : tie.Need-slice-aggregate-cross
+slice-aggregate-cross c = search needs
 
-write-option-requires : tie.Need-write-option-requires
-write-option-requires c κs = search needs
+slice-aggregate-cross-2 : tie.Need-slice-aggregate-cross-2
+slice-aggregate-cross-2 c = search needs
 
-write-rest-requires : tie.Need-write-rest-requires
-write-rest-requires c κs = search needs
+cross-requires : tie.Need-cross-requires
+cross-requires c κs = search needs
+
+slice-aggregate-hold-leaving : tie.Need-slice-aggregate-hold-leaving
+slice-aggregate-hold-leaving c = search needs
+
+hold-leaving-requires : tie.Need-hold-leaving-requires
+hold-leaving-requires c κs = search needs
+
+kept-by-requires : tie.Need-kept-by-requires
+kept-by-requires c κs = search needs
+
+slice-aggregate-fit : tie.Need-slice-aggregate-fit
+slice-aggregate-fit c = search needs
+
+fit-requires : tie.Need-fit-requires
+fit-requires c κs = search needs
+
+slice-aggregate-write-area : tie.Need-slice-aggregate-write-area
+slice-aggregate-write-area c = search needs
+
+write-area-requires : tie.Need-write-area-requires
+write-area-requires c κs =
+    let t = c .before .before in
+    λ z. omega (arith, t .fit .ensures .1 z)
+
+slice-aggregate-conclude : tie.Need-slice-aggregate-conclude
+slice-aggregate-conclude c = search needs
+
+conclude-requires : tie.Need-conclude-requires
+conclude-requires c κs = search needs
 
 same-length : tie.Need-same-length
 same-length c = search needs
 
-returns-2 : tie.Need-returns-2
-returns-2 c =
-    let r = c .before .before in
-    let w = r .before .before .before .before in
-    let e = w .before .before .before in
-    let d = e .before .before in
-    let s = d .before .before .before in
-    let p = passed _ _ 0 (d .decide .result) (forward-real (asked s false)) (d .decide .ensures) (e .if1 .left) in
-    forward-written (asked s (s .args .icmp)) (d .decide .result .label) (w .write-option .result) (r .write-rest .result) (s .args .out .now) (w .write-option .last .1 .0) (r .write-rest .last .1 .1 .0)
-    refl (unmarked s ∙ p .0) (ap (λ (x : Decision). x .label) (p .1)) (w .write-option .ensures) (r .write-rest .ensures .0) (r .write-rest .ensures .1)
+returns : tie.Need-returns
+returns c =
+    let w = c .before .before .before .before in
+    let t = w .before .before .before in
+    let k = t .before .before in
+    let h = k .before in
+    let x = h .before .before .before in
+    let r = x .before .before .before in
+    let a = r .before .before in
+    let p = a .before .before in
+    let s = p .before .before .before in
+    let q =
+    forwarded (forwardingOf (s .args .arriving) (s .args .leaving) (s .args .table) (s .args .levels) (s .args .icmp) (s .args .area .now) (length (s .args .out .now)))
+    _ _ _ _ (s .args .out .now) _ (a .arrive .result) (r .check-leaving .result) (x .cross .result) (h .hold-leaving .result) (t .fit .result) (k .kept-by .result) (w .write-area .result)
+    (record {
+      room = refl;
+      own-room = omega arith;
+      own-kept = omega arith;
+      far-room = omega arith;
+      arrives = a .arrive .ensures;
+      ready = r .check-leaving .ensures ∙ ap (recordedBy (a .arrive .result) (length (s .args .out .now))) (p .port-sound .ensures);
+      crosses = x .cross .ensures;
+      held = h .hold-leaving .ensures;
+      counted = k .kept-by .ensures;
+      fits = t .fit .ensures .0;
+      writes = w .write-area .ensures;
+    }) in
+    (c .conclude .ensures ∙ q .0, q .1)
 
 pub forward-spec : {M : Type 1} → statement M
 forward-spec =
     tie.close
     (tie.spec
-    decide-requires
-    report-requires
-    returns
-    write-option-requires
-    write-rest-requires
+    port-sound-requires
+    slice-aggregate-arrive
+    arrive-requires
+    check-leaving-requires
+    slice-aggregate-cross
+    slice-aggregate-cross-2
+    cross-requires
+    slice-aggregate-hold-leaving
+    hold-leaving-requires
+    kept-by-requires
+    slice-aggregate-fit
+    fit-requires
+    slice-aggregate-write-area
+    write-area-requires
+    slice-aggregate-conclude
+    conclude-requires
     same-length
-    returns-2)
+    returns)

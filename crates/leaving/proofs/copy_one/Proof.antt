@@ -1,10 +1,9 @@
-use Prim.Native.Nat.{ℕ, _≤_, _<_, _-_, _+_}
-use mathlib.Core.Path.{_≡_, refl, sym, ap, _∙_}
+use Prim.Native.Nat.{ℕ, _≤_, _-_, _+_}
+use mathlib.Core.Path.{_≡_, refl, ap, _∙_}
 use mathlib.Core.List.{List, _++_}
 use native.Mathlib.Omega.{arith}
 use borrow.Author.Needs.{needs}
-use lib.ListN.{length, drop, take, getD, set, length-drop, length-set, length-append}
-use lib.Seq.{take-all, drop-drop}
+use lib.ListN.{length, drop, take, getD, set, length-set}
 use Rattle.leaving.proofs.Laws.{copy-more}
 use Rattle.leaving.proofs.copy_one.Statement.{statement}
 use Rattle.leaving.proofs.copy_one.Tie as tie

@@ -1,17 +1,16 @@
-use Prim.Native.Nat.{ℕ, _≤_, _<_, _-_, _+_}
-use mathlib.Core.Path.{_≡_, refl, sym, ap, _∙_}
-use mathlib.Core.List.{List, [], _++_}
+use Prim.Native.Nat.{_≤_, _-_, _+_}
+use mathlib.Core.Path.{_≡_, ap}
 use native.Mathlib.Omega.{arith}
 use borrow.Author.Needs.{needs}
-use lib.ListN.{length, drop, take, length-drop, length-append}
-use lib.Seq.{length-take-le}
-use Rattle.leaving.specs.Kept.{keptOf, keptFrom}
-use Rattle.leaving.proofs.Laws.{kept-stop, over-moves, over-count, kept-end}
+use lib.ListN.{length}
+use Rattle.area.specs.Area.{metOf}
+use Rattle.leaving.specs.Kept.{keptOf}
+use Rattle.leaving.proofs.Laws.{keptFrom, kept-stop, over-moves, over-count, kept-end}
 use Rattle.leaving.proofs.count_kept.Statement.{statement}
 use Rattle.leaving.proofs.count_kept.Tie as tie
 
 abbrev Inv-loop : tie.InvT-loop
-Inv-loop area at₀ w₀ at w = (at ≤ length area) × (w ≤ at) × (w + length (keptFrom (drop at area) 0) ≡ length (keptOf area))
+Inv-loop area at₀ w₀ at w = (at ≤ length area) × (w ≤ at) × (w + length (keptFrom area at) ≡ length (keptOf area))
 
 abbrev μ-loop : tie.MeasureT-loop
 μ-loop area at₀ w₀ at w = length area - at
@@ -27,7 +26,7 @@ moved c =
     over-moves (l .before .before .args .area .now) (l .loop .at) (t .next-option .result) (i .loop-test .taken) (t .next-option .ensures) _ _ (c .n .given .1)
 
 loop-holds : tie.Need-loop-holds Inv-loop μ-loop
-unfolding keptOf
+unfolding keptOf metOf
 loop-holds c = (omega arith, omega arith, omega arith)
 
 sub-next-option : tie.Need-sub-next-option Inv-loop μ-loop

@@ -1,6 +1,6 @@
-use mathlib.Core.Path.{_≡_, sym, ap, _∙_}
+use mathlib.Core.Path.{sym, ap, _∙_}
 use Rattle.leaving.specs.declared.Next.the-variants.{Over}
-use Rattle.leaving.specs.Kept.{overOf}
+use Rattle.leaving.specs.Stages.{overOf}
 use Rattle.leaving.proofs.Laws.{next-is}
 use borrow.Author.Needs.{needs}
 use Rattle.leaving.proofs.next_option.Statement.{statement}

@@ -2,46 +2,45 @@
 use borrow.Author.Needs.{needs}
 use native.Mathlib.Omega.{arith}
 use Prim.Native.Nat.{_+_, _<_, _≤_}
-use lib.ListN.{length}
 use Rattle.leaving.specs.Kept.{keptOf}
-use Rattle.leaving.proofs.Laws.{rest-short, rest-over, rest-written}
+use Rattle.leaving.proofs.Laws.{take-short, rest-short, rest-over, rest-written}
 use Rattle.leaving.proofs.write_rest.Statement.{statement}
 use Rattle.leaving.proofs.write_rest.Tie as tie
+
+-- no more is written than was asked for
+short : (c : tie.After-copy-kept) → c .copy-kept .result ≤ 40
+short c =
+    let s = c .before .before .before .before .before .before .before in
+    omega (arith, take-short (s .args .kept) (keptOf (s .args .area .now)))
 
 returns : tie.Need-returns
 returns c =
     let s = c .before .before .before in
-    rest-short (s .args .from) (keptOf (s .args .area .now)) (s .args .out .now) (c .if1 .taken)
+    rest-short (s .args .from) (s .args .kept) (keptOf (s .args .area .now)) (s .args .out .now) (c .if1 .taken)
 
 returns-2 : tie.Need-returns-2
 returns-2 c =
     let s = c .before .before .before .before in
-    let h : 40 < s .args .from + length (keptOf (s .args .area .now)) = omega arith in
-    rest-over (s .args .from) (keptOf (s .args .area .now)) (s .args .out .now) h
-
-count-kept-requires : tie.Need-count-kept-requires
-count-kept-requires c κs = search needs
+    let h : 40 < s .args .from + s .args .kept = omega arith in
+    rest-over (s .args .from) (s .args .kept) (keptOf (s .args .area .now)) (s .args .out .now) h
 
 returns-3 : tie.Need-returns-3
 returns-3 c =
-    let k = c .before in
-    let s = k .before .before .before .before .before in
-    let h : 40 < s .args .from + length (keptOf (s .args .area .now)) = omega (arith, k .count-kept .ensures .0) in
-    rest-over (s .args .from) (keptOf (s .args .area .now)) (s .args .out .now) h
+    let s = c .before .before .before .before .before in
+    let h : 40 < s .args .from + s .args .kept = omega arith in
+    rest-over (s .args .from) (s .args .kept) (keptOf (s .args .area .now)) (s .args .out .now) h
 
 copy-kept-requires : tie.Need-copy-kept-requires
-copy-kept-requires c κs =
-    let k = c .before .before in
-    omega (arith, k .count-kept .ensures .0, k .before .before .if1 .left, k .before .if2 .left)
+copy-kept-requires c κs = search needs
 
 zero-from-requires : tie.Need-zero-from-requires
-zero-from-requires c κs = search needs
+zero-from-requires c κs = (omega (arith, short (c .before .before .before)), search needs)
 
 add-result : tie.Need-add-result
-add-result c = search needs
+add-result c = record { fits = omega (arith, short (c .before .before .before .before .before .before)) }
 
 mul-result : tie.Need-mul-result
-mul-result c = search needs
+mul-result c = record { fits = omega (arith, short (c .before .before .before .before .before .before)) }
 
 same-length : tie.Need-same-length
 same-length c = search needs
@@ -51,12 +50,9 @@ returns-4 c =
     let z = c .before .before in
     let w = z .before .before .before .before in
     let e = w .before .before in
-    let k = e .before in
-    let s = k .before .before .before .before .before in
-    let fits : s .args .from + length (keptOf (s .args .area .now)) ≤ 40 =
-    omega (arith, k .count-kept .ensures .0, e .if3 .left, k .before .if2 .left) in
-    rest-written (s .args .from) (keptOf (s .args .area .now)) (s .args .out .now) (w .copy-kept .result) (w .copy-kept .last .1 .0) (z .zero-from .last .0)
-    (k .before .before .if1 .left) fits (w .copy-kept .ensures .0) (w .copy-kept .ensures .1) (z .zero-from .ensures)
+    let s = e .before .before .before .before .before in
+    rest-written (s .args .from) (s .args .kept) (keptOf (s .args .area .now)) (s .args .out .now) (w .copy-kept .result) (w .copy-kept .last .1 .0) (z .zero-from .last .0)
+    (omega arith) (omega arith) (w .copy-kept .ensures .0) (w .copy-kept .ensures .1) (z .zero-from .ensures)
 
 pub write-rest-spec : {M : Type 1} → statement M
 write-rest-spec =
@@ -64,7 +60,6 @@ write-rest-spec =
     (tie.spec
     returns
     returns-2
-    count-kept-requires
     returns-3
     copy-kept-requires
     zero-from-requires

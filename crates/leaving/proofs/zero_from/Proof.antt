@@ -1,11 +1,9 @@
-use Prim.Native.Nat.{ℕ, _≤_, _<_, _-_, _+_}
-use mathlib.Core.Path.{_≡_, refl, sym, ap, _∙_}
-use mathlib.Core.List.{List, _++_}
+use Prim.Native.Nat.{_≤_, _-_}
+use mathlib.Core.Path.{_≡_, refl, sym, _∙_}
 use native.Mathlib.Omega.{arith}
 use borrow.Author.Needs.{needs}
-use lib.ListN.{length, drop, take, getD, set, length-drop, length-set, length-append}
-use lib.Seq.{take-all, drop-drop}
-use Rattle.leaving.specs.Kept.{zeroed}
+use lib.ListN.{length, length-set}
+use Rattle.leaving.specs.Stages.{zeroed}
 use Rattle.leaving.proofs.Laws.{zero-more, zero-last}
 use Rattle.leaving.proofs.zero_from.Statement.{statement}
 use Rattle.leaving.proofs.zero_from.Tie as tie

@@ -15,45 +15,33 @@ mul-number-at c = search needs
 number-at-requires : tie.Need-number-at-requires
 number-at-requires c κs = search needs
 
-mul-number-at-2 : tie.Need-mul-number-at-2
-mul-number-at-2 c = search needs
-
-add-number-at : tie.Need-add-number-at
-add-number-at c = search needs
-
-number-at-requires-2 : tie.Need-number-at-requires-2
-number-at-requires-2 c κs = search needs
+bottom-at-requires : tie.Need-bottom-at-requires
+bottom-at-requires c κs = search needs
 
 returns : tie.Need-returns
 returns c =
     let s = c .before .before .before .before .args .octets .now in
     let j = c .before .before .before .before .args .j in
-    rw (eq-eqb (topAt s j) 65535 (sym (c .before .before .number-at .ensures) ∙ c .if1 .taken))
+    rw (eq-eqb (topAt s j) 65535 (sym (c .before .before .number-at .ensures .0) ∙ c .if1 .taken))
 
 returns-2 : tie.Need-returns-2
 returns-2 c =
     let s = c .before .before .before .before .before .args .octets .now in
     let j = c .before .before .before .before .before .args .j in
-    rw (ne-eqb (topAt s j) 65535 (λ e. c .before .if1 .left (c .before .before .before .number-at .ensures ∙ e)), lt-ltb (topAt s j) (bottomAt s j) (omega (arith, c .before .before .before .number-at .ensures, c .before .before .number-at2 .ensures, c .if2 .taken)))
+    rw (ne-eqb (topAt s j) 65535 (λ e. c .before .if1 .left (c .before .before .before .number-at .ensures .0 ∙ e)), lt-ltb (topAt s j) (bottomAt s j) (omega (arith, c .before .before .before .number-at .ensures .0, c .before .before .bottom-at .ensures, c .if2 .taken)))
 
 returns-3 : tie.Need-returns-3
 returns-3 c =
     let s = c .before .before .before .before .before .before .args .octets .now in
     let j = c .before .before .before .before .before .before .args .j in
     let z : j ≡ 0 = c .if3 .taken in
-    rw (ne-eqb (topAt s j) 65535 (λ e. c .before .before .if1 .left (c .before .before .before .before .number-at .ensures ∙ e)), le-ltb (topAt s j) (bottomAt s j) (omega (arith, c .before .before .before .before .number-at .ensures, c .before .before .before .number-at2 .ensures, c .before .if2 .left)), le-ltb 0 j (omega arith))
+    rw (ne-eqb (topAt s j) 65535 (λ e. c .before .before .if1 .left (c .before .before .before .before .number-at .ensures .0 ∙ e)), le-ltb (topAt s j) (bottomAt s j) (omega (arith, c .before .before .before .before .number-at .ensures .0, c .before .before .before .bottom-at .ensures, c .before .if2 .left)), le-ltb 0 j (omega arith))
 
-sub-number-at : tie.Need-sub-number-at
-sub-number-at c = search needs
+sub-bottom-at : tie.Need-sub-bottom-at
+sub-bottom-at c = search needs
 
-mul-number-at-3 : tie.Need-mul-number-at-3
-mul-number-at-3 c = search needs
-
-add-number-at-2 : tie.Need-add-number-at-2
-add-number-at-2 c = search needs
-
-number-at-requires-3 : tie.Need-number-at-requires-3
-number-at-requires-3 c κs = search needs
+bottom-at-requires-2 : tie.Need-bottom-at-requires-2
+bottom-at-requires-2 c κs = search needs
 
 cast-next : tie.Need-cast-next
 cast-next c = search needs
@@ -69,7 +57,7 @@ returns-4 c =
     let s = c .before .before .before .before .before .before .before .args .octets .now in
     let j = c .before .before .before .before .before .before .before .args .j in
     let z : (j ≡ 0 → ⊥) = c .before .if3 .left in
-    rw (ne-eqb (topAt s j) 65535 (λ e. c .before .before .before .if1 .left (c .before .before .before .before .before .number-at .ensures ∙ e)), le-ltb (topAt s j) (bottomAt s j) (omega (arith, c .before .before .before .before .before .number-at .ensures, c .before .before .before .before .number-at2 .ensures, c .before .before .if2 .left)), lt-ltb 0 j (omega arith), c .number-at3 .ensures, c .before .before .before .before .before .number-at .ensures)
+    rw (ne-eqb (topAt s j) 65535 (λ e. c .before .before .before .if1 .left (c .before .before .before .before .before .number-at .ensures .0 ∙ e)), le-ltb (topAt s j) (bottomAt s j) (omega (arith, c .before .before .before .before .before .number-at .ensures .0, c .before .before .before .before .bottom-at .ensures, c .before .before .if2 .left)), lt-ltb 0 j (omega arith), c .bottom-at2 .ensures, c .before .before .before .before .before .number-at .ensures .0)
     (below-next (bottomAt s (j - 1)) (topAt s j))
 
 pub bad-pair-spec : {M : Type 1} → statement M
@@ -78,16 +66,12 @@ bad-pair-spec =
     (tie.spec
     mul-number-at
     number-at-requires
-    mul-number-at-2
-    add-number-at
-    number-at-requires-2
+    bottom-at-requires
     returns
     returns-2
     returns-3
-    sub-number-at
-    mul-number-at-3
-    add-number-at-2
-    number-at-requires-3
+    sub-bottom-at
+    bottom-at-requires-2
     cast-next
     add-next
     cast-result

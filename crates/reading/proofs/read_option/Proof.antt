@@ -1,114 +1,39 @@
 -- `reading::read_option` meets its contract.
 use borrow.Author.Needs.{needs}
-use borrow.Author.Tests.{eq-eqb, ne-eqb}
 use native.Mathlib.Omega.{arith}
-use Prim.Native.Nat.{ℕ, _≤_}
-use mathlib.Core.Path.{_≡_, sym, _∙_}
-use mathlib.Core.List.{List}
-use lib.ListN.{length}
-use Rattle.option.specs.Option.{domainOf}
-use Rattle.reading.specs.Reading.{readingOf, readingBy}
-use Rattle.reading.proofs.Checks.{Framed, parts-framed, stops3, alone, stops7, stops8, goes-on}
+use Rattle.reading.proofs.Keys.{alone-is}
+use borrow.Author.Needs.{needs}
 use Rattle.reading.proofs.read_option.Statement.{statement}
 use Rattle.reading.proofs.read_option.Tie as tie
 
-abbrev octets-at : tie.Start → List ℕ
-octets-at c = c .args .octets .now
+slice-aggregate-read-alone : tie.Need-slice-aggregate-read-alone
+slice-aggregate-read-alone c = search needs
 
--- past row 3
-module _ (c : tie.Else3) where
-  abbrev o : List ℕ
-  o = octets-at (c .before .before .before .before .before .before .before)
+read-alone-requires : tie.Need-read-alone-requires
+read-alone-requires c κs = search needs
 
-  past : readingOf o ≡ readingBy (lib.Dec.eqb (domainOf o) 0) o
-  past =
-      alone o
-      (parts-framed o
-      (record {
-        long = c .before .before .before .before .before .if1 .left;
-        kind = c .before .before .before .if2 .left;
-        size = sym (c .before .length-in .ensures .0) ∙ c .if3 .left;
-      }))
+domain-for-requires : tie.Need-domain-for-requires
+domain-for-requires c κs = search needs
 
-refuse-requires : tie.Need-refuse-requires
-refuse-requires c κs = search needs
+slice-aggregate-to-reading : tie.Need-slice-aggregate-to-reading
+slice-aggregate-to-reading c = search needs
+
+to-reading-requires : tie.Need-to-reading-requires
+to-reading-requires c κs = search needs
 
 returns : tie.Need-returns
 returns c =
-    let o′ = octets-at (c .before .before .before) in
-    c .refuse .ensures ∙ sym (stops3 o′ (λ f. omega (arith, f .long, c .before .if1 .taken)))
-
-shared-slice-read-if2 : tie.Need-shared-slice-read-if2
-shared-slice-read-if2 c = search needs
-
-refuse-requires-2 : tie.Need-refuse-requires-2
-refuse-requires-2 c κs = search needs
-
-returns-2 : tie.Need-returns-2
-returns-2 c =
-    let o′ = octets-at (c .before .before .before .before .before) in
-    c .refuse2 .ensures ∙ sym (stops3 o′ (λ f. c .before .if2 .taken (f .kind)))
-
-shared-slice-read-length-in : tie.Need-shared-slice-read-length-in
-shared-slice-read-length-in c = search needs
-
-length-in-requires : tie.Need-length-in-requires
-length-in-requires c κs = search needs
-
-refuse-requires-3 : tie.Need-refuse-requires-3
-refuse-requires-3 c κs = search needs
-
-returns-3 : tie.Need-returns-3
-returns-3 c =
-    let o′ = octets-at (c .before .before .before .before .before .before .before .before) in
-    c .refuse3 .ensures ∙ sym (stops3 o′ (λ f. c .before .if3 .taken (c .before .before .length-in .ensures .0 ∙ f .size)))
-
-refuse-requires-4 : tie.Need-refuse-requires-4
-refuse-requires-4 c κs = search needs
-
-returns-4 : tie.Need-returns-4
-returns-4 c =
     let d = c .before .before in
-    c .refuse4 .ensures ∙ sym (past d ∙ stops7 (o d) _ (c .before .if4 .taken))
-
-domain-in-requires : tie.Need-domain-in-requires
-domain-in-requires c κs = search needs
-
-refuse-requires-5 : tie.Need-refuse-requires-5
-refuse-requires-5 c κs = search needs
-
-returns-5 : tie.Need-returns-5
-returns-5 c =
-    let d = c .before .before .before .before in
-    c .refuse5 .ensures
-    ∙ sym (past d ∙ stops8 (o d) _ (eq-eqb _ 0 (sym (c .before .before .domain-in .ensures) ∙ c .before .if5 .taken)) (c .before .before .before .if4 .left))
-
-read-tag-requires : tie.Need-read-tag-requires
-read-tag-requires c κs = search needs
-
-returns-6 : tie.Need-returns-6
-returns-6 c =
-    let d = c .before .before .before .before in
-    c .read-tag .ensures
-    ∙ sym (past d ∙ goes-on (o d) _ (ne-eqb _ 0 (λ z. c .before .if5 .left (c .before .before .domain-in .ensures ∙ z))) (c .before .before .before .if4 .left))
+    let a = d .before .before in
+    alone-is (a .read-alone .ensures) _ (d .domain-for .ensures) _ (c .to-reading .ensures)
 
 pub read-option-spec : {M : Type 1} → statement M
 read-option-spec =
     tie.close
     (tie.spec
-    refuse-requires
-    returns
-    shared-slice-read-if2
-    refuse-requires-2
-    returns-2
-    shared-slice-read-length-in
-    length-in-requires
-    refuse-requires-3
-    returns-3
-    refuse-requires-4
-    returns-4
-    domain-in-requires
-    refuse-requires-5
-    returns-5
-    read-tag-requires
-    returns-6)
+    slice-aggregate-read-alone
+    read-alone-requires
+    domain-for-requires
+    slice-aggregate-to-reading
+    to-reading-requires
+    returns)

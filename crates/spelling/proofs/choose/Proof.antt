@@ -1,27 +1,23 @@
--- `spelling::choose` meets its contract: the sizes by the first and the last run, and a capped count, choose as the definition does.
--- Assumes nothing.
+-- `spelling::choose` meets its contract.
 use borrow.Author.Needs.{needs}
 use native.Mathlib.Omega.{arith}
-use Prim.Native.Nat.{_-_}
-use mathlib.Core.Path.{_≡_, sym, _∙_}
+use Prim.Native.Nat.{_*_}
+use mathlib.Core.Path.{_≡_, refl, _∙_}
 use lib.ListN.{length, length-map}
-use lib.Seq.{length-take-le, getD-take}
 use Rattle.label.specs.Runs.{countOf}
-use Rattle.label.specs.Label.{noRun, used}
-use Rattle.spelling.proofs.Sizes.{capped-most, choice-none, choice-some}
+use Rattle.label.specs.Keys.{keyRun, keyRuns}
+use Rattle.spelling.specs.Stages.{leastOf}
+use Rattle.spelling.proofs.Sizes.{capped-most, choice-none}
+use Rattle.spelling.proofs.Keys.{choice-keys}
+use borrow.Author.Needs.{needs}
 use Rattle.spelling.proofs.choose.Statement.{statement}
 use Rattle.spelling.proofs.choose.Tie as tie
 
-counted : (c : tie.Start) → length (used (c .args .t1)) ≡ c .args .t1 .count
-counted c =
-    let h : length (c .args .t1 .runs) ≡ 120 = simp length-map at (c .good .0 .1 .1 .1 .1 .1 .0 .1 .0 .1) in
-    length-take-le (c .args .t1 .count) (c .args .t1 .runs) (omega arith)
-
 returns : tie.Need-returns
-returns c = choice-none (used (c .before .args .t1)) (counted (c .before) ∙ c .if1 .taken)
+returns c = choice-none (keyRuns (c .before .before .args .keys .now)) (length-map (c .before .before .args .keys .now) keyRun ∙ c .if1 .taken)
 
-element-copy-out-first : tie.Need-element-copy-out-first
-element-copy-out-first c = search needs
+shared-slice-read-first : tie.Need-shared-slice-read-first
+shared-slice-read-first c = search needs
 
 sub-last : tie.Need-sub-last
 sub-last c = search needs
@@ -29,8 +25,8 @@ sub-last c = search needs
 mul-last : tie.Need-mul-last
 mul-last c = search needs
 
-element-copy-out-last : tie.Need-element-copy-out-last
-element-copy-out-last c = search needs
+shared-slice-read-last : tie.Need-shared-slice-read-last
+shared-slice-read-last c = search needs
 
 bitmap-size-requires : tie.Need-bitmap-size-requires
 bitmap-size-requires c κs = search needs
@@ -39,7 +35,7 @@ count-categories-requires : tie.Need-count-categories-requires
 count-categories-requires c κs = search needs
 
 mul-two : tie.Need-mul-two
-mul-two c = omega (arith, c .count-categories .ensures, capped-most (countOf (used (c .before .before .before .before .before .args .t1))))
+mul-two c = omega (arith, c .count-categories .ensures, capped-most (countOf (keyRuns (c .before .before .before .before .before .before .args .keys .now))))
 
 pairs-size-requires : tie.Need-pairs-size-requires
 pairs-size-requires c κs = search needs
@@ -49,21 +45,21 @@ least-requires c κs = search needs
 
 returns-2 : tie.Need-returns-2
 returns-2 c =
-    let s = c .before .before .before .before .before .before .before in
-    let l = s .args .t1 in
-    let n = counted s in
+    let ks = c .before .before .before .before .before .before .before .before .args .keys .now in
     let q = c .before .before .before .before .before .before .if1 .left in
-    c .least .ensures ∙ rw (c .before .before .before .bitmap-size .ensures, c .before .before .count-categories .ensures, c .before .pairs-size .ensures, ← getD-take (l .count) (l .runs) 0 noRun (omega arith), ← getD-take (l .count) (l .runs) (l .count - 1) noRun (omega arith)) (choice-some (used l) (l .count) (sym n) (omega arith))
+    c .least .ensures
+    ∙ (λ i. leastOf (c .before .before .before .bitmap-size .ensures i) (2 * c .before .before .count-categories .ensures i) (c .before .pairs-size .ensures i))
+    ∙ choice-keys ks (length ks) refl (omega arith)
 
 pub choose-spec : {M : Type 1} → statement M
 choose-spec =
     tie.close
     (tie.spec
     returns
-    element-copy-out-first
+    shared-slice-read-first
     sub-last
     mul-last
-    element-copy-out-last
+    shared-slice-read-last
     bitmap-size-requires
     count-categories-requires
     mul-two

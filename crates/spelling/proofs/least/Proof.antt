@@ -2,7 +2,7 @@
 -- Assumes nothing.
 use mathlib.Core.Path.{sym, _∙_}
 use borrow.Author.Needs.{needs}
-use Rattle.spelling.specs.Parts.{leastOf}
+use Rattle.spelling.specs.Stages.{leastOf}
 use Rattle.spelling.proofs.least.Statement.{statement}
 use Rattle.spelling.proofs.least.Tie as tie
 

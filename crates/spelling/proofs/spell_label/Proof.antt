@@ -3,58 +3,85 @@
 use borrow.Author.Needs.{needs}
 use borrow.Author.Tests.{not-true, not-false}
 use native.Mathlib.Omega.{arith}
-use Prim.Native.Nat.{_≤_}
+use Prim.Native.Nat.{ℕ, _≤_}
 use mathlib.Core.Path.{_≡_, sym, _∙_}
 use mathlib.Core.Bool.{true}
-use mathlib.Core.Option.{none}
+use mathlib.Core.List.{List}
 use lib.ListN.{length}
+use lib.Seq.{length-take-le}
+use Rattle.label.specs.declared.Label.{Label}
 use Rattle.label.specs.Label.{wellFormed}
 use Rattle.option.specs.Spelling.{spelledOf}
-use Rattle.spelling.proofs.Answers.{number-short, number-ill, number-none, refused, nothing-written, something-written, completed}
+use Rattle.spelling.specs.Spelling.{lengthOf}
+use Rattle.spelling.specs.Keys.{inFront}
+use Rattle.spelling.proofs.Keys.{keys-held, label-put}
+use Rattle.spelling.proofs.Answers.{number-short, number-ill, refused, unwritten, written-short, completed}
 use Rattle.spelling.proofs.spell_label.Statement.{statement}
 use Rattle.spelling.proofs.spell_label.Tie as tie
 
--- what writing the option tells, of a well-formed label and an output that is long enough
-module _ (c : tie.After-write-option) where
-  formed-is : wellFormed (c .before .before .before .before .before .before .args .label) ≡ true
-  formed-is = sym (c .before .before .before .well-formed .ensures) ∙ not-false _ (c .before .before .if2 .left)
+-- a well-formed label and an output that is long enough
+module _ (c : tie.Else2) where
+  abbrev label-of : Label
+  label-of = c .before .before .before .before .before .before .args .label
 
-  long : 40 ≤ length (c .before .before .before .before .before .before .args .out .now)
+  abbrev out-of : List ℕ
+  out-of = c .before .before .before .before .before .before .args .out .now
+
+  well : wellFormed label-of ≡ true
+  well = sym (c .before .before .keys-formed .ensures .0) ∙ not-false _ (c .if2 .left)
+
+  long : 40 ≤ length out-of
   long = c .before .before .before .before .if1 .left
+
+  held : label-of .count ≤ length (c .before .before .keys-formed .last .1 .0)
+  held = keys-held label-of well (c .before .before .keys-formed .last .1 .0) (omega (arith, c .before .before .keys-formed .ensures .2))
+
+-- what writing the keys does
+put : (c : tie.After-write-keys)
+    → (c .write-keys .result ≡ lengthOf (spelledOf (label-of (c .before .before .before))))
+    × (c .write-keys .last .1 .1 .1 .0 ≡ inFront (spelledOf (label-of (c .before .before .before))) (out-of (c .before .before .before)))
+put c =
+    let e = c .before .before .before in
+    label-put (label-of e) (well e) _ (out-of e) _ _ (e .before .before .keys-formed .ensures .1 (not-false _ (e .if2 .left))) (long e) (c .write-keys .ensures)
 
 returns : tie.Need-returns
 returns c = refused (c .before .before .args .label) (c .before .before .args .out .now) 1 (λ z. omega arith) (number-short _ _ (c .if1 .taken))
 
-well-formed-requires : tie.Need-well-formed-requires
-well-formed-requires c κs = search needs
+slice-aggregate-keys-formed : tie.Need-slice-aggregate-keys-formed
+slice-aggregate-keys-formed c = search needs
+
+keys-formed-requires : tie.Need-keys-formed-requires
+keys-formed-requires c κs = search needs
 
 returns-2 : tie.Need-returns-2
 returns-2 c =
-    let a = c .before .before .before .before .args in
-    refused (a .label) (a .out .now) 2 (λ z. omega arith) (number-ill _ _ (c .before .before .if1 .left) (sym (c .before .well-formed .ensures) ∙ not-true _ (c .if2 .taken)))
+    let a = c .before .before .before .before .before .before .args in
+    refused (a .label) (a .out .now) 2 (λ z. omega arith)
+    (number-ill _ _ (c .before .before .before .before .if1 .left) (sym (c .before .before .keys-formed .ensures .0) ∙ not-true _ (c .if2 .taken)))
 
-write-option-requires : tie.Need-write-option-requires
-write-option-requires c κs = search needs
+array-share-prefix-keys : tie.Need-array-share-prefix-keys
+array-share-prefix-keys c = held c
+
+slice-aggregate-write-keys : tie.Need-slice-aggregate-write-keys
+slice-aggregate-write-keys c = sym (length-take-le _ _ (held (c .before)))
+
+write-keys-requires : tie.Need-write-keys-requires
+write-keys-requires c κs = search needs
 
 same-length : tie.Need-same-length
 same-length c = search needs
 
 returns-3 : tie.Need-returns-3
 returns-3 c =
-    let d = c .before .before .before in
-    let a = d .before .before .before .before .before .before .args in
-    let w = d .write-option .ensures in
-    let e : spelledOf (a .label) ≡ none = nothing-written (a .label) (a .out .now) _ _ w (formed-is d) (long d) (c .if3 .taken) in
-    let q = refused (a .label) (a .out .now) 18 (λ z. omega arith) (number-none _ _ (long d) (formed-is d) e) in
-    (q .0, w .unspelled (formed-is d) e .1 ∙ q .1)
+    let w = c .before .before .before in
+    let e = w .before .before .before in
+    unwritten (label-of e) (out-of e) _ _ (well e) (long e) (put w) (c .if3 .taken)
 
 zero-from-requires : tie.Need-zero-from-requires
 zero-from-requires c κs =
-    let d = c .before .before .before .before in
-    let a = d .before .before .before .before .before .before .args in
-    let w = d .write-option .ensures in
-    let p = something-written (a .label) (a .out .now) _ _ w (formed-is d) (long d) (c .before .if3 .left) in
-    (omega (arith, w .spelled (formed-is d) (long d) (p .option) (p .spelled) .0, p .short), omega (arith, w .sized, long d))
+    let w = c .before .before .before .before in
+    let e = w .before .before .before in
+    (written-short (label-of e) (out-of e) _ _ (well e) (long e) (put w) (c .before .if3 .left), search needs)
 
 same-length-2 : tie.Need-same-length-2
 same-length-2 c = search needs
@@ -62,20 +89,21 @@ same-length-2 c = search needs
 returns-4 : tie.Need-returns-4
 returns-4 c =
     let z = c .before .before in
-    let d = z .before .before .before .before .before in
-    let a = d .before .before .before .before .before .before .args in
-    let w = d .write-option .ensures in
-    let p = something-written (a .label) (a .out .now) _ _ w (formed-is d) (long d) (z .before .before .if3 .left) in
-    completed (a .label) (a .out .now) _ _ w (formed-is d) (long d) _ (z .zero-from .ensures) p
+    let w = z .before .before .before .before .before in
+    let e = w .before .before .before in
+    completed (label-of e) (out-of e) _ _ (well e) (long e) (put w) _ (z .zero-from .ensures) (z .before .before .if3 .left)
 
 pub spell-label-spec : {M : Type 1} → statement M
 spell-label-spec =
     tie.close
     (tie.spec
     returns
-    well-formed-requires
+    slice-aggregate-keys-formed
+    keys-formed-requires
     returns-2
-    write-option-requires
+    array-share-prefix-keys
+    slice-aggregate-write-keys
+    write-keys-requires
     same-length
     returns-3
     zero-from-requires

@@ -1,69 +1,75 @@
--- `spelling::write_numbers` meets its contract. The loop's invariant: k numbers are written, and those of the runs that are left, but for j of the first, are still to come.
--- Assumes nothing.
+-- `spelling::write_numbers` meets its contract.
 use borrow.Author.Needs.{needs}
 use native.Mathlib.Omega.{arith}
-use Prim.Native.Nat.{_+_, _-_, _*_, _≤_, _<_}
+use Prim.Native.Nat.{_+_, _-_, _*_, _/_, _%_, _≤_, _<_}
 use mathlib.Core.Path.{_≡_, refl, _∙_}
 use mathlib.Core.List.{[], _∷_, _++_}
-use lib.ListN.{length, getD, drop, length-set, length-map}
+use lib.ListN.{length, getD, drop, set, length-set}
 use Rattle.label.specs.Runs.{countOf}
-use Rattle.label.specs.Label.{noRun, used}
-use Rattle.label.proofs.Steps.{next-used, used-up}
+use Rattle.label.specs.Keys.{keyRun, keyRuns}
 use Rattle.option.specs.Spelling.{numbersOf}
 use Rattle.option.specs.Index.{numbersOut, rankNumber}
 use Rattle.option.proofs.Spelled.{numbers-count}
 use Rattle.option.proofs.Bridge.{ranks-out}
-use Rattle.spelling.proofs.Numbers.{numbers-store, Written, fresh, passed, there, number, another, all-written}
+use Rattle.spelling.proofs.Numbers.{numbers-store, Written, fresh, passed, there, number, another, all-written, next-key, keys-up}
 use Rattle.spelling.proofs.write_numbers.Statement.{statement}
 use Rattle.spelling.proofs.write_numbers.Tie as tie
 
 abbrev Inv-loop : tie.InvT-loop
-Inv-loop out₀ label m i₀ j₀ k₀ out i j k =
-    (i ≤ m) × (j ≤ 65536) × (k ≤ countOf (used label)) × (length out ≡ length out₀)
-    × Written (numbersOf (used label)) (drop i (used label)) j k
-    × (out ≡ numbersOut (rankNumber (used label)) k ++ drop (2 * k) out₀)
+Inv-loop keys out₀ m i₀ j₀ k₀ out i j k =
+    (i ≤ m) × (j ≤ 65536) × (k ≤ countOf (keyRuns keys)) × (length out ≡ length out₀)
+    × Written (numbersOf (keyRuns keys)) (drop i (keyRuns keys)) j k
+    × (out ≡ numbersOut (rankNumber (keyRuns keys)) k ++ drop (2 * k) out₀)
 
 abbrev μ-loop : tie.MeasureT-loop
-μ-loop out₀ label m i₀ j₀ k₀ out i j k = (m - i) + (countOf (used label) - k)
-
-sized : (c : tie.Start Inv-loop μ-loop) → length (c .args .t1 .runs) ≡ 120
-sized c = simp length-map at (c .good .0 .1 .1 .1 .1 .1 .0 .1 .0 .1)
+μ-loop keys out₀ m i₀ j₀ k₀ out i j k = (m - i) + (countOf (keyRuns keys) - k)
 
 -- the invariant, with the run that the turn reads first
 standing : (c : tie.In-loop Inv-loop μ-loop) →
-    let l = c .before .before .args .t1 in
+    let ks = c .before .before .args .keys .now in
     let s = c .before .loop in
-    Written (numbersOf (used l)) (getD (l .runs) (s .i) noRun ∷ drop (s .i + 1) (used l)) (s .j) (s .k)
-standing c =
-    let l = c .before .before .args .t1 in
-    let s = c .before .loop in
-    rw (next-used noRun (l .runs) (l .count) (s .i) (c .loop-test .taken) (omega (arith, sized (c .before .before)))) at (s .inv .4)
+    Written (numbersOf (keyRuns ks)) (keyRun (getD ks (s .i) 0) ∷ drop (s .i + 1) (keyRuns ks)) (s .j) (s .k)
+standing c = rw (next-key (c .before .before .args .keys .now) (c .before .loop .i) (c .loop-test .taken)) at (c .before .loop .inv .4)
 
 -- there is a category more
 room : (c : tie.Else1 Inv-loop μ-loop) →
-    let d = c .before .before .before .before in
-    d .before .loop .k < countOf (used (d .before .before .args .t1))
+    let d = c .before .before in
+    d .before .loop .k < countOf (keyRuns (d .before .before .args .keys .now))
 room c =
-    let d = c .before .before .before .before in
-    omega (arith, there (standing d) (c .if1 .left), numbers-count (used (d .before .before .args .t1)))
+    let d = c .before .before in
+    omega (arith, there (standing d) (c .if1 .left), numbers-count (keyRuns (d .before .before .args .keys .now)))
+
+-- and it is written
+more : (c : tie.Else1 Inv-loop μ-loop) →
+    let d = c .before .before in
+    let a = d .before .before .args in
+    let s = d .before .loop in
+    let ks = a .keys .now in
+    let x = getD ks (s .i) 0 / 65536 + s .j in
+    set (set (s .out) (2 * s .k) (x / 256)) (2 * s .k + 1) (x % 256) ≡ numbersOut (rankNumber (keyRuns ks)) (s .k + 1) ++ drop (2 * (s .k + 1)) (a .out .now)
+more c =
+    let d = c .before .before in
+    let a = d .before .before .args in
+    let s = d .before .loop in
+    rw (s .inv .5) (numbers-store (rankNumber (keyRuns (a .keys .now))) (a .out .now) (s .k) _ (omega (arith, room c)) (number (standing d) (c .if1 .left)))
 
 loop-holds : tie.Need-loop-holds Inv-loop μ-loop
-loop-holds c = (omega arith, omega arith, omega arith, refl, record { rest = refl; within = fresh (used (c .args .t1)) }, refl)
+loop-holds c = (omega arith, omega arith, omega arith, refl, record { rest = refl; within = fresh (keyRuns (c .args .keys .now)) }, refl)
 
-mul-run : tie.Need-mul-run Inv-loop μ-loop
-mul-run c = search needs
+mul-key : tie.Need-mul-key Inv-loop μ-loop
+mul-key c = search needs
 
-element-copy-out-run : tie.Need-element-copy-out-run Inv-loop μ-loop
-element-copy-out-run c = search needs
+shared-slice-read-key : tie.Need-shared-slice-read-key Inv-loop μ-loop
+shared-slice-read-key c = search needs
 
 cast-x : tie.Need-cast-x Inv-loop μ-loop
-cast-x c = search needs
+cast-x c = omega (arith, c .shared-slice-known .given (c .before .before .loop .i))
 
 add-x : tie.Need-add-x Inv-loop μ-loop
-add-x c = search needs
+add-x c = omega (arith, c .shared-slice-known .given (c .before .before .loop .i))
 
-cast-if1 : tie.Need-cast-if1 Inv-loop μ-loop
-cast-if1 c = search needs
+cast-high : tie.Need-cast-high Inv-loop μ-loop
+cast-high c = search needs
 
 add-i : tie.Need-add-i Inv-loop μ-loop
 add-i c = search needs
@@ -73,7 +79,7 @@ loop-less c = search needs
 
 loop-again : tie.Need-loop-again Inv-loop μ-loop
 loop-again c =
-    let d = c .before .before .before .before in
+    let d = c .before .before in
     let s = d .before .loop in
     (omega arith, omega arith, s .inv .2, s .inv .3, passed (standing d) (c .if1 .taken), s .inv .5)
 
@@ -101,37 +107,56 @@ slice-write-out-2 c = simp length-set (omega (arith, room c))
 add-k : tie.Need-add-k Inv-loop μ-loop
 add-k c = omega (arith, room c)
 
-add-j : tie.Need-add-j Inv-loop μ-loop
-add-j c = search needs
+add-i-2 : tie.Need-add-i-2 Inv-loop μ-loop
+add-i-2 c = search needs
 
 loop-less-2 : tie.Need-loop-less-2 Inv-loop μ-loop
-loop-less-2 c = omega (arith, room c)
+loop-less-2 c = omega (arith, room (c .before))
 
 loop-again-2 : tie.Need-loop-again-2 Inv-loop μ-loop
 loop-again-2 c =
-    let d = c .before .before .before .before in
-    let a = d .before .before .args in
+    let e = c .before in
+    let d = e .before .before in
     let s = d .before .loop in
-    let l = a .t1 in (
+    let h = c .if2 .taken in (
       omega arith,
       omega arith,
-      omega (arith, room c),
+      omega (arith, room e),
       simp length-set (s .inv .3),
-      rw (next-used noRun (l .runs) (l .count) (s .i) (d .loop-test .taken) (omega (arith, sized (d .before .before)))) (another (standing d) (c .if1 .left)),
-      rw (s .inv .5) (numbers-store (rankNumber (used l)) (a .out .now) (s .k) _ (omega (arith, room c)) (number (standing d) (c .if1 .left))),
+      passed (another (standing d) (e .if1 .left)) (omega arith),
+      more e,
+    )
+
+add-j : tie.Need-add-j Inv-loop μ-loop
+add-j c = search needs
+
+loop-less-3 : tie.Need-loop-less-3 Inv-loop μ-loop
+loop-less-3 c = omega (arith, room (c .before))
+
+loop-again-3 : tie.Need-loop-again-3 Inv-loop μ-loop
+loop-again-3 c =
+    let e = c .before in
+    let d = e .before .before in
+    let s = d .before .loop in (
+      omega arith,
+      omega arith,
+      omega (arith, room e),
+      simp length-set (s .inv .3),
+      rw (next-key (d .before .before .args .keys .now) (s .i) (d .loop-test .taken)) (another (standing d) (e .if1 .left)),
+      more e,
     )
 
 same-length : tie.Need-same-length Inv-loop μ-loop
-same-length c = c .before .loop .inv .3
+same-length c = search needs
 
 returns : tie.Need-returns Inv-loop μ-loop
 returns c =
     let a = c .before .before .args in
-    let l = a .t1 in
+    let ks = a .keys .now in
     let s = c .before .loop in
-    let w : Written (numbersOf (used l)) [] (s .j) (s .k) = rw (used-up (l .runs) (l .count) (s .i) (c .loop-test .left)) at (s .inv .4) in
-    let e : s .k ≡ countOf (used l) = all-written (used l) w (s .inv .2) in
-    s .inv .5 ∙ (λ i. ranks-out (used l) (s .k) e i ++ drop (2 * e i) (a .out .now))
+    let w : Written (numbersOf (keyRuns ks)) [] (s .j) (s .k) = rw (keys-up ks (s .i) (c .loop-test .left)) at (s .inv .4) in
+    let e : s .k ≡ countOf (keyRuns ks) = all-written (keyRuns ks) w (s .inv .2) in
+    s .inv .5 ∙ (λ i. ranks-out (keyRuns ks) (s .k) e i ++ drop (2 * e i) (a .out .now))
 
 pub write-numbers-spec : {M : Type 1} → statement M
 write-numbers-spec =
@@ -140,11 +165,11 @@ write-numbers-spec =
     Inv-loop
     μ-loop
     loop-holds
-    mul-run
-    element-copy-out-run
+    mul-key
+    shared-slice-read-key
     cast-x
     add-x
-    cast-if1
+    cast-high
     add-i
     loop-less
     loop-again
@@ -156,8 +181,11 @@ write-numbers-spec =
     add-out
     slice-write-out-2
     add-k
-    add-j
+    add-i-2
     loop-less-2
     loop-again-2
+    add-j
+    loop-less-3
+    loop-again-3
     same-length
     returns)

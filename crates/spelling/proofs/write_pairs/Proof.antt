@@ -1,88 +1,109 @@
--- `spelling::write_pairs` meets its contract. The loop's invariant: k ends are written.
--- Assumes nothing.
-use borrow.Author.Needs.{needs}
+-- `spelling::write_pairs` meets its contract.
 use native.Mathlib.Omega.{arith}
-use Prim.Native.Nat.{_-_, _*_, _≤_}
-use mathlib.Core.Path.{_≡_, _∙_}
+use Prim.Native.Nat.{_+_, _-_, _*_, _≤_}
+use mathlib.Core.Path.{_≡_, refl, _∙_}
 use mathlib.Core.List.{_++_}
-use lib.ListN.{length, drop, length-set, length-map}
-use Rattle.label.specs.Label.{used}
+use lib.ListN.{length, drop}
+use Rattle.label.specs.Keys.{keyRuns}
 use Rattle.option.specs.Index.{numbersOut, pairNumber}
-use Rattle.spelling.proofs.Numbers.{numbers-store, end-is}
+use Rattle.spelling.proofs.Numbers.{top-store, pair-store, top-is, bottom-is}
 use Rattle.spelling.proofs.write_pairs.Statement.{statement}
 use Rattle.spelling.proofs.write_pairs.Tie as tie
 
 abbrev Inv-loop : tie.InvT-loop
-Inv-loop m out₀ label n k₀ out k = (k ≤ m) × (length out ≡ length out₀) × (out ≡ numbersOut (pairNumber (used label)) k ++ drop (2 * k) out₀)
+Inv-loop keys m out₀ n pairs j₀ out j =
+    (j ≤ pairs) × (length out ≡ length out₀) × (out ≡ numbersOut (pairNumber (keyRuns keys)) (2 * j) ++ drop (2 * (2 * j)) out₀)
 
 abbrev μ-loop : tie.MeasureT-loop
-μ-loop m out₀ label n k₀ out k = m - k
-
-sized : (c : tie.Start Inv-loop μ-loop) → length (c .args .t1 .runs) ≡ 120
-sized c = simp length-map at (c .good .0 .1 .1 .1 .1 .1 .0 .1 .0 .1)
+μ-loop keys m out₀ n pairs j₀ out j = pairs - j
 
 loop-holds : tie.Need-loop-holds Inv-loop μ-loop
-loop-holds c = search needs
+loop-holds c = (omega arith, refl, refl)
 
-sub-j : tie.Need-sub-j Inv-loop μ-loop
-sub-j c = search needs
+sub-at : tie.Need-sub-at Inv-loop μ-loop
+sub-at c = omega arith
 
-sub-j-2 : tie.Need-sub-j-2 Inv-loop μ-loop
-sub-j-2 c = search needs
+sub-at-2 : tie.Need-sub-at-2 Inv-loop μ-loop
+sub-at-2 c = omega arith
 
-mul-run : tie.Need-mul-run Inv-loop μ-loop
-mul-run c = search needs
+mul-key : tie.Need-mul-key Inv-loop μ-loop
+mul-key c = omega arith
 
-element-copy-out-run : tie.Need-element-copy-out-run Inv-loop μ-loop
-element-copy-out-run c = search needs
+shared-slice-read-key : tie.Need-shared-slice-read-key Inv-loop μ-loop
+shared-slice-read-key c = omega arith
 
-end-of-requires : tie.Need-end-of-requires Inv-loop μ-loop
-end-of-requires c κs = search needs
+mul-put-number : tie.Need-mul-put-number Inv-loop μ-loop
+mul-put-number c = omega arith
 
-cast-out : tie.Need-cast-out Inv-loop μ-loop
-cast-out c = search needs
+put-number-requires : tie.Need-put-number-requires Inv-loop μ-loop
+put-number-requires c κs = (omega (arith, c .before .before .before .loop .inv .1), omega arith, omega arith)
 
-mul-out : tie.Need-mul-out Inv-loop μ-loop
-mul-out c = search needs
+mul-put-number-2 : tie.Need-mul-put-number-2 Inv-loop μ-loop
+mul-put-number-2 c = omega arith
 
-slice-write-out : tie.Need-slice-write-out Inv-loop μ-loop
-slice-write-out c = search needs
+add-put-number : tie.Need-add-put-number Inv-loop μ-loop
+add-put-number c = omega arith
 
-cast-out-2 : tie.Need-cast-out-2 Inv-loop μ-loop
-cast-out-2 c = search needs
+put-number-requires-2 : tie.Need-put-number-requires-2 Inv-loop μ-loop
+put-number-requires-2 c κs =
+    (omega (arith, c .before .before .before .before .before .before .before .loop .inv .1, c .before .before .before .put-number .ensures .1), omega arith, omega (arith, c .before .before .before .before .before .before .before .before .before .shared-slice-known .given (length (c .before .before .before .before .before .before .before .before .before .before .args .keys .now) - 1 - c .before .before .before .before .before .before .before .loop .j)))
 
-mul-out-2 : tie.Need-mul-out-2 Inv-loop μ-loop
-mul-out-2 c = search needs
-
-add-out : tie.Need-add-out Inv-loop μ-loop
-add-out c = search needs
-
-slice-write-out-2 : tie.Need-slice-write-out-2 Inv-loop μ-loop
-slice-write-out-2 c = simp length-set (omega arith)
-
-add-k : tie.Need-add-k Inv-loop μ-loop
-add-k c = search needs
+add-j : tie.Need-add-j Inv-loop μ-loop
+add-j c = omega arith
 
 loop-less : tie.Need-loop-less Inv-loop μ-loop
-loop-less c = search needs
+loop-less c = omega arith
 
 loop-again : tie.Need-loop-again Inv-loop μ-loop
 loop-again c =
-    let a = c .before .before .before .before .before .args in
-    let l = c .before .before .before .loop in
-    let h = sized (c .before .before .before .before .before) in (
+    let l = c .before .before .before .before .before .before .before .before .before .before .loop in
+    let s = c .before .before .before .before .before .before .before .before .before .before .before .before .before in
+    let f = pairNumber (keyRuns (s .args .keys .now)) in
+    let first = c .before .before .before .before .before .before .put-number .ensures in
+    let second = c .before .before .put-number2 .ensures in (
       omega arith,
-      simp length-set (l .inv .1),
-      rw (l .inv .2) (numbers-store (pairNumber (used (a .t1))) (a .out .now) (l .k) _ (omega arith) (c .end-of .ensures ∙ end-is (a .t1 .runs) (a .t1 .count) (l .k) (omega arith) (omega arith))),
+      second .1 ∙ first .1 ∙ l .inv .1,
+      pair-store f (s .args .out .now) _ _ _ (l .j) _ _ (omega arith) (l .inv .2) (top-is (s .args .keys .now) (l .j)) (bottom-is (s .args .keys .now) (l .j)) (first .0) (second .0),
     )
 
+mul-if1 : tie.Need-mul-if1 Inv-loop μ-loop
+mul-if1 c = omega arith
+
+sub-at-3 : tie.Need-sub-at-3 Inv-loop μ-loop
+sub-at-3 c = omega arith
+
+sub-at-4 : tie.Need-sub-at-4 Inv-loop μ-loop
+sub-at-4 c = omega arith
+
+mul-put-number-3 : tie.Need-mul-put-number-3 Inv-loop μ-loop
+mul-put-number-3 c = omega arith
+
+mul-put-number-4 : tie.Need-mul-put-number-4 Inv-loop μ-loop
+mul-put-number-4 c = omega arith
+
+shared-slice-read-put-number : tie.Need-shared-slice-read-put-number Inv-loop μ-loop
+shared-slice-read-put-number c = omega arith
+
+put-number-requires-3 : tie.Need-put-number-requires-3 Inv-loop μ-loop
+put-number-requires-3 c κs = (omega (arith, c .before .before .before .before .loop .inv .1), omega arith, omega arith)
+
 same-length : tie.Need-same-length Inv-loop μ-loop
-same-length c = c .before .loop .inv .1
+same-length c = c .before .before .put-number3 .ensures .1 ∙ c .before .before .before .before .before .before .before .loop .inv .1
 
 returns : tie.Need-returns Inv-loop μ-loop
 returns c =
-    let e : c .before .loop .k ≡ c .before .before .before .args .m = omega arith in
-    rw e at (c .before .loop .inv .2)
+    let l = c .before .before .before .before .before .before .before .loop in
+    let s = c .before .before .before .before .before .before .before .before .before .before in
+    let odd : 2 * l .j + 1 ≡ s .args .m = omega arith in
+    top-store (pairNumber (keyRuns (s .args .keys .now))) (s .args .out .now) _ _ (l .j) (s .args .m) _ (omega arith) (l .inv .2) (top-is (s .args .keys .now) (l .j)) (c .before .before .put-number3 .ensures .0) odd
+
+same-length-2 : tie.Need-same-length-2 Inv-loop μ-loop
+same-length-2 c = c .before .before .loop .inv .1
+
+returns-2 : tie.Need-returns-2 Inv-loop μ-loop
+returns-2 c =
+    let e : 2 * c .before .before .loop .j ≡ c .before .before .before .before .before .args .m = omega arith in
+    rw e at (c .before .before .loop .inv .2)
 
 pub write-pairs-spec : {M : Type 1} → statement M
 write-pairs-spec =
@@ -91,20 +112,26 @@ write-pairs-spec =
     Inv-loop
     μ-loop
     loop-holds
-    sub-j
-    sub-j-2
-    mul-run
-    element-copy-out-run
-    end-of-requires
-    cast-out
-    mul-out
-    slice-write-out
-    cast-out-2
-    mul-out-2
-    add-out
-    slice-write-out-2
-    add-k
+    sub-at
+    sub-at-2
+    mul-key
+    shared-slice-read-key
+    mul-put-number
+    put-number-requires
+    mul-put-number-2
+    add-put-number
+    put-number-requires-2
+    add-j
     loop-less
     loop-again
+    mul-if1
+    sub-at-3
+    sub-at-4
+    mul-put-number-3
+    mul-put-number-4
+    shared-slice-read-put-number
+    put-number-requires-3
     same-length
-    returns)
+    returns
+    same-length-2
+    returns-2)

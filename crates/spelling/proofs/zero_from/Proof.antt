@@ -5,7 +5,7 @@ use mathlib.Core.Path.{_≡_, refl, sym, _∙_}
 use native.Mathlib.Omega.{arith}
 use borrow.Author.Needs.{needs}
 use lib.ListN.{length, length-set}
-use Rattle.spelling.specs.Parts.{zeroed}
+use Rattle.spelling.specs.Stages.{zeroed}
 use Rattle.spelling.proofs.Writing.{zero-more, zero-last}
 use Rattle.spelling.proofs.zero_from.Statement.{statement}
 use Rattle.spelling.proofs.zero_from.Tie as tie

@@ -5,7 +5,7 @@ use native.Mathlib.Omega.{arith}
 use mathlib.Core.Path.{_≡_, sym, _∙_}
 use mathlib.Core.Bool.{true, and-false}
 use lib.ListN.{length, length-map}
-use Rattle.label.specs.Label.{typed, wellFormed}
+use Rattle.label.specs.Label.{labelTyped, wellFormed}
 use Rattle.label.proofs.Labels.{typed-yes, well-formed-runs}
 use Rattle.label.proofs.Places.{first-alone}
 use Rattle.label.proofs.Label.well_formed.Statement.{statement}
@@ -15,7 +15,7 @@ sized : (c : tie.Start) → length (c .args .t1 .runs) ≡ 120
 sized c = simp length-map at (c .good .0 .1 .1 .1 .1 .1 .0 .1 .0 .1)
 
 -- the types of the fields
-fields : (c : tie.Start) → typed (c .args .t1) ≡ true
+fields : (c : tie.Start) → labelTyped (c .args .t1) ≡ true
 fields c = typed-yes (c .args .t1) (search needs) (search needs) (sized c)
 
 returns : tie.Need-returns

@@ -1,0 +1,69 @@
+-- Document 01, "The order of checks": what is decided on the way to a decision, without the label, whose categories stand in a lent list as keys.
+use mathlib.Core.Bool.{Bool, cond, not, _||_}
+use mathlib.Core.List.{List, [], _∷_}
+use mathlib.Core.Option.{Option, none, some}
+use mathlib.Core.Path.{_≡_}
+use Prim.Native.Nat.{ℕ}
+use lib.Dec.{ltb, eqb}
+use lib.ListN.{length, take}
+use Rattle.label.specs.Label.{used}
+use Rattle.label.specs.Keys.{keyRuns, labelFrom, withKeys}
+use Rattle.reading.specs.Keys.{keysAfter}
+use Rattle.area.specs.declared.Place.{Place}
+use Rattle.area.specs.declared.Place.the-variants.{Nowhere, At}
+use Rattle.area.specs.declared.Walk.{Walk}
+use Rattle.area.specs.declared.Walk.the-variants.{Sound, Refused}
+use Rattle.area.specs.Area.{walkOf}
+use Rattle.port.specs.declared.Port.{Port}
+use Rattle.port.specs.Port.{portSound}
+use Rattle.arrival.specs.declared.Decision.{Decision}
+use Rattle.arrival.specs.declared.Verdict.{Verdict}
+use Rattle.arrival.specs.Checks.{Refusal, silent, when, firstOf, badArea, optionAt, arrivingLabel}
+use Rattle.arrival.specs.Decision.{refused, done, arrivalChecks}
+
+-- the refusal of the first check that applies, with level and count 0; or 0 with the level and the count of keys
+abbrev pub verdictOf : Option Refusal → ℕ → ℕ → Verdict
+verdictOf (some r) v n = record { number = r .number; kind = r .kind; code = r .code; pointer = r .pointer; level = 0; count = 0 }
+verdictOf none v n = record { number = 0; kind = 0; code = 0; pointer = 0; level = v; count = n }
+
+-- a check that applies, by its parts
+abbrev pub stopped : ℕ → ℕ → ℕ → ℕ → Verdict
+stopped n k c p = verdictOf (some (record { number = n; kind = k; code = c; pointer = p })) 0 0
+
+-- no check has applied so far
+abbrev pub going : ℕ → ℕ → Verdict
+going v n = verdictOf none v n
+
+-- the checks at a port, 1 to 14; `room` is the length of the list of keys, and 1 is given where it is under 120
+abbrev pub portChecks : Port → List ℕ → ℕ → ℕ → List (Option Refusal)
+portChecks port area code room =
+    when (badArea area || ltb room 120) (silent 1) ∷ when (not (portSound port)) (silent 2) ∷ arrivalChecks port area code
+
+unfoldable pub arrivalOf : Port → List ℕ → ℕ → ℕ → Verdict
+arrivalOf port area code room =
+    verdictOf (firstOf (portChecks port area code room)) (arrivingLabel port area .level) (arrivingLabel port area .count)
+
+-- the keys at the end: those of the option, where one is read; those of the assigned label, where it is taken; else as they were
+abbrev pub keysBy : Place → Port → List ℕ → List ℕ → List ℕ
+keysBy Nowhere port area keys = cond (port .required) keys (withKeys (port .assigned) keys)
+keysBy (At p) port area keys = keysAfter (port .domain) (optionAt p area) keys
+
+abbrev pub keysWalked : Walk → Port → List ℕ → List ℕ → List ℕ
+keysWalked (Sound q) port area keys = keysBy q port area keys
+keysWalked (Refused n at) port area keys = keys
+
+unfoldable pub arrivalKeys : Port → List ℕ → List ℕ → List ℕ
+arrivalKeys port area keys =
+    cond (badArea area || ltb (length keys) 120) keys (cond (portSound port) (keysWalked (walkOf area) port area keys) keys)
+
+-- arriving: the verdict and the keys, for every input; where no check applies, the first keys are the runs of the label that the datagram arrives with
+pub record Arrives (port : Port) (area : List ℕ) (code : ℕ) (keys keys′ : List ℕ) (r : Verdict) : Type 0 where
+  pub answer : r ≡ arrivalOf port area code (length keys)
+  pub left : keys′ ≡ arrivalKeys port area keys
+  pub stands : r .number ≡ 0 → keyRuns (take (r .count) keys′) ≡ used (arrivingLabel port area)
+
+-- the decision of a verdict: the label with the runs of the first keys and a count, or the refusal
+unfoldable pub concluded : Verdict → ℕ → Bool → ℕ → List ℕ → Decision
+concluded r domain icmp n keys =
+    cond (eqb (r .number) 0) (done (labelFrom domain (r .level) (keyRuns (take (r .count) keys))) n)
+    (refused icmp (record { number = r .number; kind = r .kind; code = r .code; pointer = r .pointer }))

@@ -1,0 +1,5 @@
+pub mod Table
+pub mod Join
+pub mod Step
+pub mod Turn
+pub mod Theorems

@@ -1,0 +1,4 @@
+pub mod Entry
+pub mod Bitmap
+pub mod Stages
+pub mod Theorems

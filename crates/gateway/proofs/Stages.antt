@@ -1,0 +1,356 @@
+-- The stages of a forwarding decide as its checks do.
+use mathlib.Core.Path.{_≡_, refl, sym, _∙_, ap}
+use mathlib.Core.Bool.{Bool, true, false, cond, not, _&&_, _||_}
+use mathlib.Core.List.{List, [], _∷_}
+use mathlib.Core.Option.{Option, none, some}
+use Prim.Native.Nat.{ℕ, _≤_, _<_}
+use native.Mathlib.Omega.{arith}
+use lib.Dec.{leb, ltb, eqb}
+use lib.ListN.{length, take}
+use borrow.Author.Tests.{eq-eqb, ne-eqb, eqb-true, eqb-false, le-leb, lt-leb, leb-true, leb-false, le-ltb, lt-ltb, ltb-true, ltb-false}
+use Rattle.label.specs.declared.Run.{Run}
+use Rattle.label.specs.declared.Label.{Label}
+use Rattle.label.specs.Label.{used, labelOf, wellFormed}
+use Rattle.label.specs.Keys.{keyRuns, labelFrom}
+use Rattle.label.specs.Range.{setInRange}
+use Rattle.option.specs.Spelling.{spellingOf}
+use Rattle.spelling.specs.Spelling.{lengthOf}
+use Rattle.spelling.specs.Keys.{inFront, keysSpelled, keysCount, keysWritten}
+use Rattle.spelling.proofs.Keys.{keys-spelled, keys-put}
+use Rattle.leaving.specs.Kept.{keptOf, restCount, restOf}
+use Rattle.port.specs.Port.{portSound}
+use Rattle.port.proofs.Laws.{sound}
+use Rattle.table.specs.Table.{tableSound}
+use Rattle.renumber.specs.declared.Carried.{Carried}
+use Rattle.renumber.specs.Renumber.{imageOf}
+use Rattle.renumber.specs.Carry.{carriedKeys, carryOf}
+use Rattle.arrival.specs.declared.Verdict.{Verdict}
+use Rattle.arrival.specs.Checks.{Refusal, silent, barred, when, firstOf, badArea, arrivingLabel}
+use Rattle.arrival.specs.Decision.{done, arrivalChecks}
+use Rattle.arrival.specs.Verdict.{verdictOf, stopped, going, arrivalOf, Arrives, concluded}
+use Rattle.arrival.specs.Stages.{heldBetween}
+use Rattle.arrival.proofs.First.{Late}
+use Rattle.arrival.proofs.Arrival.{Held, arrival-held, arrival-late}
+use Rattle.arrival.proofs.Verdicts.{held-in-set, concluded-refused, concluded-done}
+use Rattle.gateway.specs.Crossing.{Forwarding, sameDomain, Crossing, crossing, stays, hasNumbers, numberCheck, leavingLevel, leavingRuns, leavingCheck, leavingLabel, leavingOption, noRoom, spellingCheck}
+use Rattle.gateway.specs.Forward.{forwardChecks, forwardOf, outputOf}
+use Rattle.gateway.specs.Stages.{recordedBy, tabledBy, numberedBy, Crosses, heldBy, hasRoomFor, fittedBy, Writes}
+use Rattle.gateway.proofs.Crossings.{Over, leavingVerdict, stays-verdict, stays-over, unsound-verdict, numberless-verdict, carried-verdict, carried-over}
+use Rattle.gateway.proofs.Forwards.{recordsTest, forward-area, forward-room, forward-record, forward-arrival, forward-number, forward-range, forward-spelling, forward-none, forward-refused, forward-written, room-is}
+
+-- what each stage answered, of a forwarding
+pub record Ran (f : Forwarding) (own own′ far far′ out out′ : List ℕ) (a r c h v : Verdict) (kept count : ℕ) : Type 0 where
+  pub room : f .room ≡ length out
+  pub own-room : 120 ≤ length own
+  pub own-kept : 120 ≤ length own′
+  pub far-room : 184 ≤ length far
+  pub arrives : Arrives (f .arriving) (f .area) 9 own own′ a
+  pub ready : r ≡ recordedBy a (f .room) (portSound (f .leaving))
+  pub crosses : Crosses r (f .arriving .domain) (f .leaving .domain) (f .table) (f .levels) own′ far far′ c
+  pub held : h ≡ heldBy c (f .leaving .lowest) (f .leaving .highest) far′
+  pub counted : kept ≡ cond (eqb (h .number) 0) (length (keptOf (f .area))) 0
+  pub fits : (d : ℕ) → v ≡ fittedBy d h kept far′
+  pub writes : Writes v (f .leaving .domain) kept (f .area) far′ out out′ count
+
+module _ (f : Forwarding) (own own′ far far′ out out′ : List ℕ) (a r c h v : Verdict) (kept count : ℕ) (s : Ran f own own′ far far′ out out′ a r c h v kept count) where
+  abbrev Answers : Type 0
+  Answers = (concluded v (f .leaving .domain) (f .icmp) count far′ ≡ forwardOf f) × (out′ ≡ outputOf f out)
+
+  abbrev x : Crossing
+  x = crossing f
+
+  abbrev label : Label
+  label = arrivingLabel (f .arriving) (f .area)
+
+  abbrev answer : Option Refusal → Verdict
+  answer o = verdictOf o (label .level) (label .count)
+
+  -- a refusal goes through the later stages as it is
+  fit-refused : (y : Refusal) → h ≡ answer (some y) → (y .number ≡ 0 → ⊥) → v ≡ answer (some y)
+  unfolding fittedBy
+  fit-refused y e z =
+      s .fits 0
+      ∙ ap (λ (q : Verdict). cond (eqb (q .number) 0) (cond (leb (q .count) 120 && hasRoomFor (lengthOf (keysSpelled 0 (q .level) (take (q .count) far′))) kept) q (stopped 18 3 9 0)) q) e
+      ∙ rw (ne-eqb (y .number) 0 z)
+
+  last : (y : Refusal) → v ≡ answer (some y) → (y .number ≡ 0 → ⊥) → firstOf (forwardChecks f) ≡ some y → Answers
+  last y e z g =
+      let n : v .number ≡ 0 → ⊥ = λ q. z (ap (λ (t : Verdict). t .number) (sym e) ∙ q) in
+      let w = forward-refused f y out g in (
+        ap (λ (t : Verdict). concluded t (f .leaving .domain) (f .icmp) count far′) e
+            ∙ concluded-refused y (label .level) (label .count) (f .leaving .domain) count (f .icmp) far′ z
+            ∙ w .0,
+        s .writes .nothing n ∙ w .1,
+      )
+
+  hold-refused : (y : Refusal) → c ≡ answer (some y) → (y .number ≡ 0 → ⊥) → h ≡ answer (some y)
+  unfolding heldBy
+  hold-refused y e z =
+      s .held
+      ∙ ap (λ (q : Verdict). cond (eqb (q .number) 0) (cond (heldBetween (f .leaving .lowest) (f .leaving .highest) q far′) q (stopped 17 3 9 0)) q) e
+      ∙ rw (ne-eqb (y .number) 0 z)
+
+  crossed-refused : (y : Refusal) → c ≡ answer (some y) → (y .number ≡ 0 → ⊥) → firstOf (forwardChecks f) ≡ some y → Answers
+  crossed-refused y e z g = last y (fit-refused y (hold-refused y e z) z) z g
+
+  -- 1 and 2 before the table
+  early : (y : Refusal) → r ≡ answer (some y) → (y .number ≡ 0 → ⊥) → y .number ≤ 2 → c ≡ answer (some y)
+  unfolding tabledBy
+  early y e z t = go (eqb (f .arriving .domain) (f .leaving .domain)) refl
+    where
+      n : r .number ≡ 0 → ⊥
+      n q = z (ap (λ (w : Verdict). w .number) (sym e) ∙ q)
+
+      go : (b : Bool) → eqb (f .arriving .domain) (f .leaving .domain) ≡ b → c ≡ answer (some y)
+      go true q = s .crosses .same (eqb-true _ _ q) .0 ∙ e
+      go false q =
+          s .crosses .refused (eqb-false _ _ q) n
+          ∙ ap (λ (w : Verdict). cond (leb (w .number) 2 || tableSound (f .table) (f .levels)) w (stopped 2 0 0 0)) e
+          ∙ rw (le-leb (y .number) 2 t)
+
+  -- what is ready, of what arrived
+  ready-of : (o : Option Refusal) → a ≡ answer o → r ≡ recordedBy (answer o) (f .room) (portSound (f .leaving))
+  ready-of o e = s .ready ∙ ap (λ (w : Verdict). recordedBy w (f .room) (portSound (f .leaving))) e
+
+  one-ready : recordedBy (answer (some (silent 1))) (f .room) (portSound (f .leaving)) ≡ answer (some (silent 1))
+  unfolding recordedBy
+  one-ready = refl
+
+  by-area : badArea (f .area) ≡ true → Answers
+  unfolding arrivalOf
+  by-area e =
+      crossed-refused (silent 1) (early (silent 1) (ready-of (some (silent 1)) (s .arrives .answer ∙ rw e) ∙ one-ready) (λ z. omega arith) (omega arith)) (λ z. omega arith) (forward-area f e)
+
+  module _ (sized : badArea (f .area) ≡ false) where
+    two-is : portSound (f .arriving) ≡ false → a ≡ answer (some (silent 2))
+    unfolding arrivalOf
+    two-is p = s .arrives .answer ∙ rw (sized, le-ltb (length own) 120 (s .own-room), p)
+
+    past-is : portSound (f .arriving) ≡ true → a ≡ answer (firstOf (arrivalChecks (f .arriving) (f .area) 9))
+    unfolding arrivalOf
+    past-is p = s .arrives .answer ∙ rw (sized, le-ltb (length own) 120 (s .own-room), p)
+
+    -- what arrived has not the number 1
+    not-one : eqb (a .number) 1 ≡ false
+    not-one = go (portSound (f .arriving)) refl
+      where
+        late : (o : Option Refusal) → Late o → eqb (answer o .number) 1 ≡ false
+        late none t = refl
+        late (some y) t = ne-eqb (y .number) 1 (λ z. omega arith)
+
+        go : (b : Bool) → portSound (f .arriving) ≡ b → eqb (a .number) 1 ≡ false
+        go true p = ap (λ (w : Verdict). eqb (w .number) 1) (past-is p) ∙ late (firstOf (arrivalChecks (f .arriving) (f .area) 9)) (arrival-late (f .arriving) (f .area) 9)
+        go false p = ap (λ (w : Verdict). eqb (w .number) 1) (two-is p)
+
+    by-room : f .room < 40 → Answers
+    unfolding recordedBy
+    by-room t =
+        crossed-refused (silent 1) (early (silent 1) (s .ready ∙ rw (not-one, lt-ltb (f .room) 40 t)) (λ z. omega arith) (omega arith)) (λ z. omega arith) (forward-room f sized t)
+
+    module _ (long : 40 ≤ f .room) where
+      by-two : r ≡ stopped 2 0 0 0 → recordsTest f ≡ false → Answers
+      by-two e t = crossed-refused (silent 2) (early (silent 2) e (λ z. omega arith) (omega arith)) (λ z. omega arith) (forward-record f sized long t)
+
+      ready-is : (b : Bool) → portSound (f .leaving) ≡ b → r ≡ cond b a (stopped 2 0 0 0)
+      unfolding recordedBy
+      ready-is b e = s .ready ∙ rw (not-one, le-ltb (f .room) 40 long, e)
+
+      by-arriving : portSound (f .arriving) ≡ false → Answers
+      by-arriving p = by-two (go (portSound (f .leaving)) refl) (rw p)
+        where
+          go : (b : Bool) → portSound (f .leaving) ≡ b → r ≡ stopped 2 0 0 0
+          go true e = ready-is true e ∙ two-is p
+          go false e = ready-is false e
+
+      by-leaving : portSound (f .arriving) ≡ true → portSound (f .leaving) ≡ false → Answers
+      by-leaving p q = by-two (ready-is false q) (rw (p, q))
+
+      module _ (p : portSound (f .arriving) ≡ true) (q : portSound (f .leaving) ≡ true) where
+        ready-past : r ≡ answer (firstOf (arrivalChecks (f .arriving) (f .area) 9))
+        ready-past = ready-is true q ∙ past-is p
+
+        -- 3 to 14, where the records are sound
+        by-arrival : (y : Refusal) → recordsTest f ≡ true → firstOf (arrivalChecks (f .arriving) (f .area) 9) ≡ some y → 3 ≤ y .number → c ≡ answer (some y) → Answers
+        by-arrival y t e n g = crossed-refused y g (λ z. omega arith) (forward-arrival f sized long t y e)
+
+        same-refused : (y : Refusal) → sameDomain f ≡ true → firstOf (arrivalChecks (f .arriving) (f .area) 9) ≡ some y → 3 ≤ y .number → Answers
+        same-refused y d e n = by-arrival y (rw (p, q, d)) e n (s .crosses .same (eqb-true _ _ d) .0 ∙ ready-past ∙ ap answer e)
+
+        other-refused : (y : Refusal) → sameDomain f ≡ false → firstOf (arrivalChecks (f .arriving) (f .area) 9) ≡ some y → 3 ≤ y .number → Answers
+        unfolding tabledBy
+        other-refused y d e n = go (tableSound (f .table) (f .levels)) refl
+          where
+            ready-some : r ≡ answer (some y)
+            ready-some = ready-past ∙ ap answer e
+
+            number : r .number ≡ 0 → ⊥
+            number z = absurd (omega (arith, ap (λ (w : Verdict). w .number) ready-some))
+
+            tabled : (b : Bool) → tableSound (f .table) (f .levels) ≡ b → c ≡ cond b (answer (some y)) (stopped 2 0 0 0)
+            tabled b t =
+                s .crosses .refused (eqb-false _ _ d) number
+                ∙ ap (λ (w : Verdict). cond (leb (w .number) 2 || tableSound (f .table) (f .levels)) w (stopped 2 0 0 0)) ready-some
+                ∙ rw (lt-leb (y .number) 2 (omega arith), t)
+
+            go : (b : Bool) → tableSound (f .table) (f .levels) ≡ b → Answers
+            go true t = by-arrival y (rw (p, q, d, t)) e n (tabled true t)
+            go false t = crossed-refused (silent 2) (tabled false t) (λ z. omega arith) (forward-record f sized long (rw (p, q, d, t)))
+
+        -- past 16
+        module _ (t : recordsTest f ≡ true) (e : firstOf (arrivalChecks (f .arriving) (f .area) 9) ≡ none) (over : Over x far′) (crossed : c ≡ leavingVerdict x) where
+          abbrev runs : List Run
+          runs = leavingRuns x
+
+          held-is : heldBetween (f .leaving .lowest) (f .leaving .highest) (leavingVerdict x) far′ ≡ setInRange (f .leaving .lowest) (f .leaving .highest) (leavingLevel x) runs
+          held-is =
+              let g = sound (f .leaving) q .range in
+              held-in-set (f .leaving .lowest) (f .leaving .highest) (leavingVerdict x) far′ (g .low-formed) (g .high-formed) (rw (over .stands) (over .gaps))
+              ∙ ap (setInRange (f .leaving .lowest) (f .leaving .highest) (leavingLevel x)) (over .stands)
+
+          held-of : (b : Bool) → setInRange (f .leaving .lowest) (f .leaving .highest) (leavingLevel x) runs ≡ b → h ≡ cond b (leavingVerdict x) (stopped 17 3 9 0)
+          unfolding heldBy
+          held-of b g =
+              s .held
+              ∙ ap (λ (w : Verdict). cond (eqb (w .number) 0) (cond (heldBetween (f .leaving .lowest) (f .leaving .highest) w far′) w (stopped 17 3 9 0)) w) crossed
+              ∙ rw (held-is ∙ g)
+
+          by-range : setInRange (f .leaving .lowest) (f .leaving .highest) (leavingLevel x) runs ≡ false → Answers
+          by-range g =
+              last (barred 17 9) (fit-refused (barred 17 9) (held-of false g) (λ z. omega arith)) (λ z. omega arith) (forward-range f sized long t e (over .numbers) g)
+
+          module _ (g : setInRange (f .leaving .lowest) (f .leaving .highest) (leavingLevel x) runs ≡ true) where
+            h-is : h ≡ leavingVerdict x
+            h-is = held-of true g
+
+            kept-is : kept ≡ length (keptOf (f .area))
+            kept-is = s .counted ∙ ap (λ (w : Verdict). cond (eqb (w .number) 0) (length (keptOf (f .area))) 0) h-is
+
+            v-is : v ≡ cond (leb (length runs) 120 && hasRoomFor (lengthOf (keysSpelled (f .leaving .domain) (leavingLevel x) (take (length runs) far′))) (length (keptOf (f .area)))) (leavingVerdict x) (stopped 18 3 9 0)
+            unfolding fittedBy
+            v-is = s .fits (f .leaving .domain) ∙ (λ i. fittedBy (f .leaving .domain) (h-is i) (kept-is i) far′)
+
+            by-many : leb (length runs) 120 ≡ false → Answers
+            by-many m =
+                last (barred 18 9) (v-is ∙ rw m) (λ z. omega arith) (forward-spelling f sized long t e (over .numbers) g (rw (lt-ltb 120 (length runs) (leb-false _ _ m))))
+
+            module _ (few : length runs ≤ 120) where
+              spelled : keysSpelled (f .leaving .domain) (leavingLevel x) (take (length runs) far′) ≡ leavingOption x
+              spelled = keys-spelled (f .leaving .domain) (leavingLevel x) (take (length runs) far′) runs (over .stands) few
+
+              v-of : v ≡ cond (not (noRoom (leavingOption x) (keptOf (f .area)))) (leavingVerdict x) (stopped 18 3 9 0)
+              v-of = v-is ∙ rw (le-leb (length runs) 120 few, spelled, room-is (f .leaving .domain) (leavingLevel x) runs (keptOf (f .area)))
+
+              by-spelling : noRoom (leavingOption x) (keptOf (f .area)) ≡ true → Answers
+              by-spelling n =
+                  last (barred 18 9) (v-of ∙ rw n) (λ z. omega arith) (forward-spelling f sized long t e (over .numbers) g (rw (le-ltb 120 (length runs) few, n)))
+
+              by-done : noRoom (leavingOption x) (keptOf (f .area)) ≡ false → Answers
+              unfolding labelFrom
+              by-done n =
+                  let e-v : v ≡ leavingVerdict x = v-of ∙ rw n in
+                  let z : v .number ≡ 0 = ap (λ (w : Verdict). w .number) e-v in
+                  let l : labelFrom (f .leaving .domain) (leavingLevel x) (keyRuns (take (length runs) far′)) ≡ leavingLabel x = label-is in
+                  let u = keys-put (f .leaving .domain) (leavingLevel x) (take (length runs) far′) runs out (over .stands) few (omega (arith, s .room)) in
+                  let w =
+                  forward-written f (leavingLabel x) _ kept count out _ out′ (s .room) (forward-none f sized long t e (over .numbers) g (rw (le-ltb 120 (length runs) few, n))) refl (u .0) (u .1) kept-is
+                  (s .writes .counted z ∙ ap (λ (b : Verdict). restCount (keysCount (f .leaving .domain) (b .level) (take (b .count) far′) (length out)) kept (keptOf (f .area)) (length (keysWritten (f .leaving .domain) (b .level) (take (b .count) far′) out))) e-v)
+                  (s .writes .written z ∙ ap (λ (b : Verdict). restOf (keysCount (f .leaving .domain) (b .level) (take (b .count) far′) (length out)) kept (keptOf (f .area)) (keysWritten (f .leaving .domain) (b .level) (take (b .count) far′) out)) e-v) in (
+                    ap (λ (b : Verdict). concluded b (f .leaving .domain) (f .icmp) count far′) e-v
+                        ∙ concluded-done (leavingLevel x) (length runs) (f .leaving .domain) count (f .icmp) far′
+                        ∙ ap (λ (b : Label). done b count) l
+                        ∙ w .0,
+                    w .1,
+                  )
+                where
+                  label-is : labelFrom (f .leaving .domain) (leavingLevel x) (keyRuns (take (length runs) far′)) ≡ leavingLabel x
+                  label-is = rw (over .stands, le-leb (length runs) 120 few)
+
+              by-room-left : (b : Bool) → noRoom (leavingOption x) (keptOf (f .area)) ≡ b → Answers
+              by-room-left true n = by-spelling n
+              by-room-left false n = by-done n
+
+            by-runs : (b : Bool) → leb (length runs) 120 ≡ b → Answers
+            by-runs true m = by-room-left (leb-true _ _ m) (noRoom (leavingOption x) (keptOf (f .area))) refl
+            by-runs false m = by-many m
+
+          by-set : (b : Bool) → setInRange (f .leaving .lowest) (f .leaving .highest) (leavingLevel x) runs ≡ b → Answers
+          by-set true g = by-runs g (leb (length runs) 120) refl
+          by-set false g = by-range g
+
+          passed-over : Answers
+          passed-over = by-set (setInRange (f .leaving .lowest) (f .leaving .highest) (leavingLevel x) runs) refl
+
+        -- what arrived, past 14
+        module _ (e : firstOf (arrivalChecks (f .arriving) (f .area) 9) ≡ none) where
+          arrived-held : Held (f .arriving) label
+          arrived-held = arrival-held (f .arriving) (f .area) 9 p e
+
+          ready-none : r ≡ answer none
+          ready-none = ready-past ∙ ap answer e
+
+          own-stands : keyRuns (take (label .count) own′) ≡ used label
+          own-stands =
+              let a-is : a ≡ answer none = past-is p ∙ ap answer e in
+              ap (λ (w : Verdict). keyRuns (take (w .count) own′)) (sym a-is) ∙ s .arrives .stands (ap (λ (w : Verdict). w .number) a-is)
+
+          same-passed : sameDomain f ≡ true → Answers
+          same-passed d =
+              let k = s .crosses .same (eqb-true _ _ d) in
+              passed-over (rw (p, q, d)) e
+              (stays-over x (arrived-held .formed) (eqb-true _ _ d) own′ far far′ (s .own-kept) own-stands (k .1))
+              (k .0 ∙ ready-none ∙ stays-verdict x (arrived-held .formed) (eqb-true _ _ d) own′ far far′ (s .own-kept) own-stands (k .1))
+
+          module _ (d : sameDomain f ≡ false) where
+            carried : (g : Carried) × (g ≡ carryOf (used label) (label .level) (f .table) (f .levels) (length far)) × (c ≡ numberedBy g (eqb (f .table .from) (f .arriving .domain)) (eqb (f .table .to) (f .leaving .domain))) × (far′ ≡ carriedKeys g (imageOf (f .table) (used label)) far)
+            carried =
+                let k = s .crosses .carried (eqb-false _ _ d) (ap (λ (w : Verdict). w .number) ready-none) in
+                let n : keyRuns (take (r .count) own′) ≡ used label = ap (λ (w : Verdict). keyRuns (take (w .count) own′)) ready-none ∙ own-stands in
+                let l : r .level ≡ label .level = ap (λ (w : Verdict). w .level) ready-none in (
+                  k .0,
+                  k .1 ∙ (λ i. carryOf (n i) (l i) (f .table) (f .levels) (length far)),
+                  k .2,
+                  k .3 ∙ ap (λ (rs : List Run). carriedKeys (k .0) (imageOf (f .table) rs) far) n,
+                )
+
+            by-table : (b : Bool) → tableSound (f .table) (f .levels) ≡ b → Answers
+            by-table false t =
+                crossed-refused (silent 2) (carried .2 ∙ unsound-verdict x d (arrived-held .formed) far far′ (s .far-room) (carried .0) (carried .1) t) (λ z. omega arith)
+                (forward-record f sized long (rw (p, q, d, t)))
+            by-table true t = by-numbers (hasNumbers x) refl
+              where
+                by-numbers : (b : Bool) → hasNumbers x ≡ b → Answers
+                by-numbers false n =
+                    crossed-refused (barred 16 9) (carried .2 ∙ numberless-verdict x d (arrived-held .formed) far far′ (s .far-room) (carried .0) (carried .1) t n) (λ z. omega arith)
+                    (forward-number f sized long (rw (p, q, d, t)) e (rw (d, n)))
+                by-numbers true n =
+                    passed-over (rw (p, q, d, t)) e
+                    (carried-over x d (arrived-held .formed) far far′ (s .far-room) (carried .0) (carried .1) t n (carried .3))
+                    (carried .2 ∙ carried-verdict x d (arrived-held .formed) far far′ (s .far-room) (carried .0) (carried .1) t n)
+
+          by-domain : (b : Bool) → sameDomain f ≡ b → Answers
+          by-domain true d = same-passed d
+          by-domain false d = by-table d (tableSound (f .table) (f .levels)) refl
+
+        by-first : (o : Option Refusal) → firstOf (arrivalChecks (f .arriving) (f .area) 9) ≡ o → Late o → Answers
+        by-first none e n = by-domain e (sameDomain f) refl
+        by-first (some y) e n = go (sameDomain f) refl
+          where
+            go : (b : Bool) → sameDomain f ≡ b → Answers
+            go true d = same-refused y d e n
+            go false d = other-refused y d e n
+
+      by-ports : (b d : Bool) → portSound (f .arriving) ≡ b → portSound (f .leaving) ≡ d → Answers
+      by-ports false d p q = by-arriving p
+      by-ports true false p q = by-leaving p q
+      by-ports true true p q = by-first p q (firstOf (arrivalChecks (f .arriving) (f .area) 9)) refl (arrival-late (f .arriving) (f .area) 9)
+
+    by-length : (b : Bool) → leb 40 (f .room) ≡ b → Answers
+    by-length true e = by-ports (leb-true _ _ e) (portSound (f .arriving)) (portSound (f .leaving)) refl refl
+    by-length false e = by-room (leb-false _ _ e)
+
+  by-size : (b : Bool) → badArea (f .area) ≡ b → Answers
+  by-size true e = by-area e
+  by-size false e = by-length e (leb 40 (f .room)) refl
+
+  pub forwarded : (concluded v (f .leaving .domain) (f .icmp) count far′ ≡ forwardOf f) × (out′ ≡ outputOf f out)
+  forwarded = by-size (badArea (f .area)) refl

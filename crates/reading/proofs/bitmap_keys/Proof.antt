@@ -1,0 +1,19 @@
+-- `reading::bitmap_keys` meets its contract.
+use borrow.Author.Needs.{needs}
+use Rattle.reading.proofs.Loops.{pass-bitmap}
+use Rattle.reading.proofs.bitmap_keys.Statement.{statement}
+use Rattle.reading.proofs.bitmap_keys.Tie as tie
+
+read-bitmap-requires : tie.Need-read-bitmap-requires
+read-bitmap-requires c κs = search needs
+
+same-length : tie.Need-same-length
+same-length c = search needs
+
+returns : tie.Need-returns
+returns c =
+    let s = c .before .before .before .before .before .before in
+    pass-bitmap (s .args .octets .now) (s .args .keys .now) _ _ (s .pre .0) (s .pre .1) (c .before .before .read-bitmap .ensures)
+
+pub bitmap-keys-spec : {M : Type 1} → statement M
+bitmap-keys-spec = tie.close (tie.spec read-bitmap-requires same-length returns)

@@ -1,0 +1,251 @@
+// The house file: ports and tables as octets.
+//
+// Document 02, wish 1. Every number is big-endian, every list is led by its count.
+//
+//   file     length of the whole file (2), version (1), port count (1), ports, table count (1), tables
+//   label    domain (4), level (1), run count (1), low (2) and high (2) of each run
+//   port     domain (4), lowest label, highest label, required (1: 0 or 1), assigned label
+//   table    from (4), to (4), pair count (2), each pair (1 + 1), row count (2), low (2), high (2) and target low (2) of each row
+
+use crate::label::{HeldLabel, Run, HIGHEST_CATEGORY, MAX_RUNS};
+use crate::records::{PortRecord, Row, TableRecord, MAX_LEVEL_PAIRS, MAX_ROWS};
+
+/// "At most 16 ports, 8 tables and 32 KiB."
+pub const MAX_PORTS: usize = 16;
+pub const MAX_TABLES: usize = 8;
+pub const MAX_FILE: usize = 32 * 1024;
+/// "one version octet (1)"
+pub const VERSION: u8 = 1;
+pub const VERSION_AT: usize = 2;
+
+/// Ports and tables as they are held: 16 and 8 places with a count each.
+#[derive(Clone, PartialEq, Eq)]
+pub struct SetRecord {
+    pub port_count: u8,
+    pub ports: Vec<PortRecord>,
+    pub table_count: u8,
+    pub tables: Vec<TableRecord>,
+}
+
+/// Why a file is refused.
+#[derive(Clone, Copy, PartialEq, Eq, Debug)]
+pub enum Refusal {
+    /// "the first octet of the first bad field"
+    Place(usize),
+    /// "An unknown version is refused by name."
+    Version(u8),
+}
+
+impl SetRecord {
+    pub fn empty() -> SetRecord {
+        SetRecord {
+            port_count: 0,
+            ports: vec![PortRecord::ALL_ZERO; MAX_PORTS],
+            table_count: 0,
+            tables: vec![TableRecord::ALL_ZERO; MAX_TABLES],
+        }
+    }
+
+    pub fn of(ports: &[PortRecord], tables: &[TableRecord]) -> SetRecord {
+        let mut set = SetRecord { port_count: ports.len() as u8, table_count: tables.len() as u8, ..SetRecord::empty() };
+        set.ports[..ports.len()].clone_from_slice(ports);
+        set.tables[..tables.len()].clone_from_slice(tables);
+        set
+    }
+
+    /// The counts keep to their limits, every record in use is sound, and every other place is all zero.
+    pub fn sound(&self) -> bool {
+        let (port_count, table_count) = (self.port_count as usize, self.table_count as usize);
+        if port_count > MAX_PORTS || table_count > MAX_TABLES {
+            return false;
+        }
+        self.ports[..port_count].iter().all(|port| port.sound().is_some())
+            && self.ports[port_count..].iter().all(|port| *port == PortRecord::ALL_ZERO)
+            && self.tables[..table_count].iter().all(|table| table.sound().is_some())
+            && self.tables[table_count..].iter().all(|table| *table == TableRecord::ALL_ZERO)
+    }
+}
+
+/// Takes fields from the front of a file.
+struct Reader<'a> {
+    octets: &'a [u8],
+    at: usize,
+}
+
+fn any(_: u32) -> bool {
+    true
+}
+
+impl<'a> Reader<'a> {
+    /// The next field, which has a rule of its own. A field that is cut off, or whose rule is broken, is blamed at its first octet.
+    fn field(&mut self, width: usize, rule: impl Fn(u32) -> bool) -> Result<u32, Refusal> {
+        let place = self.at;
+        let octets = self.octets.get(place..place + width).ok_or(Refusal::Place(place))?;
+        let number = octets.iter().fold(0, |number, octet| number << 8 | *octet as u32);
+        if !rule(number) {
+            return Err(Refusal::Place(place));
+        }
+        self.at += width;
+        Ok(number)
+    }
+
+    /// A label of the given domain whose runs are "ascending, low ≤ high ≤ 65534, each low at least 2 above the previous high".
+    fn label(&mut self, port_domain: u32) -> Result<HeldLabel, Refusal> {
+        let domain = self.field(4, |domain| domain == port_domain)?;
+        let level = self.field(1, any)? as u8;
+        let count = self.field(1, |count| count <= MAX_RUNS as u32)? as u8;
+        let mut label = HeldLabel { domain, level, count, ..HeldLabel::ALL_ZERO };
+        let mut least = 0;
+        for place in 0..count as usize {
+            let low = self.field(2, |low| low >= least)?;
+            let high = self.field(2, |high| low <= high && high <= HIGHEST_CATEGORY as u32)?;
+            label.places[place] = Run { low: low as u16, high: high as u16 };
+            least = high + 2;
+        }
+        Ok(label)
+    }
+
+    /// "if it is required, the assigned label is all zero"
+    fn no_label(&mut self) -> Result<HeldLabel, Refusal> {
+        for width in [4, 1, 1] {
+            self.field(width, |number| number == 0)?;
+        }
+        Ok(HeldLabel::ALL_ZERO)
+    }
+
+    /// Rules over a whole label are tested when it has been read, and blame its first octet.
+    fn port(&mut self) -> Result<PortRecord, Refusal> {
+        let domain = self.field(4, |domain| domain != 0)?;
+        let lowest = self.label(domain)?;
+        let highest_at = self.at;
+        let highest = self.label(domain)?;
+        if !lowest.within(&highest) {
+            return Err(Refusal::Place(highest_at));
+        }
+        let required = self.field(1, |required| required <= 1)? == 1;
+        let assigned_at = self.at;
+        let assigned = if required { self.no_label()? } else { self.label(domain)? };
+        if !required && !(lowest.within(&assigned) && assigned.within(&highest)) {
+            return Err(Refusal::Place(assigned_at));
+        }
+        Ok(PortRecord { domain, lowest, highest, required, assigned })
+    }
+
+    fn table(&mut self) -> Result<TableRecord, Refusal> {
+        let from = self.field(4, |domain| domain != 0)?;
+        let to = self.field(4, |domain| domain != 0)?;
+        let mut table = TableRecord { from, to, ..TableRecord::ALL_ZERO };
+        table.level_count = self.field(2, |count| count <= MAX_LEVEL_PAIRS as u32)? as u16;
+        // "strictly rising on both sides"
+        let mut least = [0, 0];
+        for place in 0..table.level_count as usize {
+            for side in 0..2 {
+                let level = self.field(1, |level| level >= least[side])?;
+                table.levels[place][side] = level as u8;
+                least[side] = level + 1;
+            }
+        }
+        table.row_count = self.field(2, |count| count <= MAX_ROWS as u32)? as u16;
+        for place in 0..table.row_count as usize {
+            table.rows[place] = self.row(&table.rows[..place])?;
+        }
+        Ok(table)
+    }
+
+    /// "each row has low ≤ high, sources are ascending and disjoint, targets are disjoint, all ends ≤ 65534"
+    fn row(&mut self, before: &[Row]) -> Result<Row, Refusal> {
+        let highest = HIGHEST_CATEGORY as u32;
+        let low = self.field(2, |low| before.last().map_or(true, |row| (row.high as u32) < low))?;
+        let high = self.field(2, |high| low <= high && high <= highest)?;
+        let target_low = self.field(2, |target_low| {
+            let target_high = target_low + (high - low);
+            let apart = |row: &Row| row.target_high() < target_low || target_high < row.target_low as u32;
+            target_high <= highest && before.iter().all(apart)
+        })?;
+        Ok(Row { low: low as u16, high: high as u16, target_low: target_low as u16 })
+    }
+}
+
+/// "A file is accepted exactly when its length agrees, then its version is known, then every record is sound; a refusal names the
+/// first octet of the first bad field (a cut-off one and octets after the last table count)."
+pub fn read(octets: &[u8]) -> Result<SetRecord, Refusal> {
+    let mut reader = Reader { octets, at: 0 };
+    reader.field(2, |length| length as usize == octets.len())?;
+    let version = reader.field(1, any)? as u8;
+    if version != VERSION {
+        return Err(Refusal::Version(version));
+    }
+    if octets.len() > MAX_FILE {
+        return Err(Refusal::Place(0));
+    }
+    let mut set = SetRecord::empty();
+    set.port_count = reader.field(1, |count| count <= MAX_PORTS as u32)? as u8;
+    for place in 0..set.port_count as usize {
+        set.ports[place] = reader.port()?;
+    }
+    set.table_count = reader.field(1, |count| count <= MAX_TABLES as u32)? as u8;
+    for place in 0..set.table_count as usize {
+        set.tables[place] = reader.table()?;
+    }
+    if reader.at < octets.len() {
+        return Err(Refusal::Place(reader.at));
+    }
+    Ok(set)
+}
+
+fn label_octets(label: &HeldLabel) -> Vec<u8> {
+    let mut octets = label.domain.to_be_bytes().to_vec();
+    octets.extend([label.level, label.count]);
+    for run in &label.places[..label.count as usize] {
+        octets.extend(run.low.to_be_bytes());
+        octets.extend(run.high.to_be_bytes());
+    }
+    octets
+}
+
+fn port_octets(port: &PortRecord) -> Vec<u8> {
+    let mut octets = port.domain.to_be_bytes().to_vec();
+    octets.extend(label_octets(&port.lowest));
+    octets.extend(label_octets(&port.highest));
+    octets.push(port.required as u8);
+    octets.extend(label_octets(&port.assigned));
+    octets
+}
+
+fn table_octets(table: &TableRecord) -> Vec<u8> {
+    let mut octets = [table.from.to_be_bytes(), table.to.to_be_bytes()].concat();
+    octets.extend(table.level_count.to_be_bytes());
+    octets.extend(table.levels[..table.level_count as usize].concat());
+    octets.extend(table.row_count.to_be_bytes());
+    for row in &table.rows[..table.row_count as usize] {
+        for number in [row.low, row.high, row.target_low] {
+            octets.extend(number.to_be_bytes());
+        }
+    }
+    octets
+}
+
+/// "A sound set has one file".
+pub fn file_of(set: &SetRecord) -> Vec<u8> {
+    let mut octets = vec![0, 0, VERSION, set.port_count];
+    octets.extend(set.ports[..set.port_count as usize].iter().flat_map(port_octets));
+    octets.push(set.table_count);
+    octets.extend(set.tables[..set.table_count as usize].iter().flat_map(table_octets));
+    let length = octets.len() as u16;
+    octets[..2].copy_from_slice(&length.to_be_bytes());
+    octets
+}
+
+/// "The writer gives 2 for an unsound set, then 1 for too short an output; like every call added later, it keeps lent room past what
+/// it writes." The number and the count.
+pub fn write(set: &SetRecord, output: &mut [u8]) -> (u8, usize) {
+    if !set.sound() {
+        return (2, 0);
+    }
+    let file = file_of(set);
+    if output.len() < file.len() {
+        return (1, 0);
+    }
+    output[..file.len()].copy_from_slice(&file);
+    (0, file.len())
+}

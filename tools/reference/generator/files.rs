@@ -1,0 +1,551 @@
+// House files: good ones, ones with a broken rule, and cases of them.
+
+use crate::cases::{Case, Output};
+use crate::file::{file_of, SetRecord, MAX_FILE, MAX_PORTS, MAX_TABLES, VERSION, VERSION_AT};
+use crate::label::{HeldLabel, Run, HIGHEST_CATEGORY, MAX_RUNS};
+use crate::records::{PortRecord, Row, TableRecord, MAX_LEVEL_PAIRS, MAX_ROWS};
+
+use super::drafts::*;
+use super::random::Random;
+use super::ranges::*;
+use super::sets::*;
+use super::tables::*;
+use super::unsound::*;
+use super::Made;
+
+/// Files of this many octets are laid out by the first 16 bits of their length.
+const LONGEST: usize = 65_000;
+
+// Sound sets.
+
+fn small_port(random: &mut Random) -> PortRecord {
+    let (domain, shape) = (random_domain(random), random_shape(random));
+    let label = random_label(random, domain, if shape == Shape::Many { Shape::Ranges } else { shape });
+    port_around(random, &label, false, false)
+}
+
+pub fn small_table(random: &mut Random) -> TableRecord {
+    let (domain, shape) = (random_domain(random), random_shape(random));
+    let label = random_label(random, domain, shape);
+    let (to, targets) = (random_domain(random), random.pick(&[Targets::Small, Targets::Anywhere, Targets::High, Targets::Parted]));
+    let mut table = table_for(random, &label, to, false, targets);
+    if random.chance(1, 8) {
+        table = table_of(table.from, to, &[], &table.rows[..table.row_count as usize]);
+    }
+    table
+}
+
+fn plain_port(random: &mut Random) -> PortRecord {
+    let label = HeldLabel::empty(random_domain(random), random_level(random));
+    port_around(random, &label, false, false)
+}
+
+/// A port with 120 runs in each label.
+fn port_of_most_runs(random: &mut Random) -> PortRecord {
+    let base = random.pick(&[0, 1, HIGHEST_CATEGORY - 4 * MAX_RUNS as u16 + 2]);
+    let runs = |wider: u16| -> Vec<Run> {
+        let low = |place: usize| base + 4 * place as u16;
+        (0..MAX_RUNS).map(|place| Run { low: low(place), high: low(place) + wider }).collect()
+    };
+    let domain = random_domain(random);
+    let (level, higher) = (random.between(0, 200) as u8, random.between(200, 255) as u8);
+    let lowest = held(domain, level, &runs(random.below(2) as u16));
+    let highest = held(domain, higher, &runs(random.between(1, 2) as u16));
+    let required = random.chance(1, 8);
+    let assigned = if required { HeldLabel::ALL_ZERO } else { held(domain, higher, &runs(1)) };
+    PortRecord { domain, lowest, highest, required, assigned }
+}
+
+/// A table with 16 level pairs and 64 rows.
+pub fn fullest_table(random: &mut Random) -> TableRecord {
+    let (domain, to) = (random_domain(random), random_domain(random));
+    let shape = random.pick(&[Shape::Many, Shape::All, Shape::Bitmap]);
+    let targets = random.pick(&[Targets::Anywhere, Targets::Small, Targets::Parted]);
+    let label = random_label(random, domain, shape);
+    let table = full_table_for(random, &label, to, targets);
+    let sources = ascending_octets(random, MAX_LEVEL_PAIRS, None);
+    let targets = ascending_octets(random, MAX_LEVEL_PAIRS, None);
+    let levels: Vec<[u8; 2]> = sources.into_iter().zip(targets).map(|(source, target)| [source, target]).collect();
+    table_of(domain, to, &levels, &table.rows)
+}
+
+fn several<T>(random: &mut Random, count: usize, make: impl Fn(&mut Random) -> T) -> Vec<T> {
+    (0..count).map(|_| make(random)).collect()
+}
+
+/// The largest set: 16 ports of 120 runs in each label, 8 tables of 16 level pairs and 64 rows.
+pub fn largest_set(random: &mut Random) -> SetRecord {
+    SetRecord::of(&several(random, MAX_PORTS, port_of_most_runs), &several(random, MAX_TABLES, fullest_table))
+}
+
+/// A sound set; the turn goes through those at a limit.
+pub fn sound_set(random: &mut Random, turn: usize) -> SetRecord {
+    if turn % 96 == 37 {
+        return largest_set(random);
+    }
+    match turn % 16 {
+        0 => SetRecord::empty(),
+        1 => SetRecord::of(&several(random, MAX_PORTS, plain_port), &[]),
+        2 => SetRecord::of(&[], &several(random, MAX_TABLES, small_table)),
+        3 if turn % 48 == 3 => SetRecord::of(&several(random, 1, port_of_most_runs), &[]),
+        4 if turn % 48 == 4 => SetRecord::of(&[], &several(random, 1, fullest_table)),
+        _ => {
+            let (ports, tables) = (random.below(4), random.below(3));
+            SetRecord::of(&several(random, ports, small_port), &several(random, tables, small_table))
+        }
+    }
+}
+
+/// A sound set in which every rule can be broken: several runs, level pairs and rows, a port that requires labels and one that doesn't.
+pub fn rich_set(random: &mut Random) -> SetRecord {
+    let wish = Wish { rich: true, ..ANY };
+    let mut ports = several(random, 2, |random| {
+        let domain = random_domain(random);
+        let label = wished_label(random, domain, &wish);
+        port_around(random, &label, true, false)
+    });
+    required_with(&mut ports[0], |_| {});
+    not_required(&mut ports[1]);
+    random.shuffle(&mut ports);
+    let count = random.between(1, 2);
+    let tables = several(random, count, |random| loop {
+        let domain = random_domain(random);
+        let label = wished_label(random, domain, &wish);
+        let to = random_domain(random);
+        let table = table_for(random, &label, to, true, Targets::Anywhere);
+        if table.row_count >= 2 {
+            return table;
+        }
+    });
+    SetRecord::of(&ports, &tables)
+}
+
+// Files by their fields.
+
+#[derive(Clone)]
+pub enum Rule {
+    /// None of its own.
+    Free,
+    /// At most the limit.
+    Count(u32),
+    NotZero,
+    Zero,
+    ZeroOrOne,
+    /// The port's domain.
+    Domain(u32),
+    /// At least.
+    Least(u32),
+    /// At least, and at most 65534.
+    High(u32),
+    /// The row's width less one, and the rows before.
+    Target(u32, Vec<Row>),
+}
+
+#[derive(Clone)]
+pub struct Field {
+    pub at: usize,
+    pub width: usize,
+    /// What the field is, for going through all of them in turn.
+    pub name: &'static str,
+    rule: Rule,
+}
+
+/// The fields that have a rule.
+pub const RULED: [&str; 20] = [
+    "port count",
+    "port domain",
+    "lowest domain",
+    "highest domain",
+    "assigned domain",
+    "run count",
+    "run low",
+    "run high",
+    "required",
+    "zero domain",
+    "zero level",
+    "zero count",
+    "table count",
+    "from or to",
+    "pair count",
+    "pair",
+    "row count",
+    "row low",
+    "row high",
+    "target",
+];
+
+/// The octets of a set's file, field by field.
+#[derive(Clone)]
+pub struct Layout {
+    pub octets: Vec<u8>,
+    pub fields: Vec<Field>,
+}
+
+impl Layout {
+    fn field(&mut self, width: usize, number: u32, name: &'static str, rule: Rule) {
+        self.fields.push(Field { at: self.octets.len(), width, name, rule });
+        self.octets.extend(&number.to_be_bytes()[4 - width..]);
+    }
+
+    fn label(&mut self, label: &HeldLabel, name: &'static str, port_domain: u32) {
+        self.field(4, label.domain, name, Rule::Domain(port_domain));
+        self.field(1, label.level as u32, "level", Rule::Free);
+        self.field(1, label.count as u32, "run count", Rule::Count(MAX_RUNS as u32));
+        let mut least = 0;
+        for run in runs_of(label) {
+            self.field(2, run.low as u32, "run low", Rule::Least(least));
+            self.field(2, run.high as u32, "run high", Rule::High(run.low as u32));
+            least = run.high as u32 + 2;
+        }
+    }
+
+    fn port(&mut self, port: &PortRecord) {
+        self.field(4, port.domain, "port domain", Rule::NotZero);
+        self.label(&port.lowest, "lowest domain", port.domain);
+        self.label(&port.highest, "highest domain", port.domain);
+        self.field(1, port.required as u32, "required", Rule::ZeroOrOne);
+        if port.required {
+            self.field(4, port.assigned.domain, "zero domain", Rule::Zero);
+            self.field(1, port.assigned.level as u32, "zero level", Rule::Zero);
+            self.field(1, port.assigned.count as u32, "zero count", Rule::Zero);
+        } else {
+            self.label(&port.assigned, "assigned domain", port.domain);
+        }
+    }
+
+    fn table(&mut self, table: &TableRecord) {
+        self.field(4, table.from, "from or to", Rule::NotZero);
+        self.field(4, table.to, "from or to", Rule::NotZero);
+        self.field(2, table.level_count as u32, "pair count", Rule::Count(MAX_LEVEL_PAIRS as u32));
+        let mut least = [0, 0];
+        for pair in &table.levels[..table.level_count as usize] {
+            for side in 0..2 {
+                self.field(1, pair[side] as u32, "pair", Rule::Least(least[side]));
+                least[side] = pair[side] as u32 + 1;
+            }
+        }
+        self.field(2, table.row_count as u32, "row count", Rule::Count(MAX_ROWS as u32));
+        let rows = &table.rows[..table.row_count as usize];
+        for (place, row) in rows.iter().enumerate() {
+            let least = if place == 0 { 0 } else { rows[place - 1].high as u32 + 1 };
+            self.field(2, row.low as u32, "row low", Rule::Least(least));
+            self.field(2, row.high as u32, "row high", Rule::High(row.low as u32));
+            self.field(2, row.target_low as u32, "target", Rule::Target((row.high - row.low) as u32, rows[..place].to_vec()));
+        }
+    }
+
+    /// The records need not be sound; each row has low ≤ high.
+    pub fn of(set: &SetRecord) -> Layout {
+        let mut layout = Layout { octets: Vec::new(), fields: Vec::new() };
+        layout.field(2, 0, "length", Rule::Free);
+        layout.field(1, VERSION as u32, "version", Rule::Free);
+        layout.field(1, set.port_count as u32, "port count", Rule::Count(MAX_PORTS as u32));
+        for port in &set.ports[..set.port_count as usize] {
+            layout.port(port);
+        }
+        layout.field(1, set.table_count as u32, "table count", Rule::Count(MAX_TABLES as u32));
+        for table in &set.tables[..set.table_count as usize] {
+            layout.table(table);
+        }
+        agree(&mut layout.octets);
+        layout
+    }
+
+    /// Breaks the rule of one field with the given name, and gives its place; none where no such field can be broken.
+    pub fn break_rule(&mut self, random: &mut Random, name: &str) -> Option<usize> {
+        let round = random.below(12);
+        self.break_rule_by(random, name, round)
+    }
+
+    /// As `break_rule`; the round chooses among the bad numbers, those nearest to good ones first.
+    fn break_rule_by(&mut self, random: &mut Random, name: &str, round: usize) -> Option<usize> {
+        let mut fields: Vec<Field> = self.fields.iter().filter(|field| field.name == name).cloned().collect();
+        random.shuffle(&mut fields);
+        for field in fields {
+            if let Some(number) = bad_number(random, &field, round) {
+                self.octets[field.at..field.at + field.width].copy_from_slice(&number.to_be_bytes()[4 - field.width..]);
+                return Some(field.at);
+            }
+        }
+        None
+    }
+}
+
+/// A number that breaks the field's rule, if there is one.
+fn bad_number(random: &mut Random, field: &Field, round: usize) -> Option<u32> {
+    let most = if field.width == 4 { u32::MAX } else { (1 << (8 * field.width)) - 1 };
+    match &field.rule {
+        Rule::Free => None,
+        Rule::Count(limit) => Some([limit + 1, most, limit + 2, most / 2 + 1][round % 4]),
+        Rule::NotZero => Some(0),
+        Rule::Zero => Some([1, most, most / 2 + 1][round % 3]),
+        Rule::ZeroOrOne => Some([2, most, 3, most / 2 + 1][round % 4]),
+        Rule::Domain(domain) => Some(if random.chance(1, 4) { 0 } else { other_domain(random, *domain) }),
+        Rule::Least(0) => None,
+        Rule::Least(least) => Some([least - 1, 0, least.saturating_sub(2)][round % 3]),
+        Rule::High(0) => Some(most),
+        Rule::High(low) => Some([most, low - 1, 0][round % 3]),
+        Rule::Target(width, before) => {
+            if before.is_empty() || round % 2 == 0 {
+                return Some([most - width, most][round / 2 % 2]);
+            }
+            let row = random.pick(before);
+            let (low, high) = (row.target_low as u32, row.target_high());
+            let inside = random.between(low as usize, high as usize) as u32;
+            Some([high, low.saturating_sub(*width), low, inside][round / 2 % 4])
+        }
+    }
+}
+
+/// Makes the length field agree with the octets, where it is whole.
+pub fn agree(octets: &mut [u8]) {
+    let length = (octets.len() as u16).to_be_bytes();
+    if let Some(field) = octets.get_mut(..2) {
+        field.copy_from_slice(&length);
+    }
+}
+
+/// Rules over whole labels: lowest ≤ highest, and an assigned label in range.
+const RANGE_CLAUSES: [usize; 6] = [5, 6, 7, 8, 9, 10];
+
+/// Breaks a rule over a whole label of one port, and gives the name of the field that is blamed.
+pub fn break_range(random: &mut Random, port: &mut PortRecord, turn: usize) -> &'static str {
+    let clause = RANGE_CLAUSES[turn % RANGE_CLAUSES.len()];
+    break_port(random, port, 3 * ILL_FORMED + clause);
+    if clause < 7 {
+        "highest domain"
+    } else {
+        "assigned domain"
+    }
+}
+
+// Cases.
+
+/// The octets of a file with one broken rule; `pairs` breaks a second one too.
+fn broken_file(random: &mut Random, turn: usize, pairs: bool) -> Vec<u8> {
+    let mut set = rich_set(random);
+    let (way, round) = (turn % (RULED.len() + 4), turn / (RULED.len() + 4));
+    if way >= RULED.len() + 2 {
+        let place = random.below(set.port_count as usize);
+        break_range(random, &mut set.ports[place], round * 2 + way - RULED.len() - 2);
+    }
+    let mut layout = Layout::of(&set);
+    if let Some(name) = RULED.get(way) {
+        layout.break_rule_by(random, name, round);
+    }
+    if pairs {
+        let name = random.pick(&RULED);
+        layout.break_rule(random, name);
+    }
+    let mut octets = layout.octets;
+    if way == RULED.len() || pairs && random.chance(1, 8) {
+        // Octets after the last table.
+        let count = random.pick(&[1, 1, 2, 5]);
+        octets.extend(random.octets(count));
+        agree(&mut octets);
+    }
+    if way == RULED.len() + 1 {
+        // More or fewer records than counted.
+        let counts: Vec<Field> = layout.fields.iter().filter(|field| field.name.ends_with("count")).cloned().collect();
+        let field = random.pick(&counts);
+        let last = field.at + field.width - 1;
+        octets[last] = if random.chance(1, 2) { octets[last].wrapping_add(1) } else { octets[last].wrapping_sub(1) };
+    }
+    octets
+}
+
+pub fn file_accepted(random: &mut Random, turn: usize, _number: u8) -> Made {
+    Made::Case(Case::ReadFile(file_of(&sound_set(random, turn))))
+}
+
+pub fn file_rule_broken(random: &mut Random, turn: usize, _number: u8) -> Made {
+    Made::Case(Case::ReadFile(broken_file(random, turn, false)))
+}
+
+pub fn file_rules_broken(random: &mut Random, turn: usize, _number: u8) -> Made {
+    Made::Case(Case::ReadFile(broken_file(random, turn, true)))
+}
+
+/// Good files cut at every octet, with a length that agrees.
+pub fn file_cut(random: &mut Random, turn: usize, _number: u8) -> Made {
+    let mut octets = file_of(&rich_set(random));
+    let length = if turn % 4 == 3 { octets.len() - 1 - turn / 4 % 8 } else { turn * 5 % octets.len() };
+    octets.truncate(length);
+    agree(&mut octets);
+    Made::Case(Case::ReadFile(octets))
+}
+
+/// A length that doesn't agree, with or without other faults, and files about the limit of 32 KiB.
+pub fn file_length_wrong(random: &mut Random, turn: usize, _number: u8) -> Made {
+    let mut octets = if turn % 3 == 0 { broken_file(random, turn, false) } else { file_of(&rich_set(random)) };
+    let length = octets.len();
+    match turn % 12 {
+        0 => octets.truncate(random.below(2)),
+        1 => octets = vec![0, 2],
+        2 => octets[..2].fill(0),
+        3 => octets[..2].fill(255),
+        4 => octets.swap(0, 1),
+        5 => octets[1] = octets[1].wrapping_add(1),
+        6 => octets[1] = octets[1].wrapping_sub(1),
+        7 => octets.truncate(random.between(2, length - 1)),
+        8 => octets.push(0),
+        9 => {
+            // Its version is not known either.
+            octets[VERSION_AT] = random.pick(&[0, 2, 3, 255]);
+            octets[1] = octets[1].wrapping_add(1);
+        }
+        // A length over the limit comes after the version and before all else; at the limit it is no fault.
+        10 | 11 if turn % 48 < 12 => {
+            let length = if turn % 2 == 0 { MAX_FILE } else { [MAX_FILE + 1, LONGEST, MAX_FILE + 2][turn / 48 % 3] };
+            octets.resize(length, 0);
+            agree(&mut octets);
+        }
+        10 => octets[0] = octets[0].wrapping_add(random.between(1, 255) as u8),
+        _ => octets[..2].copy_from_slice(&(random.next() as u16).to_be_bytes()),
+    }
+    Made::Case(Case::ReadFile(octets))
+}
+
+fn other_version(random: &mut Random, turn: usize) -> Vec<u8> {
+    let mut octets = if turn % 4 == 3 { broken_file(random, turn, true) } else { file_of(&rich_set(random)) };
+    octets[VERSION_AT] = match turn % 6 {
+        0 => 2,
+        1 => 0,
+        2 => 3,
+        3 => 255,
+        _ => random.octet(),
+    };
+    if turn % 5 == 4 {
+        octets.truncate(random.between(3, 6));
+    } else if turn % 100 == 50 {
+        octets.resize(MAX_FILE + 1 + random.below(100), 0);
+    }
+    agree(&mut octets);
+    octets
+}
+
+pub fn file_version(random: &mut Random, turn: usize, _number: u8) -> Made {
+    Made::Case(Case::ReadFile(other_version(random, turn)))
+}
+
+/// One octet changed.
+pub fn file_changed(random: &mut Random, turn: usize, _number: u8) -> Made {
+    let mut octets = file_of(&if turn % 2 == 0 { rich_set(random) } else { sound_set(random, 5) });
+    let place = random.below(octets.len());
+    octets[place] = match random.below(4) {
+        0 => octets[place] ^ 1 << random.below(8),
+        1 => octets[place].wrapping_add(1),
+        2 => octets[place].wrapping_sub(1),
+        _ => random.octet(),
+    };
+    Made::Case(Case::ReadFile(octets))
+}
+
+fn output_about(random: &mut Random, turn: usize, needed: usize) -> Output {
+    let length = match turn % 4 {
+        0 | 1 => needed,
+        2 => needed + 1,
+        _ => needed + random.between(2, 300),
+    };
+    Output { length, fill: random.pick(&[0, 0x55, 0xaa, 0xff]) }
+}
+
+fn short_output(random: &mut Random, turn: usize, needed: usize) -> Output {
+    let length = match turn % 4 {
+        0 | 1 => needed - 1,
+        2 => random.below(needed),
+        _ => random.pick(&[0, 1, 2, 3, 4]),
+    };
+    Output { length, fill: random.octet() }
+}
+
+pub fn file_written(random: &mut Random, turn: usize, _number: u8) -> Made {
+    let octets = file_of(&sound_set(random, turn));
+    let output = output_about(random, turn / 16 + turn, octets.len());
+    Made::Case(Case::ReadAndWrite(octets, output))
+}
+
+pub fn file_written_short(random: &mut Random, turn: usize, _number: u8) -> Made {
+    let octets = file_of(&sound_set(random, turn + 5));
+    let output = short_output(random, turn, octets.len());
+    Made::Case(Case::ReadAndWrite(octets, output))
+}
+
+pub fn file_not_written(random: &mut Random, turn: usize, _number: u8) -> Made {
+    let octets = broken_file(random, turn, turn % 2 == 0);
+    let mut output = output_about(random, turn, octets.len());
+    // The longest output costs nothing where none is shown.
+    if turn % 4 == 1 {
+        output.length = 65_535;
+    }
+    Made::Case(Case::ReadAndWrite(octets, output))
+}
+
+pub fn file_not_written_version(random: &mut Random, turn: usize, _number: u8) -> Made {
+    let octets = other_version(random, turn);
+    let output = output_about(random, turn, octets.len());
+    Made::Case(Case::ReadAndWrite(octets, output))
+}
+
+pub fn set_written(random: &mut Random, turn: usize, _number: u8) -> Made {
+    let set = sound_set(random, turn);
+    let output = output_about(random, turn / 16 + turn, file_of(&set).len());
+    Made::Case(Case::WriteFile(Box::new(set), output))
+}
+
+pub fn set_written_short(random: &mut Random, turn: usize, _number: u8) -> Made {
+    let set = sound_set(random, turn + 5);
+    let output = short_output(random, turn, file_of(&set).len());
+    Made::Case(Case::WriteFile(Box::new(set), output))
+}
+
+/// Wrong counts, places past the count that hold something, and unsound records. 2 comes before 1.
+pub fn set_unsound(random: &mut Random, turn: usize, _number: u8) -> Made {
+    let mut set = rich_set(random);
+    let output = if turn % 5 == 0 { short_output(random, turn, 60) } else { Output { length: 600, fill: random.octet() } };
+    let (ports, tables) = (set.port_count as usize, set.table_count as usize);
+    let (port, table) = (random.below(ports), random.below(tables));
+    let (way, round) = (turn % 16, turn / 16);
+    match way {
+        // Every place that there is holds a sound record.
+        0 if round % 2 == 0 => {
+            set = SetRecord::of(&several(random, MAX_PORTS, plain_port), &[]);
+            set.port_count = 17;
+        }
+        1 if round % 2 == 0 => {
+            set = SetRecord::of(&[], &several(random, MAX_TABLES, small_table));
+            set.table_count = 9;
+        }
+        0 => set.port_count = random.pick(&[17, 18, 128, 255]),
+        1 => set.table_count = random.pick(&[9, 10, 128, 255]),
+        // A place within the count that is all zero.
+        2 => set.port_count += 1,
+        3 => set.table_count += 1,
+        4 => set.ports[port] = PortRecord::ALL_ZERO,
+        5 => set.tables[table] = TableRecord::ALL_ZERO,
+        // A place past the count that isn't.
+        6 => set.port_count -= 1,
+        7 => set.table_count -= 1,
+        8 => match round % 6 {
+            0 => set.ports[ports].domain = 1,
+            1 => set.ports[ports].lowest.level = 1,
+            2 => set.ports[MAX_PORTS - 1].highest.count = 1,
+            3 => set.ports[MAX_PORTS - 1].required = true,
+            4 => set.ports[ports].assigned.places[MAX_RUNS - 1].high = 1,
+            _ => set.ports[random.between(ports, MAX_PORTS - 1)] = set.ports[port].clone(),
+        },
+        9 => match round % 6 {
+            0 => set.tables[tables].from = 1,
+            1 => set.tables[MAX_TABLES - 1].to = 1,
+            2 => set.tables[tables].level_count = 1,
+            3 => set.tables[MAX_TABLES - 1].row_count = 1,
+            4 => set.tables[tables].levels[MAX_LEVEL_PAIRS - 1][1] = 1,
+            _ => set.tables[tables].rows[MAX_ROWS - 1].target_low = 1,
+        },
+        // Counts that the short form of a table cannot have.
+        10 => set.tables[table].level_count = random.pick(&[256, 257, 258, 272, 65_535]),
+        11..=13 => break_port(random, &mut set.ports[port], round * 3 + way - 11),
+        _ => break_table(random, &mut set.tables[table], round * 2 + way - 14),
+    }
+    Made::Case(Case::WriteFile(Box::new(set), output))
+}
