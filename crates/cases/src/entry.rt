@@ -4,12 +4,15 @@ use crate::decision_entries::ask_forward;
 use crate::field::take_octet;
 use crate::file_entries::ask_read_file;
 use crate::file_entries::ask_read_write;
+use crate::file_entries::ask_write;
 use crate::label_entries::ask_contains;
 use crate::label_entries::ask_renumber;
 use crate::label_entries::ask_within;
 use crate::line::put_broken;
+use crate::option_entries::ask_bitmap;
 use crate::option_entries::ask_read;
 use crate::option_entries::ask_spell;
+use crate::table_entries::ask_reverse;
 
 // The line of one case.
 pub fn answer(case: &[u8], out: &mut [u8], n: usize) -> usize {
@@ -28,6 +31,9 @@ pub fn answer(case: &[u8], out: &mut [u8], n: usize) -> usize {
         9 => ask_deliver(case, at, true, out, n),
         10 => ask_read_file(case, at, out, n),
         11 => ask_read_write(case, at, out, n),
+        12 => ask_write(case, at, out, n),
+        22 => ask_reverse(case, at, out, n),
+        24 => ask_bitmap(case, at, out, n),
         _ => put_broken(out, n),
     }
 }

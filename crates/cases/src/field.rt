@@ -104,6 +104,20 @@ pub fn take_stored(case: &[u8], at: usize, limit: usize) -> Octet
     stored
 }
 
+// Two octets that say the same; a limit of 65,535 or more is none.
+pub fn take_limited(case: &[u8], at: usize, limit: usize) -> Short
+    ensures { λ r. ⌜ r .value ≤ limit ⌝ }
+{
+    let stored = take_short(case, at);
+    if limit < stored.value as usize {
+        return Short {
+            value: 0,
+            next: CUT,
+        };
+    }
+    stored
+}
+
 // The next `size` octets.
 pub fn take_part(case: &[u8], at: usize, size: usize) -> Part {
     if at <= case.len() {

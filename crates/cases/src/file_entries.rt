@@ -1,13 +1,20 @@
-// Entries 10 and 11: the house file.
+// Entries 10 to 12: the house file.
 use crate::field::Part;
 use crate::field::octets_of;
 use crate::field::take_octet;
 use crate::field::take_part;
 use crate::field::take_short;
+use crate::field::take_stored;
 use crate::line::put_broken;
+use crate::record::levels_at;
+use crate::record::take_wide_port;
+use crate::record::take_wide_table;
 use file::read_file;
 use file::write_file;
 use fileset::Set;
+use fileset::empty_set;
+use filetable::LevelPair;
+use filetable::Renumbering;
 use lines::put_decimal;
 use lines::put_hex;
 use lines::put_next;
@@ -89,5 +96,83 @@ pub fn ask_read_write(case: &[u8], at: usize, out: &mut [u8], n: usize) -> usize
         return put_refused(out, n, file.verdict, file.at, octets);
     }
     let set = file.set;
+    put_written(out, n, set, room.value, fill.value)
+}
+
+// A set, and the place after it.
+struct TakenSet {
+    set: Set,
+    next: usize,
+}
+
+// Port count, and the ports that are stored; those from there on are all zero.
+fn take_ports(case: &[u8], at: usize) -> TakenSet {
+    let count = take_octet(case, at);
+    let stored = take_stored(case, count.next, 16);
+    let mut set = empty_set();
+    set.portcount = count.value as usize;
+    let m = stored.value as usize;
+    let mut next = stored.next;
+    let mut i: usize = 0;
+    while i < m {
+        let taken = take_wide_port(case, next);
+        let port = taken.port;
+        set.ports[i] = port;
+        next = taken.next;
+        i += 1;
+    }
+    TakenSet {
+        set: set,
+        next: next,
+    }
+}
+
+// Table count, and the tables that are stored.
+fn take_tables(case: &[u8], taken: TakenSet) -> TakenSet {
+    let count = take_octet(case, taken.next);
+    let stored = take_stored(case, count.next, 8);
+    let mut set = taken.set;
+    set.tablecount = count.value as usize;
+    let m = stored.value as usize;
+    let mut next = stored.next;
+    let mut i: usize = 0;
+    while i < m {
+        let wide = take_wide_table(case, next);
+        let table = wide.table;
+        let pairs = pairs_of(levels_at(case, wide.levels, wide.stored));
+        set.tables[i] = Renumbering {
+            table: table,
+            levels: pairs,
+        };
+        next = wide.next;
+        i += 1;
+    }
+    TakenSet {
+        set: set,
+        next: next,
+    }
+}
+
+// Level pairs as a file's set holds them.
+fn pairs_of(levels: [[u8; 2]; 16]) -> [LevelPair; 16] {
+    let mut pairs = [LevelPair { levels: [0u8; 2] }; 16];
+    let mut i: usize = 0;
+    while i < 16 {
+        let pair = levels[i];
+        pairs[i] = LevelPair { levels: pair };
+        i += 1;
+    }
+    pairs
+}
+
+pub fn ask_write(case: &[u8], at: usize, out: &mut [u8], n: usize) -> usize {
+    let ports = take_ports(case, at);
+    let taken = take_tables(case, ports);
+    let room = take_short(case, taken.next);
+    let fill = take_octet(case, room.next);
+    if fill.next != case.len() {
+        return put_broken(out, n);
+    }
+    let set = taken.set;
     put_written(out, n, set, room.value, fill.value)
 }

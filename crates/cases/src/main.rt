@@ -13,6 +13,7 @@ mod label_entries;
 mod line;
 mod option_entries;
 mod record;
+mod table_entries;
 
 use entry::answer;
 use line::put_broken;

@@ -1,4 +1,4 @@
-// Entries 4 and 5: one option spelled and read.
+// Entries 4, 5 and 24: one option spelled and read, and a bitmap read by the table of octets.
 use crate::field::LONGEST;
 use crate::field::octets_of;
 use crate::field::take_octets;
@@ -7,6 +7,8 @@ use crate::line::put_broken;
 use crate::line::put_label;
 use crate::line::put_lent;
 use crate::record::take_label;
+use bitmap::read_bitmap;
+use label::Label;
 use lines::put_decimal;
 use lines::put_next;
 use reading::read_option;
@@ -37,4 +39,36 @@ pub fn ask_read(case: &[u8], at: usize, out: &mut [u8], n: usize) -> usize {
     let numbered = put_decimal(out, n, r.number as u64);
     let pointed = put_next(out, numbered, r.pointer as u64);
     put_label(out, pointed, label)
+}
+
+// Number, count, low and high of each run.
+pub fn ask_bitmap(case: &[u8], at: usize, out: &mut [u8], n: usize) -> usize {
+    let octets = take_octets(case, at);
+    if octets.next != case.len() {
+        return put_broken(out, n);
+    }
+    let mut keys = [0u32; Label::MAX_RUNS];
+    let found = read_bitmap(octets_of(case, octets.from, octets.end), &mut keys);
+    let numbered = put_decimal(out, n, found.number as u64);
+    let counted = put_next(out, numbered, found.count as u64);
+    put_keys(out, counted, &keys, found.count)
+}
+
+// The runs of the first `count` keys.
+fn put_keys(out: &mut [u8], n: usize, keys: &[u32], count: usize) -> usize {
+    let mut k = n;
+    let mut i: usize = 0;
+    while i < count {
+        if keys.len() <= i {
+            return k;
+        }
+        k = put_key(out, k, keys[i]);
+        i += 1;
+    }
+    k
+}
+
+fn put_key(out: &mut [u8], n: usize, key: u32) -> usize {
+    let low = put_next(out, n, (key / 65536) as u64);
+    put_next(out, low, (key % 65536) as u64)
 }

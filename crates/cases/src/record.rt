@@ -1,5 +1,7 @@
 // The records of a case: labels, ports, a host, the table with its level pairs, and the facts of a datagram.
+use crate::field::CUT;
 use crate::field::take_flag;
+use crate::field::take_limited;
 use crate::field::take_octet;
 use crate::field::take_part;
 use crate::field::take_short;
@@ -93,6 +95,23 @@ pub fn take_port(case: &[u8], at: usize) -> TakenPort {
     }
 }
 
+// A port and the groups of its later fields, of which there are none yet.
+pub fn take_wide_port(case: &[u8], at: usize) -> TakenPort {
+    let taken = take_port(case, at);
+    let groups = take_octet(case, taken.next);
+    let port = taken.port;
+    if groups.value != 0 {
+        return TakenPort {
+            port: port,
+            next: CUT,
+        };
+    }
+    TakenPort {
+        port: port,
+        next: groups.next,
+    }
+}
+
 // Five flags: the facts that the caller states.
 pub fn take_facts(case: &[u8], at: usize) -> TakenFacts {
     let error = take_flag(case, at);
@@ -166,15 +185,55 @@ pub fn take_table(case: &[u8], at: usize) -> TakenTable {
     }
 }
 
+// A wide table: the same, with two octets for each count and for each number of what is stored.
+pub fn take_wide_table(case: &[u8], at: usize) -> TakenTable {
+    let from = take_word(case, at);
+    let to = take_word(case, from.next);
+    let pairs = take_short(case, to.next);
+    let stored = take_limited(case, pairs.next, 16);
+    let n = stored.value as usize;
+    let levels = take_part(case, stored.next, n * 2);
+    let count = take_short(case, levels.next);
+    let lent = take_limited(case, count.next, 64);
+    let t = rows_at(case, lent.next, count.value as usize, lent.value as usize);
+    let mut table = t.table;
+    table.from = from.value;
+    table.to = to.value;
+    table.pairs = pairs.value as usize;
+    TakenTable {
+        table: table,
+        levels: levels.from,
+        stored: n,
+        next: t.next,
+    }
+}
+
 // Row count, and the rows that are stored; the other fields are 0.
 fn take_rows(case: &[u8], at: usize) -> TakenTable {
     let count = take_short(case, at);
     let stored = take_stored(case, count.next, 64);
-    let mut table = empty_table(count.value as usize);
-    let n = stored.value as usize;
-    let mut next = stored.next;
+    rows_at(
+        case,
+        stored.next,
+        count.value as usize,
+        stored.value as usize,
+    )
+}
+
+// The first `stored` rows from a place of the case on, in a table of `count` rows.
+fn rows_at(case: &[u8], at: usize, count: usize, stored: usize) -> TakenTable {
+    let mut table = empty_table(count);
+    let mut next = at;
     let mut i: usize = 0;
-    while i < n {
+    while i < stored {
+        if 64 <= i {
+            return TakenTable {
+                table: table,
+                levels: 0,
+                stored: 0,
+                next: next,
+            };
+        }
         let low = take_short(case, next);
         let high = take_short(case, low.next);
         let target = take_short(case, high.next);

@@ -112,7 +112,7 @@ number-has (r ∷ rs) c d h =
 -- Levels.
 
 -- the first pair is the level's, or the others decide
-partner-cases : (p : List ℕ) (ps : List (List ℕ)) (v w : ℕ) → partnerOf (p ∷ ps) v ≡ Level w
+pub partner-cases : (p : List ℕ) (ps : List (List ℕ)) (v w : ℕ) → partnerOf (p ∷ ps) v ≡ Level w
     → ((getD p 0 0 ≡ v) × (getD p 1 0 ≡ w)) ⊎ (partnerOf ps v ≡ Level w)
 partner-cases p ps v w e = go (eqb (getD p 0 0) v) refl e
   where
@@ -121,7 +121,7 @@ partner-cases p ps v w e = go (eqb (getD p 0 0) v) refl e
     go true q k = inl (eqb-true _ _ q, (cc))
     go false q k = inr k
 
-missing-not : (w : ℕ) → Missing ≡ Level w → ⊥
+pub missing-not : (w : ℕ) → Missing ≡ Level w → ⊥
 missing-not w e = let z : _≡_ {A = ℕ} 0 1 = cc in omega arith
 
 pub record Pair (f g v w : ℕ) : Type 0 where

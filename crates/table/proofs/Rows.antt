@@ -99,7 +99,7 @@ pairs-apart f [] = refl
 pairs-apart f (k ∷ ks) = rw (all-apart f (f k) ks, pairs-apart f ks)
 
 -- disjoint targets are so in whatever order
-apart-sorted : (f : ℕ → Row) (ks : List ℕ) → targetsApart (map f (sortKeys ks)) ≡ targetsApart (map f ks)
+pub apart-sorted : (f : ℕ → Row) (ks : List ℕ) → targetsApart (map f (sortKeys ks)) ≡ targetsApart (map f ks)
 apart-sorted f ks =
     pairs-apart f (sortKeys ks)
     ∙ sorted-pairs (λ a b. apart (f a) (f b)) (λ a b. or-comm (ltb (targetEnd (f a)) (f b .target)) (ltb (targetEnd (f b)) (f a .target))) ks

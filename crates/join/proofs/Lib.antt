@@ -1,0 +1,4 @@
+pub mod Merge
+pub mod Sets
+pub mod Answers
+pub mod Theorems

@@ -1,0 +1,3 @@
+pub mod Reverse
+pub mod Stages
+pub mod Theorems
