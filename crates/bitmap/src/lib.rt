@@ -354,8 +354,8 @@ fn put_runs(keys: &mut [u32], at: usize, head: u32, base: u32, entry: u32, bit: 
 }
 
 // Adds the runs of octet i: where its first touches the last run, the two become one. An octet of ones after a run that touches it is quickest.
-fn add_octet(octets: &[u8], i: usize, entry: u32, keys: &mut [u32], last: Last) -> Last
-    requires { ⌜ (i < length (now octets)) × (length (now octets) ≤ 30) × Right (getD (now octets) i 0) entry × Stands (now octets) i (now keys) last × (120 ≤ length (now keys)) ⌝ }
+fn add_octet(octets: &[u8], i: usize, base: u32, entry: u32, keys: &mut [u32], last: Last) -> Last
+    requires { ⌜ (i < length (now octets)) × (length (now octets) ≤ 30) × Right (getD (now octets) i 0) entry × Stands (now octets) i (now keys) last × (120 ≤ length (now keys)) × (base ≡ i * 524296) ⌝ }
     ensures { λ r. ⌜ Stands (now (octets .entry)) (i + 1) (now (keys .exit)) r × (last .count ≤ r .count) × (drop (r .count) (now (keys .exit)) ≡ drop (r .count) (now (keys .entry))) × (length (now (keys .exit)) ≡ length (now (keys .entry))) ⌝ }
 {
     let x = widen(octets[i]);
@@ -376,7 +376,6 @@ fn add_octet(octets: &[u8], i: usize, entry: u32, keys: &mut [u32], last: Last) 
             bit: 1,
         };
     }
-    let base = (i as u32) * 524296;
     if last.bit + x / 128 == 2 {
         return put_runs(keys, last.count - 1, last.key + 1, base, entry, x % 2);
     }
@@ -395,12 +394,15 @@ fn fill(octets: &[u8], keys: &mut [u32]) -> usize
         key: 0,
         bit: 0,
     };
+    // 8 for each octet before, at both ends of a key; counted up, since the compiler makes the product of a turn twice
+    let mut base: u32 = 0;
     let mut i: usize = 0;
     while i < n {
         let x = place_of(octets[i]);
         let entry = table[x];
-        last = add_octet(octets, i, entry, keys, last);
+        last = add_octet(octets, i, base, entry, keys, last);
         i += 1;
+        base += 524296;
     }
     last.count
 }

@@ -7,7 +7,7 @@ use lib.ListN.{length, take, drop, length-map}
 use lib.Seq.{take-at}
 use lib.Dec.{eqb}
 use native.Mathlib.Omega.{arith}
-use borrow.Author.Tests.{lt-ltb, le-ltb, ne-eqb}
+use borrow.Author.Tests.{lt-ltb, le-ltb, ne-eqb, eqb-true}
 use Rattle.label.specs.declared.Run.{Run}
 use Rattle.label.specs.declared.Label.{Label}
 use Rattle.label.specs.Runs.{joined}
@@ -129,6 +129,14 @@ module _ (o keys keys′ : List ℕ) (r : KeyReading) (t : ReadsTag o keys keys�
         held = t .held;
         reading = λ k. ap (λ (x : ℕ). labelled x r keys′) (sym e) ∙ t .reading ∙ sym f;
       }
+
+-- Only a reading with number 0 has its domain.
+pub owner-is : {o keys : List ℕ} {r : KeyReading} → AloneRead o keys r → (d : ℕ) → (10 ≤ length o → d ≡ domainOf o) → cond (eqb (r .number) 0) d 0 ≡ cond (eqb (r .number) 0) (domainOf o) 0
+owner-is {o} {keys} {r} a d h = go (eqb (r .number) 0) refl
+  where
+    go : (t : Bool) → eqb (r .number) 0 ≡ t → cond t d 0 ≡ cond t (domainOf o) 0
+    go true e = h (a .long (eqb-true _ _ e))
+    go false e = refl
 
 -- The label is made of the keys.
 pub alone-is : {o keys : List ℕ} {r : KeyReading} → AloneRead o keys r → (d : ℕ) → d ≡ cond (eqb (r .number) 0) (domainOf o) 0 → (x : Reading) → x ≡ withLabel d r keys → x ≡ readingOf o

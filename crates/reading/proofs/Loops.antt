@@ -2,7 +2,7 @@
 use Prim.Native.Nat.{ℕ, zero, suc, _+_, _-_, _*_, _/_, _%_, _≤_, _<_, zero-le}
 use mathlib.Core.Path.{_≡_, refl, ap, sym, _∙_}
 use mathlib.Core.List.{List, [], _++_, map}
-use mathlib.Core.Bool.{Bool, true, false, cond, _||_}
+use mathlib.Core.Bool.{Bool, true, false, cond, _||_, or-true}
 use mathlib.Core.Logic.{_⊎_, inl, inr, ⊎-elim}
 use lib.ListN.{length, drop, length-map}
 use lib.Dec.{leb, ltb, eqb}
@@ -12,15 +12,15 @@ use Rattle.label.specs.declared.Run.{Run}
 use Rattle.label.specs.Runs.{pushRun, joined, topOf}
 use Rattle.label.proofs.Bools.{less-or}
 use Rattle.label.proofs.Canon.{canon-length}
-use Rattle.label.proofs.Push.{push-length, push-more, push-top}
-use borrow.Author.Tests.{eqb-false, le-leb, lt-leb, lt-ltb, le-ltb}
+use Rattle.label.proofs.Push.{push-length, push-more, push-some, push-top}
+use borrow.Author.Tests.{eq-eqb, ne-eqb, eqb-false, le-leb, lt-leb, lt-ltb, le-ltb}
 use Rattle.bitmap.specs.declared.Found.{Found}
 use Rattle.bitmap.specs.Bitmap.{bitmapRuns, bitmapFound, bitmapKeys}
 use Rattle.bitmap.proofs.Theorems.{bitmap-below, bitmap-most, bitmap-found, bitmap-keys}
 use Rattle.option.specs.Bitmap.{bitAt}
 use Rattle.option.specs.Option.{numbersIn, singles, pairsIn}
 use Rattle.option.specs.Reading.{turned, bitPieces, pieces}
-use Rattle.option.specs.Index.{setRuns, rangeRuns, firstTrue, numberAt, badNumber, badPair, pairsOf, lowPair, highPair}
+use Rattle.option.specs.Index.{setRuns, rangeRuns, firstTrue, numberAt, badNumber, badPair, pairsOf, lowPair, highPair, topAt, bottomAt}
 use Rattle.option.proofs.Pieces.{joined-good, bits-falling}
 use Rattle.option.proofs.Bridge.{set-joined, numbers-joined, pairs-joined}
 use Rattle.option.proofs.Bad.{first-is}
@@ -29,7 +29,7 @@ use Rattle.label.specs.Keys.{runKey}
 use Rattle.reading.specs.declared.Last.{Last}
 use Rattle.reading.specs.declared.Pass.{Pass}
 use Rattle.reading.specs.Keys.{runsIn, atFront}
-use Rattle.reading.specs.Stages.{PassOver}
+use Rattle.reading.specs.Stages.{limitAt, PassOver}
 use Rattle.label.proofs.Keys.{keys-back}
 use Rattle.reading.proofs.Building.{Stands, stands-count}
 
@@ -132,3 +132,28 @@ pass-bitmap b was keys f h room e =
 -- below the next number is at most this one
 pub below-next : (a b : ℕ) → ltb a (b + 1) ≡ leb a b
 below-next a b = ⊎-elim (λ w. lt-ltb a (b + 1) (omega arith) ∙ sym (le-leb a b (omega arith))) (λ w. le-ltb a (b + 1) w ∙ sym (lt-leb a b (omega arith))) (less-or a (b + 1))
+
+-- no runs only of no pieces
+pub range-none : (lo hi : ℕ → ℕ) (n : ℕ) → eqb n 0 ≡ eqb (length (rangeRuns lo hi n)) 0
+range-none lo hi zero = refl
+range-none lo hi (suc n) = ne-eqb (suc n) 0 (λ e. omega arith) ∙ sym (ne-eqb (length (rangeRuns lo hi (suc n))) 0 (λ e. omega (arith, push-some (lo n) (hi n) (rangeRuns lo hi n))))
+
+pub left-none : (j n : ℕ) → j ≤ n → eqb j n ≡ eqb (n - j) 0
+left-none j n h = ⊎-elim (λ w. ne-eqb j n (λ e. omega arith) ∙ sym (ne-eqb (n - j) 0 (λ e. omega arith))) (λ w. eq-eqb j n (omega arith) ∙ sym (eq-eqb (n - j) 0 (omega arith))) (less-or j n)
+
+pub limit-first : (b : List ℕ) (j : ℕ) → j ≡ 0 → limitAt b j ≡ 65535
+limit-first b j e = rw (eq-eqb j 0 e)
+
+pub limit-is : (b : List ℕ) (j : ℕ) → 0 < j → limitAt b j ≡ bottomAt b (j - 1)
+limit-is b j h = rw (ne-eqb j 0 (λ e. omega arith))
+
+-- Tag 5: a top that is not below the limit is 65535, or not below the bottom before it.
+pub bad-pair-is : (b : List ℕ) (j : ℕ) → topAt b j < 65536 → limitAt b j < 65536 → (ltb (topAt b j) (bottomAt b j) || ltb (limitAt b j) (topAt b j + 1)) ≡ badPair b j
+bad-pair-is b zero t l = rw (below-next 65535 (topAt b zero)) (⊎-elim
+    (λ w. rw (ne-eqb (topAt b zero) 65535 (λ e. omega arith), lt-leb 65535 (topAt b zero) w))
+    (λ w. rw (eq-eqb (topAt b zero) 65535 (omega arith), le-leb 65535 (topAt b zero) w) (or-true (ltb (topAt b zero) (bottomAt b zero))))
+    (less-or (topAt b zero) 65535))
+bad-pair-is b (suc j) t l = rw (limit-is b (suc j) (omega arith), below-next (bottomAt b (suc j - 1)) (topAt b (suc j)), lt-ltb 0 (suc j) (omega arith)) (⊎-elim
+    (λ w. rw (ne-eqb (topAt b (suc j)) 65535 (λ e. omega arith)))
+    (λ w. rw (eq-eqb (topAt b (suc j)) 65535 (omega arith), le-leb (bottomAt b (suc j - 1)) (topAt b (suc j)) (omega (arith, limit-is b (suc j) (omega arith), l))) (or-true (ltb (topAt b (suc j)) (bottomAt b (suc j)))))
+    (less-or (topAt b (suc j)) 65535))

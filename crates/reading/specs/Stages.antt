@@ -1,6 +1,6 @@
 -- What only private functions answer: how runs are made of ascending pieces, one after the other, which the readers of tags 2 and 5 do alike; one
 -- pass over a tag's categories; rows 9 to 13.
-use Prim.Native.Nat.{ℕ, _+_, _≤_}
+use Prim.Native.Nat.{ℕ, _+_, _-_, _≤_}
 use mathlib.Core.Path.{_≡_}
 use mathlib.Core.List.{List, [], _∷_}
 use mathlib.Core.Bool.{_&&_, cond}
@@ -10,6 +10,7 @@ use Rattle.label.specs.declared.Run.{Run}
 use Rattle.label.specs.Runs.{topOf}
 use Rattle.label.specs.Keys.{keyRuns}
 use Rattle.option.specs.Option.{domainOf}
+use Rattle.option.specs.Index.{bottomAt}
 use Rattle.reading.specs.declared.Last.{Last}
 use Rattle.reading.specs.declared.KeyReading.{KeyReading}
 use Rattle.reading.specs.declared.Pass.{Pass}
@@ -32,6 +33,10 @@ afterPiece x l h =
     cond (ltb 0 (x .count) && eqb (x .next) l)
     (record { count = x .count; low = x .low; next = h + 1 })
     (record { count = x .count + 1; low = l; next = h + 1 })
+
+-- tag 5: what the top of pair j is to lie below: the bottom of the pair before it; of the first pair 65535, which is no category
+abbrev pub limitAt : List ℕ → ℕ → ℕ
+limitAt b j = cond (eqb j 0) 65535 (bottomAt b (j - 1))
 
 -- what rows 9 to 13 answer and leave, as `ReadsKeys` says it of an area's option
 pub record ReadsTag (o keys keys′ : List ℕ) (r : KeyReading) : Type 0 where

@@ -1,15 +1,15 @@
 // Reading one CIPSO option (document 01, "Option and tags", "Asked alone" and rows 3 and 7 to 13 of the table): the label that it means,
 // or the first refusal that applies with its place in the option.
 ghost use mathlib.Core.Path.{_≡_};
-ghost use Prim.Native.Nat.{_+_, _*_, _%_, _≤_, _<_};
+ghost use Prim.Native.Nat.{_+_, _-_, _*_, _%_, _≤_, _<_};
 ghost use mathlib.Core.Bool.{cond, _&&_, _||_};
-ghost use lib.Dec.{leb, eqb};
+ghost use lib.Dec.{leb, ltb, eqb};
 ghost use lib.ListN.{length};
 ghost use Rattle.label.specs.Runs.{run};
 ghost use Rattle.label.specs.Keys.{runKey};
 ghost use Rattle.option.specs.Option.{domainOf};
-ghost use Rattle.option.specs.Index.{numberAt, bottomAt, pairsOf, badPair};
-ghost use Rattle.reading.specs.Stages.{afterPiece, PassOver, ReadsTag, AloneRead};
+ghost use Rattle.option.specs.Index.{numberAt, bottomAt};
+ghost use Rattle.reading.specs.Stages.{afterPiece, limitAt, PassOver, ReadsTag, AloneRead};
 ghost use Rattle.reading.specs.Reading.{refusal, knownTag, goodLength, readingOf};
 ghost use Rattle.reading.specs.Keys.{keyed, withLabel, ReadsKeys};
 use bitmap::read_bitmap;
@@ -65,13 +65,14 @@ fn key_of(low: u16, high: u16) -> u32
     (low as u32) * 65536 + (high as u32)
 }
 
-// The categories low to high are added above all others: where they touch the last run, they become part of it.
-fn add_piece(last: Last, low: u16, high: u16) -> Last
-    requires { ⌜ last .count ≤ 120 ⌝ }
+// The categories low to high are added above all others: where they touch the last run, they become part of it. The caller says whether they
+// are the first, by its own counter, so that only its first turn asks.
+fn add_piece(last: Last, first: bool, low: u16, high: u16) -> Last
+    requires { ⌜ (last .count ≤ 120) × (first ≡ eqb (last .count) 0) ⌝ }
     ensures { λ r. ⌜ r ≡ afterPiece last low high ⌝ }
 {
     let next = (high as u32) + 1;
-    if last.count == 0 {
+    if first {
         return Last {
             count: 1,
             low: low,
@@ -143,7 +144,7 @@ fn number_keys(octets: &[u8], keys: &mut [u32]) -> Pass
                 bad: 2 * k,
             };
         }
-        last = add_piece(last, x, x);
+        last = add_piece(last, k == 0, x, x);
         let at = last.count - 1;
         keys[at] = key_of(last.low, x);
         k += 1;
@@ -165,25 +166,34 @@ fn bottom_at(octets: &[u8], j: usize) -> u16
     0
 }
 
-// Tag 5: a top that is 65535, below its bottom, or not below the bottom before it; the category after the top may be that bottom.
-fn bad_pair(octets: &[u8], j: usize) -> bool
-    requires { ⌜ (j ≤ 40) × (j < pairsOf (now octets)) × (length (now octets) % 2 ≡ 0) ⌝ }
-    ensures { λ r. ⌜ r ≡ badPair (now (octets .entry)) j ⌝ }
+// The bottom of the last of n pairs.
+fn last_bottom(octets: &[u8], n: usize) -> u16
+    requires { ⌜ (n ≤ 40) × (length (now octets) % 2 ≡ 0) ⌝ }
+    ensures { λ r. ⌜ (0 < n → r ≡ bottomAt (now (octets .entry)) (n - 1)) ⌝ }
 {
-    let top = number_at(octets, 2 * j);
-    let bottom = bottom_at(octets, j);
-    if top == NO_CATEGORY {
-        return true;
+    if n == 0 {
+        return 0;
     }
-    if top < bottom {
-        return true;
-    }
+    bottom_at(octets, n - 1)
+}
+
+// What the top of pair j is to lie below: the bottom of the pair before it.
+fn limit_at(octets: &[u8], j: usize) -> u16
+    requires { ⌜ (j ≤ 40) × (4 * j ≤ length (now octets)) ⌝ }
+    ensures { λ r. ⌜ (r ≡ limitAt (now (octets .entry)) j) × (r < 65536) ⌝ }
+{
     if j == 0 {
-        return false;
+        return NO_CATEGORY;
     }
-    let before = bottom_at(octets, j - 1);
+    number_at(octets, 2 * j - 1)
+}
+
+// Tag 5: a top below its bottom, or not below the limit, which 65535 never is; the category after the top may be the limit.
+fn bad_pair(top: u16, bottom: u16, limit: u16) -> bool
+    ensures { λ r. ⌜ r ≡ (ltb top bottom || ltb limit (top + 1)) ⌝ }
+{
     let next = (top as u32) + 1;
-    (before as u32) < next
+    (top < bottom) | ((limit as u32) < next)
 }
 
 fn either(first: bool, a: usize, b: usize) -> usize
@@ -207,14 +217,18 @@ fn pair_keys(octets: &[u8], keys: &mut [u32]) -> Pass
         next: 0,
     };
     let mut bad = n;
+    let mut bottom = last_bottom(octets, n);
     let mut j = n;
     while 0 < j {
+        let first = j == n;
         j -= 1;
-        bad = either(bad_pair(octets, j), j, bad);
         let top = number_at(octets, 2 * j);
-        last = add_piece(last, bottom_at(octets, j), top);
+        let limit = limit_at(octets, j);
+        bad = either(bad_pair(top, bottom, limit), j, bad);
+        last = add_piece(last, first, bottom, top);
         let at = last.count - 1;
         keys[at] = key_of(last.low, top);
+        bottom = limit;
     }
     Pass {
         count: last.count,
@@ -337,8 +351,8 @@ fn read_tag(octets: &[u8], keys: &mut [u32]) -> KeyReading
 }
 
 // The keys of one option alone, or the first refusal of 3 and 7 to 13.
-fn read_alone(octets: &[u8], keys: &mut [u32]) -> KeyReading
-    requires { ⌜ 120 ≤ length (now keys) ⌝ }
+fn read_alone(octets: &[u8], domain: u32, keys: &mut [u32]) -> KeyReading
+    requires { ⌜ (120 ≤ length (now keys)) × (10 ≤ length (now octets) → domain ≡ domainOf (now octets)) ⌝ }
     ensures { λ r. ⌜ AloneRead (now (octets .entry)) (now (keys .exit)) r ⌝ }
 {
     let n = octets.len();
@@ -355,20 +369,30 @@ fn read_alone(octets: &[u8], keys: &mut [u32]) -> KeyReading
     if n < option::CATEGORIES_AT {
         return refuse(7, option::LENGTH_AT);
     }
-    if domain_in(octets) == 0 {
+    if domain == 0 {
         return refuse(8, option::DOMAIN_AT);
     }
     read_tag(octets, keys)
 }
 
-fn domain_for(number: u8, octets: &[u8]) -> u32
-    requires { ⌜ (number ≡ 0 → 10 ≤ length (now octets)) ⌝ }
-    ensures { λ r. ⌜ r ≡ cond (eqb number 0) (domainOf (now (octets .entry))) 0 ⌝ }
+// A refusal's label is of domain 0.
+fn owned_by(number: u8, domain: u32) -> u32
+    ensures { λ r. ⌜ r ≡ cond (eqb number 0) domain 0 ⌝ }
 {
     if number == 0 {
-        return domain_in(octets);
+        return domain;
     }
     0
+}
+
+// The domain of an option that is long enough to have one.
+fn domain_alone(octets: &[u8]) -> u32
+    ensures { λ r. ⌜ (10 ≤ length (now (octets .entry)) → r ≡ domainOf (now (octets .entry))) ⌝ }
+{
+    if octets.len() < option::CATEGORIES_AT {
+        return 0;
+    }
+    domain_in(octets)
 }
 
 // A reading into keys with its label.
@@ -390,9 +414,10 @@ pub fn read_option(octets: &[u8]) -> Reading
     ensures { λ r. ⌜ r ≡ readingOf (now (octets .entry)) ⌝ }
 {
     let mut keys = [0u32; 120];
-    let read = read_alone(octets, &mut keys);
-    let domain = domain_for(read.number, octets);
-    to_reading(read, domain, &keys)
+    let domain = domain_alone(octets);
+    let read = read_alone(octets, domain, &mut keys);
+    let owner = owned_by(read.number, domain);
+    to_reading(read, owner, &keys)
 }
 
 // Reads the option 134 of an area for a port of the domain into keys: how many there are, or the first refusal of 7 to 13 with its place in

@@ -88,12 +88,6 @@ returns-2 c =
     let d = c .before .before .before .before in
     turn-ones (b d) (i d) (e d) (ks d) (s d) (start d .pre .0) (start d .pre .1) (start d .pre .2) (start d .pre .3) (start d .pre .4) (x d) (d .before .widen .ensures .0) (d .before .widen .ensures .1) (c .before .before .if2 .taken)
 
-cast-base : tie.Need-cast-base
-cast-base c = search needs
-
-mul-base : tie.Need-mul-base
-mul-base c = search needs
-
 add-if3 : tie.Need-add-if3
 add-if3 c = search needs
 
@@ -115,7 +109,7 @@ returns-3 : tie.Need-returns-3
 returns-3 c =
     let p = c .before .before in
     let d = p .before .before .before .before .before .before .before .before in
-    turn-touch (b d) (i d) (e d) (ks d) (s d) (start d .pre .0) (start d .pre .1) (start d .pre .2) (start d .pre .3) (start d .pre .4) (x d) (d .before .widen .ensures .0) (d .before .widen .ensures .1) (d .if1 .left) (p .before .before .before .before .if3 .taken) _ _ (p .put-runs .ensures)
+    turn-touch (b d) (i d) (e d) (ks d) (s d) (start d .pre .0) (start d .pre .1) (start d .pre .2) (start d .pre .3) (start d .pre .4) (x d) (d .before .widen .ensures .0) (d .before .widen .ensures .1) (d .if1 .left) (p .before .before .before .before .if3 .taken) _ _ (rw (start d .pre .5) at (p .put-runs .ensures))
 
 put-runs-requires-2 : tie.Need-put-runs-requires-2
 put-runs-requires-2 c κs =
@@ -129,7 +123,7 @@ returns-4 : tie.Need-returns-4
 returns-4 c =
     let p = c .before .before in
     let d = p .before .before .before .before .before .before in
-    turn-apart (b d) (i d) (e d) (ks d) (s d) (start d .pre .0) (start d .pre .1) (start d .pre .2) (start d .pre .3) (start d .pre .4) (x d) (d .before .widen .ensures .0) (d .before .widen .ensures .1) (d .if1 .left) (p .before .before .if3 .left) _ _ (p .put-runs2 .ensures)
+    turn-apart (b d) (i d) (e d) (ks d) (s d) (start d .pre .0) (start d .pre .1) (start d .pre .2) (start d .pre .3) (start d .pre .4) (x d) (d .before .widen .ensures .0) (d .before .widen .ensures .1) (d .if1 .left) (p .before .before .if3 .left) _ _ (rw (start d .pre .5) at (p .put-runs2 .ensures))
 
 pub add-octet-spec : {M : Type 1} → statement M
 add-octet-spec =
@@ -145,8 +139,6 @@ add-octet-spec =
     slice-write-keys
     same-length
     returns-2
-    cast-base
-    mul-base
     add-if3
     sub-put-runs
     add-put-runs

@@ -1,7 +1,7 @@
 -- `bitmap::fill` meets its contract. The invariant: the keys of the runs of the first i octets are written, and what stands after them is as at entry.
 use borrow.Author.Needs.{needs}
 use native.Mathlib.Omega.{arith}
-use Prim.Native.Nat.{_-_, _≤_}
+use Prim.Native.Nat.{_-_, _*_, _≤_}
 use mathlib.Core.Path.{_≡_, refl, _∙_}
 use lib.ListN.{drop, length}
 use Rattle.bitmap.specs.Stages.{Stands}
@@ -11,13 +11,13 @@ use Rattle.bitmap.proofs.fill.Statement.{statement}
 use Rattle.bitmap.proofs.fill.Tie as tie
 
 abbrev Inv-loop : tie.InvT-loop
-Inv-loop octets keys₀ n table last₀ i₀ keys last i = Stands octets i keys last × (drop (last .count) keys ≡ drop (last .count) keys₀) × (i ≤ n) × (length keys ≡ length keys₀)
+Inv-loop octets keys₀ n table last₀ base₀ i₀ keys last base i = Stands octets i keys last × (drop (last .count) keys ≡ drop (last .count) keys₀) × (i ≤ n) × (length keys ≡ length keys₀) × (base ≡ i * 524296)
 
 abbrev μ-loop : tie.MeasureT-loop
-μ-loop octets keys₀ n table last₀ i₀ keys last i = n - i
+μ-loop octets keys₀ n table last₀ base₀ i₀ keys last base i = n - i
 
 loop-holds : tie.Need-loop-holds Inv-loop μ-loop
-loop-holds c = (stands-start _ _, refl, omega arith, refl)
+loop-holds c = (stands-start _ _, refl, omega arith, refl, omega arith)
 
 shared-slice-read-place-of : tie.Need-shared-slice-read-place-of Inv-loop μ-loop
 shared-slice-read-place-of c = search needs
@@ -34,10 +34,13 @@ array-read-entry c = search needs
 add-octet-requires : tie.Need-add-octet-requires Inv-loop μ-loop
 add-octet-requires c κs =
     let p = c .before .place-of in
-    (search needs, search needs, rw (← p .ensures .0) (rule (p .result) (p .ensures .1)), c .before .before .before .before .loop .inv .0, omega (arith, c .before .before .before .before .loop .inv .3, c .before .before .before .before .before .before .before .pre .1))
+    (search needs, search needs, rw (← p .ensures .0) (rule (p .result) (p .ensures .1)), c .before .before .before .before .loop .inv .0, omega (arith, c .before .before .before .before .loop .inv .3, c .before .before .before .before .before .before .before .pre .1), c .before .before .before .before .loop .inv .4)
 
 add-i : tie.Need-add-i Inv-loop μ-loop
 add-i c = search needs
+
+add-base : tie.Need-add-base Inv-loop μ-loop
+add-base c = search needs
 
 loop-less : tie.Need-loop-less Inv-loop μ-loop
 loop-less c = omega (arith, c .before .before .before .before .before .before .loop-test .taken)
@@ -46,7 +49,7 @@ loop-again : tie.Need-loop-again Inv-loop μ-loop
 loop-again c =
     let l = c .before .before .before .before .before .before .before .loop in
     let a = c .before .before .add-octet in
-    (a .ensures .0, stays (l .last .count) (a .result .count) _ _ _ (a .ensures .1) (a .ensures .2) (l .inv .1), omega (arith, c .before .before .before .before .before .before .loop-test .taken), a .ensures .3 ∙ l .inv .3)
+    (a .ensures .0, stays (l .last .count) (a .result .count) _ _ _ (a .ensures .1) (a .ensures .2) (l .inv .1), omega (arith, c .before .before .before .before .before .before .loop-test .taken), a .ensures .3 ∙ l .inv .3, omega (arith, l .inv .4))
 
 same-length : tie.Need-same-length Inv-loop μ-loop
 same-length c = c .before .loop .inv .3
@@ -69,6 +72,7 @@ fill-spec =
     array-read-entry
     add-octet-requires
     add-i
+    add-base
     loop-less
     loop-again
     same-length

@@ -7,13 +7,14 @@ use mathlib.Core.Bool.{false}
 use mathlib.Core.List.{List}
 use mathlib.Core.Path.{_≡_, refl, sym, _∙_, ap}
 use lib.ListN.{length, length-set}
+use lib.Dec.{eqb}
 use Rattle.label.specs.declared.Run.{Run}
 use Rattle.label.specs.Runs.{pushRun}
 use Rattle.reading.specs.Stages.{afterPiece}
 use Rattle.option.specs.Index.{rangeRuns, numberAt, badNumber, firstTrue}
 use Rattle.option.proofs.Bad.{first-is}
 use Rattle.reading.proofs.Building.{Stands, stands-nil, stands-count, stands-next, stands-push, piece-count, piece-some}
-use Rattle.reading.proofs.Loops.{range-most, range-next, range-room, bad-number-is, pass-of}
+use Rattle.reading.proofs.Loops.{range-most, range-next, range-none, range-room, bad-number-is, pass-of}
 use Rattle.reading.proofs.number_keys.Statement.{statement}
 use Rattle.reading.proofs.number_keys.Tie as tie
 
@@ -85,7 +86,7 @@ add-piece-requires : tie.Need-add-piece-requires Inv-loop μ-loop
 add-piece-requires c κs =
     let l = c .before .before .before .before .loop in
     let b′ = c .before .before .before .before .before .before .before .args .octets .now in
-    omega (arith, stands-count (l .inv .4), range-most (numberAt b′) (numberAt b′) (l .k), c .before .before .before .before .before .before .before .pre .0)
+    (omega (arith, stands-count (l .inv .4), range-most (numberAt b′) (numberAt b′) (l .k), c .before .before .before .before .before .before .before .pre .0), range-none (numberAt b′) (numberAt b′) (l .k) ∙ ap (λ (z : ℕ). eqb z 0) (sym (stands-count (l .inv .4))))
 
 sub-at : tie.Need-sub-at Inv-loop μ-loop
 sub-at c = omega (arith, stored (c .before))

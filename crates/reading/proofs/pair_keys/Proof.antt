@@ -5,22 +5,24 @@ use Prim.Native.Nat.{ℕ, _+_, _-_, _*_, _/_, _≤_, _<_}
 use mathlib.Core.List.{List}
 use mathlib.Core.Path.{_≡_, refl, sym, _∙_, ap}
 use lib.ListN.{length, length-set}
+use lib.Dec.{ltb, eqb}
+use mathlib.Core.Bool.{_||_}
 use Rattle.label.specs.declared.Run.{Run}
 use Rattle.label.specs.Runs.{run, pushRun}
 use Rattle.label.specs.Keys.{runKey}
-use Rattle.reading.specs.Stages.{afterPiece}
+use Rattle.reading.specs.Stages.{afterPiece, limitAt}
 use Rattle.option.specs.Index.{rangeRuns, pairsOf, lowPair, highPair, badPair, topAt, bottomAt}
 use Rattle.reading.proofs.Building.{Stands, stands-nil, stands-count, stands-push, piece-count, piece-some}
-use Rattle.reading.proofs.Loops.{range-most, range-next, range-room, FirstFrom, first-start, first-next, first-found, pass-of}
+use Rattle.reading.proofs.Loops.{range-most, range-next, range-none, range-room, left-none, limit-is, bad-pair-is, FirstFrom, first-start, first-next, first-found, pass-of}
 use Rattle.reading.proofs.pair_keys.Statement.{statement}
 use Rattle.reading.proofs.pair_keys.Tie as tie
 
 abbrev Inv-loop : tie.InvT-loop
-Inv-loop octets keys₀ n last₀ bad₀ j₀ keys last bad j =
-    (j ≤ n) × (n ≡ pairsOf octets) × (length keys ≡ length keys₀) × FirstFrom (badPair octets) n j bad × Stands keys₀ (rangeRuns (lowPair octets) (highPair octets) (n - j)) keys last
+Inv-loop octets keys₀ n last₀ bad₀ bottom₀ j₀ keys last bad bottom j =
+    (j ≤ n) × (n ≡ pairsOf octets) × (length keys ≡ length keys₀) × FirstFrom (badPair octets) n j bad × Stands keys₀ (rangeRuns (lowPair octets) (highPair octets) (n - j)) keys last × (0 < j → bottom ≡ bottomAt octets (j - 1))
 
 abbrev μ-loop : tie.MeasureT-loop
-μ-loop octets keys₀ n last₀ bad₀ j₀ keys last bad j = j
+μ-loop octets keys₀ n last₀ bad₀ bottom₀ j₀ keys last bad bottom j = j
 
 add-n : tie.Need-add-n Inv-loop μ-loop
 add-n c = search needs
@@ -28,7 +30,7 @@ add-n c = search needs
 -- the turn's pair, and what it adds
 module _ (c : tie.After-add-piece Inv-loop μ-loop) where
   abbrev b : List ℕ
-  b = c .before .before .before .before .before .before .before .before .before .args .octets .now
+  b = c .before .before .before .before .before .before .before .before .before .before .args .octets .now
 
   abbrev n : ℕ
   n = (length b + 2) / 4
@@ -39,7 +41,7 @@ module _ (c : tie.After-add-piece Inv-loop μ-loop) where
   abbrev rs : List Run
   rs = rangeRuns (lowPair b) (highPair b) (n - j)
 
-  stands : Stands (c .before .before .before .before .before .before .before .before .before .args .keys .now) rs (c .before .before .before .before .before .before .loop .keys) (c .before .before .before .before .before .before .loop .last)
+  stands : Stands (c .before .before .before .before .before .before .before .before .before .before .args .keys .now) rs (c .before .before .before .before .before .before .loop .keys) (c .before .before .before .before .before .before .loop .last)
   stands = c .before .before .before .before .before .before .loop .inv .4
 
   abbrev low : ℕ
@@ -51,35 +53,47 @@ module _ (c : tie.After-add-piece Inv-loop μ-loop) where
   at-pair : n - 1 - (n - j) ≡ j - 1
   at-pair = omega (arith, c .before .before .before .before .before .before .loop .inv .0)
 
-  low-is : c .before .bottom-at .result ≡ low
-  low-is = c .before .bottom-at .ensures ∙ ap (bottomAt b) (sym at-pair)
+  some : 0 < j
+  some = c .before .before .before .before .before .loop-test .taken
 
-  high-is : c .before .before .number-at .result ≡ high
-  high-is = c .before .before .number-at .ensures .0 ∙ ap (topAt b) (sym at-pair)
+  bottom-is : c .before .before .before .before .before .before .loop .bottom ≡ bottomAt b (j - 1)
+  bottom-is = c .before .before .before .before .before .before .loop .inv .5 some
+
+  low-is : c .before .before .before .before .before .before .loop .bottom ≡ low
+  low-is = bottom-is ∙ ap (bottomAt b) (sym at-pair)
+
+  top-is : c .before .before .before .before .number-at .result ≡ topAt b (j - 1)
+  top-is = c .before .before .before .before .number-at .ensures .0
+
+  high-is : c .before .before .before .before .number-at .result ≡ high
+  high-is = top-is ∙ ap (topAt b) (sym at-pair)
+
+  limit-at-is : c .before .before .before .limit-at .result ≡ limitAt b (j - 1)
+  limit-at-is = c .before .before .before .limit-at .ensures .0
+
+  bad-is : c .before .before .bad-pair .result ≡ badPair b (j - 1)
+  bad-is = c .before .before .bad-pair .ensures ∙ (λ i. ltb (top-is i) (bottom-is i) || ltb (limit-at-is i) (top-is i + 1)) ∙ bad-pair-is b (j - 1) (omega (arith, top-is, c .before .before .before .before .number-at .ensures .1)) (omega (arith, limit-at-is, c .before .before .before .limit-at .ensures .1))
 
   added : c .add-piece .result ≡ afterPiece (c .before .before .before .before .before .before .loop .last) low high
   added = c .add-piece .ensures ∙ (λ i. afterPiece (c .before .before .before .before .before .before .loop .last) (low-is i) (high-is i))
 
   room : length (pushRun rs low high) ≤ 15
-  room = omega (arith, range-room (lowPair b) (highPair b) (n - j), c .before .before .before .before .before .before .before .before .before .pre .0)
+  room = omega (arith, range-room (lowPair b) (highPair b) (n - j), c .before .before .before .before .before .before .before .before .before .before .pre .0)
 
   stored : (0 < c .add-piece .result .count) × (c .add-piece .result .count ≤ 15)
   stored = (piece-some stands low high _ added, omega (arith, piece-count stands low high _ added, room))
 
+last-bottom-requires : tie.Need-last-bottom-requires Inv-loop μ-loop
+last-bottom-requires c κs = search needs
+
 loop-holds : tie.Need-loop-holds Inv-loop μ-loop
 loop-holds c =
-    let b′ = c .before .before .args .octets .now in
+    let b′ = c .before .before .before .args .octets .now in
     let z : (length b′ + 2) / 4 - (length b′ + 2) / 4 ≡ 0 = omega arith in
-    (omega arith, refl, refl, first-start _ _, rw z (stands-nil _))
+    (omega arith, refl, refl, first-start _ _, rw z (stands-nil _), c .last-bottom .ensures)
 
 sub-j : tie.Need-sub-j Inv-loop μ-loop
 sub-j c = search needs
-
-bad-pair-requires : tie.Need-bad-pair-requires Inv-loop μ-loop
-bad-pair-requires c κs = search needs
-
-either-requires : tie.Need-either-requires Inv-loop μ-loop
-either-requires c κs = search needs
 
 mul-number-at : tie.Need-mul-number-at Inv-loop μ-loop
 mul-number-at c = search needs
@@ -87,15 +101,21 @@ mul-number-at c = search needs
 number-at-requires : tie.Need-number-at-requires Inv-loop μ-loop
 number-at-requires c κs = search needs
 
-bottom-at-requires : tie.Need-bottom-at-requires Inv-loop μ-loop
-bottom-at-requires c κs = search needs
+limit-at-requires : tie.Need-limit-at-requires Inv-loop μ-loop
+limit-at-requires c κs = search needs
+
+bad-pair-requires : tie.Need-bad-pair-requires Inv-loop μ-loop
+bad-pair-requires c κs = search needs
+
+either-requires : tie.Need-either-requires Inv-loop μ-loop
+either-requires c κs = search needs
 
 add-piece-requires : tie.Need-add-piece-requires Inv-loop μ-loop
 add-piece-requires c κs =
     let l = c .before .before .before .before .before .loop in
-    let s = c .before .before .before .before .before .before .before .before in
+    let s = c .before .before .before .before .before .before .before .before .before in
     let b′ = s .args .octets .now in
-    omega (arith, stands-count (l .inv .4), range-most (lowPair b′) (highPair b′) ((length b′ + 2) / 4 - l .j), s .pre .0)
+    (omega (arith, stands-count (l .inv .4), range-most (lowPair b′) (highPair b′) ((length b′ + 2) / 4 - l .j), s .pre .0), left-none (l .j) ((length b′ + 2) / 4) (l .inv .0) ∙ range-none (lowPair b′) (highPair b′) ((length b′ + 2) / 4 - l .j) ∙ ap (λ (z : ℕ). eqb z 0) (sym (stands-count (l .inv .4))))
 
 sub-at : tie.Need-sub-at Inv-loop μ-loop
 sub-at c = omega (arith, stored (c .before))
@@ -115,19 +135,19 @@ loop-less c = search needs
 loop-again : tie.Need-loop-again Inv-loop μ-loop
 loop-again c =
     let d = c .before .before in
-    let t = d .before .before .before in
-    let l = t .before .before .before .loop in
+    let l = d .before .before .before .before .before .before .loop in
     let e : n d - j d + 1 ≡ n d - (j d - 1) = omega (arith, l .inv .0) in (
       omega arith,
       refl,
       simp length-set (l .inv .2),
-      first-next (l .inv .3) (j d - 1) (omega arith) (t .before .bad-pair .result) (t .before .bad-pair .ensures) (t .either .result) (t .either .ensures),
+      first-next (l .inv .3) (j d - 1) (omega (arith, some d)) (d .before .before .bad-pair .result) (bad-is d) (d .before .either .result) (d .before .either .ensures),
       rw (← e, ← range-next (lowPair (b d)) (highPair (b d)) (n d - j d))
-          (stands-push (stands d) (low d) (high d) _ (added d) (omega (arith, room d, t .before .before .before .before .before .before .pre .2)) (omega (arith, high-is d, d .before .before .number-at .ensures .1)) _ (c .key-of .ensures ∙ ap (λ (z : ℕ). runKey (run (d .add-piece .result .low) z)) (high-is d))),
+          (stands-push (stands d) (low d) (high d) _ (added d) (omega (arith, room d, d .before .before .before .before .before .before .before .before .before .before .pre .2)) (omega (arith, high-is d, d .before .before .before .before .number-at .ensures .1)) _ (c .key-of .ensures ∙ ap (λ (z : ℕ). runKey (run (d .add-piece .result .low) z)) (high-is d))),
+      λ p. limit-at-is d ∙ limit-is (b d) (j d - 1) p,
     )
 
-mul-t9 : tie.Need-mul-t9 Inv-loop μ-loop
-mul-t9 c = search needs
+mul-t12 : tie.Need-mul-t12 Inv-loop μ-loop
+mul-t12 c = search needs
 
 same-length : tie.Need-same-length Inv-loop μ-loop
 same-length c = search needs
@@ -135,7 +155,7 @@ same-length c = search needs
 returns : tie.Need-returns Inv-loop μ-loop
 returns c =
     let l = c .before .loop in
-    let s = c .before .before .before .before in
+    let s = c .before .before .before .before .before in
     let b′ = s .args .octets .now in
     let z : l .j ≡ 0 = omega arith in
     let e : pairsOf b′ - l .j ≡ pairsOf b′ = omega arith in
@@ -149,13 +169,14 @@ pair-keys-spec =
     Inv-loop
     μ-loop
     add-n
+    last-bottom-requires
     loop-holds
     sub-j
-    bad-pair-requires
-    either-requires
     mul-number-at
     number-at-requires
-    bottom-at-requires
+    limit-at-requires
+    bad-pair-requires
+    either-requires
     add-piece-requires
     sub-at
     key-of-requires
@@ -163,6 +184,6 @@ pair-keys-spec =
     slice-write-keys
     loop-less
     loop-again
-    mul-t9
+    mul-t12
     same-length
     returns)

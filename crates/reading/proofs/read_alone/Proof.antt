@@ -73,17 +73,18 @@ returns-4 c =
     let d = c .before .before in
     refused-alone (o d) _ 7 1 (λ z. omega arith) _ (c .refuse4 .ensures) (past d ∙ stops7 (o d) _ (c .before .if4 .taken))
 
-domain-in-requires : tie.Need-domain-in-requires
-domain-in-requires c κs = search needs
+-- the domain that is given, past row 7
+domain-is : (c : tie.Else4) → c .before .before .before .before .before .before .before .before .before .args .domain ≡ domainOf (o (c .before))
+domain-is c = c .before .before .before .before .before .before .before .before .before .pre .1 (omega (arith, c .if4 .left))
 
 refuse-requires-5 : tie.Need-refuse-requires-5
 refuse-requires-5 c κs = search needs
 
 returns-5 : tie.Need-returns-5
 returns-5 c =
-    let d = c .before .before .before .before in
+    let d = c .before .before .before in
     refused-alone (o d) _ 8 2 (λ z. omega arith) _ (c .refuse5 .ensures)
-    (past d ∙ stops8 (o d) _ (eq-eqb _ 0 (sym (c .before .before .domain-in .ensures) ∙ c .before .if5 .taken)) (c .before .before .before .if4 .left))
+    (past d ∙ stops8 (o d) _ (eq-eqb _ 0 (sym (domain-is (c .before .before)) ∙ c .before .if5 .taken)) (c .before .before .if4 .left))
 
 read-tag-requires : tie.Need-read-tag-requires
 read-tag-requires c κs = search needs
@@ -95,10 +96,10 @@ returns-6 : tie.Need-returns-6
 returns-6 c =
     let t = c .before .before in
     let e = t .before .before in
-    let d = e .before .before .before in
+    let d = e .before .before in
     tag-alone (o d) _ _ _ (t .read-tag .ensures)
-    (past d ∙ goes-on (o d) _ (ne-eqb _ 0 (λ z. e .if5 .left (e .before .domain-in .ensures ∙ z))) (e .before .before .if4 .left))
-    (e .before .before .if4 .left)
+    (past d ∙ goes-on (o d) _ (ne-eqb _ 0 (λ z. e .if5 .left (domain-is (e .before) ∙ z))) (e .before .if4 .left))
+    (e .before .if4 .left)
 
 pub read-alone-spec : {M : Type 1} → statement M
 read-alone-spec =
@@ -115,7 +116,6 @@ read-alone-spec =
     returns-3
     refuse-requires-4
     returns-4
-    domain-in-requires
     refuse-requires-5
     returns-5
     read-tag-requires

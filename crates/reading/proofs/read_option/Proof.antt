@@ -1,10 +1,12 @@
 -- `reading::read_option` meets its contract.
-use borrow.Author.Needs.{needs}
-use native.Mathlib.Omega.{arith}
-use Rattle.reading.proofs.Keys.{alone-is}
+use mathlib.Core.Path.{_∙_}
+use Rattle.reading.proofs.Keys.{alone-is, owner-is}
 use borrow.Author.Needs.{needs}
 use Rattle.reading.proofs.read_option.Statement.{statement}
 use Rattle.reading.proofs.read_option.Tie as tie
+
+domain-alone-requires : tie.Need-domain-alone-requires
+domain-alone-requires c κs = search needs
 
 slice-aggregate-read-alone : tie.Need-slice-aggregate-read-alone
 slice-aggregate-read-alone c = search needs
@@ -12,8 +14,8 @@ slice-aggregate-read-alone c = search needs
 read-alone-requires : tie.Need-read-alone-requires
 read-alone-requires c κs = search needs
 
-domain-for-requires : tie.Need-domain-for-requires
-domain-for-requires c κs = search needs
+owned-by-requires : tie.Need-owned-by-requires
+owned-by-requires c κs = search needs
 
 slice-aggregate-to-reading : tie.Need-slice-aggregate-to-reading
 slice-aggregate-to-reading c = search needs
@@ -25,15 +27,16 @@ returns : tie.Need-returns
 returns c =
     let d = c .before .before in
     let a = d .before .before in
-    alone-is (a .read-alone .ensures) _ (d .domain-for .ensures) _ (c .to-reading .ensures)
+    alone-is (a .read-alone .ensures) _ (d .owned-by .ensures ∙ owner-is (a .read-alone .ensures) _ (a .before .before .domain-alone .ensures)) _ (c .to-reading .ensures)
 
 pub read-option-spec : {M : Type 1} → statement M
 read-option-spec =
     tie.close
     (tie.spec
+    domain-alone-requires
     slice-aggregate-read-alone
     read-alone-requires
-    domain-for-requires
+    owned-by-requires
     slice-aggregate-to-reading
     to-reading-requires
     returns)
