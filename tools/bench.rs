@@ -28,7 +28,11 @@ extern "C" {
         answer_len: usize,
     ) -> u8;
     fn inglebreek_forward(
-        icmp: bool,
+        error: bool,
+        group: bool,
+        link: bool,
+        fragment: bool,
+        source: bool,
         area: *const u8,
         area_len: usize,
         out: *mut u8,
@@ -514,7 +518,7 @@ fn box_forwarding(area: &[u8]) -> String {
     let mut lent = lend();
     unsafe {
         let (out, answer, runs) = (lent.out.as_mut_ptr(), lent.answer.as_mut_ptr(), lent.runs.as_mut_ptr());
-        inglebreek_forward(false, area.as_ptr(), area.len(), out, OUTPUT, answer, 8, runs, 120)
+        inglebreek_forward(false, false, false, false, false, area.as_ptr(), area.len(), out, OUTPUT, answer, 8, runs, 120)
     };
     whole(&lent.answer, &lent.runs[..lent.answer[7] as usize], &lent.out)
 }

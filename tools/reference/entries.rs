@@ -3,7 +3,7 @@
 // The generator makes cases of these entries alone, and the line for every other one is BROKEN.
 
 /// The entries that the box has. Who builds another one adds its number here.
-pub const BUILT: &[u8] = &[1, 2, 3, 4, 5, 6, 7];
+pub const BUILT: &[u8] = &[1, 2, 3, 4, 5, 6, 7, 8, 9, 10, 11, 12, 22, 24];
 
 /// The entries that this program knows.
 pub const KNOWN: &[u8] = &[1, 2, 3, 4, 5, 6, 7, 8, 9, 10, 11, 12, 22, 24];

@@ -32,23 +32,23 @@ levels-requires c κs = search needs
 forward-requires : tie.Need-forward-requires
 forward-requires c κs = search needs
 
-cast-t17 : tie.Need-cast-t17
-cast-t17 c = search needs
-
-cast-t18 : tie.Need-cast-t18
-cast-t18 c = search needs
-
-cast-t19 : tie.Need-cast-t19
-cast-t19 c = search needs
-
-cast-t20 : tie.Need-cast-t20
-cast-t20 c = search needs
-
 cast-t22 : tie.Need-cast-t22
 cast-t22 c = search needs
 
 cast-t23 : tie.Need-cast-t23
 cast-t23 c = search needs
+
+cast-t24 : tie.Need-cast-t24
+cast-t24 c = search needs
+
+cast-t25 : tie.Need-cast-t25
+cast-t25 c = search needs
+
+cast-t27 : tie.Need-cast-t27
+cast-t27 c = search needs
+
+cast-t28 : tie.Need-cast-t28
+cast-t28 c = search needs
 
 slice-aggregate-put-numbers : tie.Need-slice-aggregate-put-numbers
 slice-aggregate-put-numbers c = search needs
@@ -109,12 +109,12 @@ inglebreek-forward-spec =
     table-requires
     levels-requires
     forward-requires
-    cast-t17
-    cast-t18
-    cast-t19
-    cast-t20
     cast-t22
     cast-t23
+    cast-t24
+    cast-t25
+    cast-t27
+    cast-t28
     slice-aggregate-put-numbers
     put-numbers-requires
     label-keys-requires
