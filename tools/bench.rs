@@ -48,6 +48,9 @@ extern "C" {
 extern "C" {
     fn time_read(octets: *const u8, octets_len: usize, size: usize, times: usize) -> usize;
     fn time_spell(octets: *const u8, octets_len: usize, size: usize, out: *mut u8, out_len: usize, times: usize) -> usize;
+    fn time_bitmap(octets: *const u8, octets_len: usize, size: usize, times: usize) -> usize;
+    fn time_read_file(octets: *const u8, octets_len: usize, times: usize) -> usize;
+    fn time_write_file(octets: *const u8, octets_len: usize, out: *mut u8, out_len: usize, times: usize) -> usize;
     fn time_forward(
         lower: u8,
         upper: u8,
@@ -73,6 +76,8 @@ const SLOTS: usize = 64;
 /// How many labels take turns in spelling.
 const LABELS: usize = 8;
 const OUTPUT: usize = 48;
+/// Room for the largest gateway file.
+const FILE_ROOM: usize = 32 * 1024;
 const FILL: u8 = 0xee;
 
 // The inputs.
@@ -176,6 +181,42 @@ fn shapes(random: &mut Random) -> Vec<Input> {
 
 fn every_other_bit(name: &str) -> Input {
     Input::new(name, |slot| option(1, slot, &[[0xaa, 0x55][slot % 2]; 30]))
+}
+
+/// Bitmaps alone.
+fn bitmaps(random: &mut Random) -> Vec<Input> {
+    vec![
+        Input::new("no octets", |_| vec![]),
+        Input::new("10 octets, 12 categories", |_| bitmap(10, random.ascending(12, 0, 79, 1).into_iter())),
+        Input::new("30 octets, 12 categories", |_| bitmap(30, random.ascending(12, 0, 239, 1).into_iter())),
+        Input::new("30 octets, all zero", |_| vec![0; 30]),
+        Input::new("30 octets, all ones", |_| vec![255; 30]),
+        Input::new("30 octets, every other bit", |slot| vec![[0xaa, 0x55][slot % 2]; 30]),
+        Input::new("30 octets at random", |_| (0..30).map(|_| random.below(256) as u8).collect()),
+    ]
+}
+
+/// The largest gateway file: 16 ports of three labels with 120 runs, 8 tables of 16 level pairs and 64 rows in scattered order.
+fn largest_file() -> Vec<u8> {
+    let label = |level: u8| {
+        let mut octets = vec![0, 0, 0, 5, level, 120];
+        octets.extend((0..120u16).flat_map(|run| [4 * run, 4 * run + 1]).flat_map(u16::to_be_bytes));
+        octets
+    };
+    let mut file = vec![0, 0, 1, 16];
+    for _ in 0..16 {
+        file.extend([&[0, 0, 0, 5][..], &label(1), &label(3), &[0], &label(2)].concat());
+    }
+    file.push(8);
+    for _ in 0..8 {
+        file.extend([0, 0, 0, 5, 0, 0, 0, 9, 0, 16]);
+        file.extend((0..16).flat_map(|level| [level, level]));
+        file.extend([0, 64]);
+        file.extend((0..64u16).flat_map(|row| [4 * row, 4 * row + 3, 1000 + row * 37 % 64 * 4]).flat_map(u16::to_be_bytes));
+    }
+    let length = (file.len() as u16).to_be_bytes();
+    file[..2].copy_from_slice(&length);
+    file
 }
 
 /// Labels of so many runs for a table that spreads the categories 0 to 239.
@@ -300,6 +341,53 @@ fn rust_read(octets: &[u8], size: usize, times: usize) -> usize {
 }
 
 #[inline(never)]
+fn rust_bitmap(octets: &[u8], size: usize, times: usize) -> usize {
+    let last = octets.len() - size;
+    let (mut at, mut total) = (0, 0);
+    let mut runs = [fast::Run { low: 0, high: 0 }; 120];
+    for _ in 0..times {
+        let found = fast::read_bitmap_alone(black_box(&octets[at..at + size]), &mut runs);
+        let (number, count) = found.map_or_else(|number| (number, 0), |count| (0, count));
+        black_box(&runs);
+        total = mix(mix(total, number as usize), count as usize);
+        at = next_place(at, size, last);
+    }
+    total
+}
+
+#[inline(never)]
+fn rust_read_file(octets: &[u8], times: usize) -> usize {
+    let mut set = fast::file::Set::EMPTY;
+    let mut total = 0;
+    for _ in 0..times {
+        let verdict = match fast::file::read_file(black_box(octets), &mut set) {
+            Ok(()) => 0,
+            Err(fast::file::Refusal::Place(_)) => 1,
+            Err(fast::file::Refusal::Version(_)) => 2,
+        };
+        black_box(&set);
+        total = mix(total, verdict);
+    }
+    total
+}
+
+#[inline(never)]
+fn rust_write_file(octets: &[u8], times: usize) -> usize {
+    let mut set = fast::file::Set::EMPTY;
+    let mut file = vec![FILL; FILE_ROOM];
+    let _ = fast::file::read_file(octets, &mut set);
+    let mut total = 0;
+    for _ in 0..times {
+        let (number, count) = match fast::file::write_file(black_box(&set), &mut file) {
+            Ok(count) => (0, count),
+            Err(number) => (number, 0),
+        };
+        total = mix(mix(total, number as usize), count);
+    }
+    file.iter().fold(total, |total, octet| mix(total, *octet as usize))
+}
+
+#[inline(never)]
 fn rust_spell(octets: &[u8], size: usize, out: &mut [u8], times: usize) -> usize {
     let labels: Vec<fast::Label> =
         octets.chunks(size).cycle().take(LABELS).map(|option| fast::read_option(option).unwrap_or(fast::Label::ALL_ZERO)).collect();
@@ -340,6 +428,9 @@ fn rust_forward(records: &Records, area: &[u8], size: usize, out: &mut [u8], tim
 enum Work {
     Read,
     Spell,
+    Bitmap,
+    ReadFile,
+    WriteFile,
     /// The records, and whether they are the sample's.
     Forward(Records, bool),
 }
@@ -368,6 +459,13 @@ impl Case {
             match &self.work {
                 Work::Read => time_read(at, n, self.size, times),
                 Work::Spell => time_spell(at, n, self.size, to, room, times),
+                Work::Bitmap => time_bitmap(at, n, self.size, times),
+                Work::ReadFile => time_read_file(at, n, times),
+                Work::WriteFile => {
+                    let mut file = vec![FILL; FILE_ROOM];
+                    let total = time_write_file(at, n, file.as_mut_ptr(), file.len(), times);
+                    file.iter().fold(total, |total, octet| mix(total, *octet as usize))
+                }
                 Work::Forward(r, _) => {
                     time_forward(r.lower, r.upper, r.high, r.rows.as_ptr(), r.rows.len(), at, n, self.size, to, room, times)
                 }
@@ -379,18 +477,21 @@ impl Case {
         match &self.work {
             Work::Read => rust_read(octets, self.size, times),
             Work::Spell => rust_spell(octets, self.size, out, times),
+            Work::Bitmap => rust_bitmap(octets, self.size, times),
+            Work::ReadFile => rust_read_file(octets, times),
+            Work::WriteFile => rust_write_file(octets, times),
             Work::Forward(records, _) => rust_forward(records, octets, self.size, out, times),
         }
     }
 
     /// Each input alone: the whole answer where the crate `exports` gives it, else the digest and every octet of the output; then the timed loops.
     fn compare(&self) {
-        for (slot, octets) in self.octets.chunks(self.size).enumerate() {
+        for (slot, octets) in self.octets.chunks(self.size.max(1)).enumerate() {
             let (ours, theirs) = match &self.work {
                 Work::Read => (box_reading(octets), rust_reading(octets)),
                 Work::Spell => (box_spelling(octets), rust_spelling(octets)),
                 Work::Forward(_, true) => (box_forwarding(octets), rust_forwarding(octets)),
-                Work::Forward(_, false) => (self.alone(octets, Case::box_turn), self.alone(octets, Case::rust_turn)),
+                Work::Bitmap | Work::ReadFile | Work::WriteFile | Work::Forward(_, false) => (self.alone(octets, Case::box_turn), self.alone(octets, Case::rust_turn)),
             };
             self.expect(ours == theirs, &format!("input {}: {:02x?}\n  box:  {}\n  Rust: {}", slot, octets, ours, theirs));
         }
@@ -422,7 +523,7 @@ impl Case {
             self.box_turn(octets, &mut out, 1);
             out[0] != FILL
         };
-        format!("{} of {}", self.octets.chunks(self.size).filter(written).count(), SLOTS)
+        format!("{} of {}", self.octets.chunks(self.size.max(1)).filter(written).count(), SLOTS)
     }
 }
 
@@ -437,6 +538,11 @@ fn cases() -> Vec<Case> {
         for rows in ROWS {
             cases.push(Case::area("forward, table", growth_name(rows, count), scattered_records(rows), false, &input));
         }
+    }
+    cases.extend(bitmaps(&mut random).iter().map(|input| Case::option("bitmap", Work::Bitmap, input)));
+    for (name, work) in [("the largest file, read", Work::ReadFile), ("the largest file, written", Work::WriteFile)] {
+        let octets = largest_file();
+        cases.push(Case { group: "file", name: name.into(), work, size: octets.len(), octets });
     }
     for input in &dear {
         cases.push(Case::area(DEAR, format!("sample's table: {}", input.name), sample_records(), true, input));
@@ -658,7 +764,7 @@ fn wrapped(point: &str) -> String {
 fn ratios(rows: &[Measured], measure: &str) -> String {
     let timed = || rows.iter().filter(|row| row.group != DEAR);
     let mut text = format!("- **By {}**, box against Rust:", measure);
-    for (index, group) in ["read", "spell", "forward", "forward, table"].iter().enumerate() {
+    for (index, group) in ["read", "spell", "forward", "forward, table", "bitmap", "file"].iter().enumerate() {
         let sign = if index == 0 { "" } else { ";" };
         write!(text, "{} {} {}", sign, group, span(timed().filter(|row| row.group == *group).map(Measured::ratio))).unwrap();
     }
@@ -734,6 +840,8 @@ the label and every octet of the output, then the timed loops. (Through other ta
   there is the same; the last column says how many of the inputs are forwarded.
 - The table with rows spreads the categories 0 to 255 over rows of equal width whose targets come in scattered order, those below 240 among
   themselves.
+- Bitmaps are read alone, by the box's table of 256 entries and by the Rust variant's own. The largest gateway file has 16 ports of three labels with
+  120 runs each and 8 tables of 64 rows.
 - The box is compiled as `rt staticlib` does it, the Rust variant with `rustc -O`; neither is told of a processor. Instructions are counted by
   callgrind, for one call.
 

@@ -3,6 +3,9 @@
 // fixed places of them.
 use arrival::Decision;
 use arrival::Facts;
+use bitmap::read_bitmap;
+use file::read_file;
+use file::write_file;
 use gateway::forward;
 use label::Label;
 use port::Port;
@@ -51,6 +54,56 @@ pub extern "C" fn time_spell(octets: &[u8], size: usize, out: &mut [u8], times: 
         let label = labels[i % LABELS];
         let s = spell_label(label, &mut out[..]);
         total = mix(mix(total, s.number as usize), s.count);
+        i += 1;
+    }
+    total
+}
+
+// Reads the bitmaps of `size` octets that stand one after the other, `times` in all, from the first again after the last.
+#[no_mangle]
+pub extern "C" fn time_bitmap(octets: &[u8], size: usize, times: usize) -> usize {
+    let n = octets.len();
+    if n < size {
+        return 0;
+    }
+    let last = n - size;
+    let mut keys = [0u32; 120];
+    let mut at: usize = 0;
+    let mut total: usize = 0;
+    let mut i: usize = 0;
+    while i < times {
+        let end = at + size;
+        let found = read_bitmap(&octets[at..end], &mut keys);
+        total = mix(mix(total, found.number as usize), found.count);
+        at = next_place(at, size, last);
+        i += 1;
+    }
+    total
+}
+
+// Reads the gateway file, `times` in all.
+#[no_mangle]
+pub extern "C" fn time_read_file(octets: &[u8], times: usize) -> usize {
+    let mut total: usize = 0;
+    let mut i: usize = 0;
+    while i < times {
+        let read = read_file(octets);
+        total = mix(total, read.verdict as usize);
+        i += 1;
+    }
+    total
+}
+
+// Reads the gateway file once, and writes its set, `times` in all.
+#[no_mangle]
+pub extern "C" fn time_write_file(octets: &[u8], out: &mut [u8], times: usize) -> usize {
+    let read = read_file(octets);
+    let set = read.set;
+    let mut total: usize = 0;
+    let mut i: usize = 0;
+    while i < times {
+        let w = write_file(set, &mut out[..]);
+        total = mix(mix(total, w.number as usize), w.count);
         i += 1;
     }
     total
