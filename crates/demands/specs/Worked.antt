@@ -123,14 +123,14 @@ answerTo (stay h) p area =
     }
 
 -- silenced, the number stays and the report is silent
-abbrev pub hushed : Decision → Decision
-hushed d = record { number = d .number; kind = 0; code = 0; pointer = 0; count = d .count; label = d .label }
+abbrev pub silencedAnswer : Decision → Decision
+silencedAnswer d = record { number = d .number; kind = 0; code = 0; pointer = 0; count = d .count; label = d .label }
 
 abbrev pub awaited : Case → Answer
 awaited c =
     record {
       plain = c .answer;
-      silent = hushed (c .answer);
+      silent = silencedAnswer (c .answer);
       output = c .output;
       silentOutput = c .output;
     }
