@@ -7,6 +7,11 @@ use Rattle.label.specs.Label.{leq, inRange, isZero}
 use Rattle.port.specs.declared.Port.{Port}
 use Rattle.port.specs.declared.Host.{Host}
 
+-- a port as document 01 has it: a field that a wish adds has the value that says what was before
+abbrev pub plainPort : ℕ → Label → Label → Bool → Label → Port
+plainPort domain lowest highest required assigned =
+    record { domain = domain; lowest = lowest; highest = highest; required = required; assigned = assigned }
+
 -- both labels are well formed and of the domain, and lowest ≤ highest
 unfoldable pub rangeSound : Label → Label → ℕ → Bool
 rangeSound lowest highest domain =

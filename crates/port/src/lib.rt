@@ -2,7 +2,7 @@
 ghost use mathlib.Core.Path.{_≡_};
 ghost use mathlib.Core.Bool.{true};
 ghost use Rattle.label.specs.Label.{wellFormed, inRange};
-ghost use Rattle.port.specs.Port.{portSound, hostSound, rangeSound};
+ghost use Rattle.port.specs.Port.{plainPort, portSound, hostSound, rangeSound};
 use label::Label;
 
 pub struct Port {
@@ -16,6 +16,27 @@ pub struct Port {
 pub struct Host {
     pub lowest: Label,
     pub highest: Label,
+}
+
+impl Port {
+    // A port as document 01 has it.
+    pub fn plain(
+        domain: u32,
+        lowest: Label,
+        highest: Label,
+        required: bool,
+        assigned: Label,
+    ) -> Port
+        ensures { λ r. ⌜ r ≡ plainPort domain lowest highest required assigned ⌝ }
+    {
+        Port {
+            domain: domain,
+            lowest: lowest,
+            highest: highest,
+            required: required,
+            assigned: assigned,
+        }
+    }
 }
 
 // Whether the port is sound.
