@@ -13,16 +13,16 @@ use Rattle.label.specs.declared.Label.{Label}
 use Rattle.label.specs.Label.{labelOf, wellFormed}
 use Rattle.label.specs.Keys.{keyRun, keyRuns, labelFrom}
 use Rattle.join.specs.declared.Joined.{Joined}
-use Rattle.join.specs.Join.{notJoined, joinedAs, fitted, eitherRuns, joinedOf}
+use Rattle.join.specs.Join.{notJoined, joinedAs, fittedJoin, eitherRuns, joinedOf}
 
 module _ (d v n : ℕ) (ks : List ℕ) (h : n ≤ length ks) where
   runs-length : length (keyRuns (take n ks)) ≡ n
   runs-length = length-map (take n ks) keyRun ∙ length-take-le n ks h
 
-  pub fitted-many : 120 < n → notJoined 18 ≡ fitted d v (keyRuns (take n ks))
+  pub fitted-many : 120 < n → notJoined 18 ≡ fittedJoin d v (keyRuns (take n ks))
   fitted-many m = simp (lt-leb (length (keyRuns (take n ks))) 120 (omega (arith, runs-length)))
 
-  pub fitted-done : n ≤ 120 → _≡_ {A = Joined} (record { number = 0; label = labelFrom d v (keyRuns (take n ks)) }) (fitted d v (keyRuns (take n ks)))
+  pub fitted-done : n ≤ 120 → _≡_ {A = Joined} (record { number = 0; label = labelFrom d v (keyRuns (take n ks)) }) (fittedJoin d v (keyRuns (take n ks)))
   unfolding labelFrom
   fitted-done m = simp (le-leb (length (keyRuns (take n ks))) 120 (omega (arith, runs-length)))
 
@@ -39,7 +39,7 @@ module _ (a b : Label) where
   unfolding joinedOf
   joined-foreign e f h = sym (rw (e, f, ne-eqb (a .domain) (b .domain) h))
 
-  pub joined-fitted : wellFormed a ≡ true → wellFormed b ≡ true → a .domain ≡ b .domain → fitted (a .domain) (max (a .level) (b .level)) (eitherRuns a b) ≡ joinedOf a b
+  pub joined-fitted : wellFormed a ≡ true → wellFormed b ≡ true → a .domain ≡ b .domain → fittedJoin (a .domain) (max (a .level) (b .level)) (eitherRuns a b) ≡ joinedOf a b
   unfolding joinedOf
   joined-fitted e f h = sym (rw (e, f, eq-eqb (a .domain) (b .domain) h))
 

@@ -28,11 +28,11 @@ abbrev pub eitherRuns : Label → Label → List Run
 eitherRuns a b = runsOf (either a b)
 
 -- 18 over 120 runs, else the label
-abbrev pub fitted : ℕ → ℕ → List Run → Joined
-fitted d v rs = cond (leb (length rs) 120) (joinedAs (labelOf d v rs)) (notJoined 18)
+abbrev pub fittedJoin : ℕ → ℕ → List Run → Joined
+fittedJoin d v rs = cond (leb (length rs) 120) (joinedAs (labelOf d v rs)) (notJoined 18)
 
 unfoldable pub joinedOf : Label → Label → Joined
 joinedOf a b =
     cond (wellFormed a && (wellFormed b && eqb (a .domain) (b .domain)))
-    (fitted (a .domain) (max (a .level) (b .level)) (eitherRuns a b))
+    (fittedJoin (a .domain) (max (a .level) (b .level)) (eitherRuns a b))
     (notJoined 2)

@@ -62,4 +62,4 @@ out-and-back l t ls m e =
     renumbering .found m (reverseTable t) (turnedLevels ls) l (back-sound t ls (k .sound)) (f .formed) (home t (m .domain) (f .domain)) (far-back l t ls m k f)
 
 pub reversing : Reversing
-reversing = record { sound = back-sound; twice = back-twice; pairs = levels-twice; turned = turned-round; back = out-and-back }
+reversing = record { sound = back-sound; twice = back-twice; pairs = levels-twice; turnedRow = turned-round; back = out-and-back }

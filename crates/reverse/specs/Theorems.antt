@@ -23,7 +23,7 @@ pub record Reversing : Type 0 where
   -- reversed twice it is the table
   pub twice : (t : Table) (ls : List (List ℕ)) → tableSound t ls ≡ true → reverseTable (reverseTable t) ≡ t
   pub pairs : (ls : List (List ℕ)) → inTwos ls ≡ true → turnedLevels (turnedLevels ls) ≡ ls
-  pub turned : (t : Table) (ls : List (List ℕ)) → tableSound t ls ≡ true → TurnedRound t ls
+  pub turnedRow : (t : Table) (ls : List (List ℕ)) → tableSound t ls ≡ true → TurnedRound t ls
   -- "going out, where 120 runs allow, and back gives the first label"
   pub back : (l : Label) (t : Table) (ls : List (List ℕ)) (m : Label)
       → renumberedOf l t ls ≡ renumberedAs m
