@@ -1,18 +1,18 @@
 // Which function a case asks: its first octet names the entry. An entry takes its fields, calls its function and puts its line.
-use crate::decision_entries::ask_deliver;
-use crate::decision_entries::ask_forward;
-use crate::field::take_octet;
-use crate::file_entries::ask_read_file;
-use crate::file_entries::ask_read_write;
-use crate::file_entries::ask_write;
-use crate::label_entries::ask_contains;
-use crate::label_entries::ask_renumber;
-use crate::label_entries::ask_within;
-use crate::line::put_broken;
-use crate::option_entries::ask_bitmap;
-use crate::option_entries::ask_read;
-use crate::option_entries::ask_spell;
-use crate::table_entries::ask_reverse;
+use case_decisions::ask_deliver;
+use case_decisions::ask_forward;
+use case_fields::take_octet;
+use case_files::ask_read_file;
+use case_files::ask_read_write;
+use case_files::ask_write;
+use case_labels::ask_bitmap;
+use case_labels::ask_contains;
+use case_labels::ask_read;
+use case_labels::ask_renumber;
+use case_labels::ask_reverse;
+use case_labels::ask_spell;
+use case_labels::ask_within;
+use case_lines::put_broken;
 
 // The line of one case.
 pub fn answer(case: &[u8], out: &mut [u8], n: usize) -> usize {

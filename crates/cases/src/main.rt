@@ -5,18 +5,10 @@
 ghost use Prim.Native.Nat.{_≤_};
 ghost use lib.ListN.{length};
 
-mod decision_entries;
 mod entry;
-mod field;
-mod file_entries;
-mod label_entries;
-mod line;
-mod option_entries;
-mod record;
-mod table_entries;
 
+use case_lines::put_broken;
 use entry::answer;
-use line::put_broken;
 use lines::put_octet;
 use stream::Place;
 use stream::begin;

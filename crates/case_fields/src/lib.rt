@@ -1,0 +1,36 @@
+// The fields of a case of the program `cases`: numbers and records, taken one after the other.
+mod field;
+mod record;
+
+pub use field::CUT;
+pub use field::Flag;
+pub use field::LONGEST;
+pub use field::Octet;
+pub use field::Output;
+pub use field::Part;
+pub use field::Short;
+pub use field::Word;
+pub use field::octets_of;
+pub use field::take_flag;
+pub use field::take_limited;
+pub use field::take_octet;
+pub use field::take_octets;
+pub use field::take_output;
+pub use field::take_part;
+pub use field::take_short;
+pub use field::take_stored;
+pub use field::take_word;
+pub use record::TakenFacts;
+pub use record::TakenHost;
+pub use record::TakenLabel;
+pub use record::TakenPort;
+pub use record::TakenTable;
+pub use record::levels_at;
+pub use record::take_facts;
+pub use record::take_host;
+pub use record::take_label;
+pub use record::take_mark;
+pub use record::take_port;
+pub use record::take_table;
+pub use record::take_wide_port;
+pub use record::take_wide_table;

@@ -1,0 +1,281 @@
+// The records of a case: labels, ports, a host, the table with its level pairs, and the facts of a datagram.
+use crate::field::CUT;
+use crate::field::take_flag;
+use crate::field::take_limited;
+use crate::field::take_octet;
+use crate::field::take_part;
+use crate::field::take_short;
+use crate::field::take_stored;
+use crate::field::take_word;
+use arrival::Facts;
+use label::Label;
+use label::Run;
+use port::Host;
+use port::Port;
+use table::Row;
+use table::Table;
+
+pub struct TakenLabel {
+    pub label: Label,
+    pub next: usize,
+}
+
+pub struct TakenPort {
+    pub port: Port,
+    pub next: usize,
+}
+
+pub struct TakenHost {
+    pub host: Host,
+    pub next: usize,
+}
+
+pub struct TakenFacts {
+    pub facts: Facts,
+    pub next: usize,
+}
+
+// The table without its level pairs, which begin at an octet of the case, and how many of these are stored.
+pub struct TakenTable {
+    pub table: Table,
+    pub levels: usize,
+    pub stored: usize,
+    pub next: usize,
+}
+
+// Domain, level, count, and the runs that are stored.
+pub fn take_label(case: &[u8], at: usize) -> TakenLabel {
+    let domain = take_word(case, at);
+    let level = take_octet(case, domain.next);
+    let count = take_octet(case, level.next);
+    let stored = take_stored(case, count.next, Label::MAX_RUNS);
+    let mut label = Label::empty(0, 0);
+    label.domain = domain.value;
+    label.level = level.value;
+    label.count = count.value as usize;
+    let n = stored.value as usize;
+    let mut next = stored.next;
+    let mut i: usize = 0;
+    while i < n {
+        let low = take_short(case, next);
+        let high = take_short(case, low.next);
+        label.runs[i] = Run {
+            low: low.value,
+            high: high.value,
+        };
+        next = high.next;
+        i += 1;
+    }
+    TakenLabel {
+        label: label,
+        next: next,
+    }
+}
+
+// Domain, lowest and highest label, whether a label is required, and the assigned label.
+pub fn take_port(case: &[u8], at: usize) -> TakenPort {
+    let domain = take_word(case, at);
+    let lowest = take_label(case, domain.next);
+    let highest = take_label(case, lowest.next);
+    let required = take_flag(case, highest.next);
+    let assigned = take_label(case, required.next);
+    let a = lowest.label;
+    let b = highest.label;
+    let c = assigned.label;
+    let port = Port::plain(domain.value, a, b, required.value, c);
+    TakenPort {
+        port: port,
+        next: assigned.next,
+    }
+}
+
+// A port and the groups of its later fields, of which there are none yet.
+pub fn take_wide_port(case: &[u8], at: usize) -> TakenPort {
+    let taken = take_port(case, at);
+    let groups = take_octet(case, taken.next);
+    let port = taken.port;
+    if groups.value != 0 {
+        return TakenPort {
+            port: port,
+            next: CUT,
+        };
+    }
+    TakenPort {
+        port: port,
+        next: groups.next,
+    }
+}
+
+// Five flags: the facts that the caller states.
+pub fn take_facts(case: &[u8], at: usize) -> TakenFacts {
+    let error = take_flag(case, at);
+    let group = take_flag(case, error.next);
+    let link = take_flag(case, group.next);
+    let fragment = take_flag(case, link.next);
+    let source = take_flag(case, fragment.next);
+    let facts = Facts {
+        error: error.value,
+        group: group.value,
+        link: link.value,
+        fragment: fragment.value,
+        source: source.value,
+    };
+    TakenFacts {
+        facts: facts,
+        next: source.next,
+    }
+}
+
+// One flag, the mark of entries 6 and 7: it is the first of the facts.
+pub fn take_mark(case: &[u8], at: usize) -> TakenFacts {
+    let mark = take_flag(case, at);
+    let facts = Facts {
+        error: mark.value,
+        group: false,
+        link: false,
+        fragment: false,
+        source: false,
+    };
+    TakenFacts {
+        facts: facts,
+        next: mark.next,
+    }
+}
+
+// Lowest and highest label.
+pub fn take_host(case: &[u8], at: usize) -> TakenHost {
+    let lowest = take_label(case, at);
+    let highest = take_label(case, lowest.next);
+    let a = lowest.label;
+    let b = highest.label;
+    let host = Host {
+        lowest: a,
+        highest: b,
+    };
+    TakenHost {
+        host: host,
+        next: highest.next,
+    }
+}
+
+// From and to domain, the level pairs, and the rows.
+pub fn take_table(case: &[u8], at: usize) -> TakenTable {
+    let from = take_word(case, at);
+    let to = take_word(case, from.next);
+    let pairs = take_octet(case, to.next);
+    let stored = take_stored(case, pairs.next, 16);
+    let n = stored.value as usize;
+    let levels = take_part(case, stored.next, n * 2);
+    let t = take_rows(case, levels.next);
+    let mut table = t.table;
+    table.from = from.value;
+    table.to = to.value;
+    table.pairs = pairs.value as usize;
+    TakenTable {
+        table: table,
+        levels: levels.from,
+        stored: n,
+        next: t.next,
+    }
+}
+
+// A wide table: the same, with two octets for each count and for each number of what is stored.
+pub fn take_wide_table(case: &[u8], at: usize) -> TakenTable {
+    let from = take_word(case, at);
+    let to = take_word(case, from.next);
+    let pairs = take_short(case, to.next);
+    let stored = take_limited(case, pairs.next, 16);
+    let n = stored.value as usize;
+    let levels = take_part(case, stored.next, n * 2);
+    let count = take_short(case, levels.next);
+    let lent = take_limited(case, count.next, 64);
+    let t = rows_at(case, lent.next, count.value as usize, lent.value as usize);
+    let mut table = t.table;
+    table.from = from.value;
+    table.to = to.value;
+    table.pairs = pairs.value as usize;
+    TakenTable {
+        table: table,
+        levels: levels.from,
+        stored: n,
+        next: t.next,
+    }
+}
+
+// Row count, and the rows that are stored; the other fields are 0.
+fn take_rows(case: &[u8], at: usize) -> TakenTable {
+    let count = take_short(case, at);
+    let stored = take_stored(case, count.next, 64);
+    rows_at(
+        case,
+        stored.next,
+        count.value as usize,
+        stored.value as usize,
+    )
+}
+
+// The first `stored` rows from a place of the case on, in a table of `count` rows.
+fn rows_at(case: &[u8], at: usize, count: usize, stored: usize) -> TakenTable {
+    let mut table = empty_table(count);
+    let mut next = at;
+    let mut i: usize = 0;
+    while i < stored {
+        if 64 <= i {
+            return TakenTable {
+                table: table,
+                levels: 0,
+                stored: 0,
+                next: next,
+            };
+        }
+        let low = take_short(case, next);
+        let high = take_short(case, low.next);
+        let target = take_short(case, high.next);
+        table.rows[i] = Row {
+            low: low.value,
+            high: high.value,
+            target: target.value,
+        };
+        next = target.next;
+        i += 1;
+    }
+    TakenTable {
+        table: table,
+        levels: 0,
+        stored: 0,
+        next: next,
+    }
+}
+
+fn empty_table(count: usize) -> Table {
+    let none = Row {
+        low: 0,
+        high: 0,
+        target: 0,
+    };
+    Table {
+        from: 0,
+        to: 0,
+        pairs: 0,
+        count: count,
+        rows: [none; 64],
+    }
+}
+
+// The level pairs of a table: the first `stored` from a place of the case on.
+pub fn levels_at(case: &[u8], from: usize, stored: usize) -> [[u8; 2]; 16] {
+    let mut levels = [[0u8; 2]; 16];
+    let mut at = from;
+    let mut i: usize = 0;
+    while i < stored {
+        if 16 <= i {
+            return levels;
+        }
+        let a = take_octet(case, at);
+        let b = take_octet(case, a.next);
+        levels[i] = [a.value, b.value];
+        at = b.next;
+        i += 1;
+    }
+    levels
+}
