@@ -3,7 +3,8 @@ use Prim.Native.Nat.{ℕ, zero, suc, pred, _+_}
 use mathlib.Core.List.{List, [], _∷_, _++_}
 use mathlib.Core.Path.{_≡_}
 use mathlib.Core.Bool.{Bool, true, false, cond}
-use lib.ListN.{length, getD, drop}
+use mathlib.Core.Option.{Option, none, some}
+use lib.ListN.{length, getD, take, drop}
 use lib.Dec.{ltb, leb, eqb}
 use Rattle.area.specs.declared.Kind.{Kind}
 use Rattle.area.specs.declared.Kind.the-variants.{End, NoOperation, Basic, Extended, Cipso, Other}
@@ -96,6 +97,11 @@ judged on (m ∷ ms) label basic =
 -- what the walk answers: the places of the options 134 and 130, or the refusal; `on` says whether the arriving port reads option 130
 unfoldable pub walkOf : Bool → List ℕ → Walk
 walkOf on area = judged on (metOf area) Nowhere Nowhere
+
+-- the octets of the option at a place, if there is one: as many as its length octet says
+abbrev pub octetsAt : Place → List ℕ → Option (List ℕ)
+octetsAt Nowhere l = none
+octetsAt (At p) l = some (take (getD l (p + 1) 0) (drop p l))
 
 -- a whole option of a kind that stands in the list from octet i on
 pub record WholeAt (k : Kind) (l : List ℕ) (i : ℕ) : Type 0 where
