@@ -64,6 +64,19 @@ pub struct BasicReading {
     pub flags: u16,
 }
 
+impl BasicReading {
+    // What is read of an option that is not valid.
+    pub fn bad() -> BasicReading
+        ensures { λ r. ⌜ r ≡ basicBad ⌝ }
+    {
+        BasicReading {
+            number: 19,
+            level: 0,
+            flags: 0,
+        }
+    }
+}
+
 // Number 0 and the option's length; or the number of a refusal and 0.
 pub struct BasicWriting {
     pub number: u8,
@@ -144,28 +157,18 @@ pub fn read_basic(octets: &[u8]) -> BasicReading
     let first = octet_at(octets, FLAGS_AT);
     let second = octet_at(octets, FLAGS_AT + 1);
     if !framed(n, octet_at(octets, 0), octet_at(octets, LENGTH_AT)) {
-        return refuse();
+        return BasicReading::bad();
     }
     if rank_of(level) == NO_RANK {
-        return refuse();
+        return BasicReading::bad();
     }
     if !ended(n, first, second) {
-        return refuse();
+        return BasicReading::bad();
     }
     BasicReading {
         number: 0,
         level: level,
         flags: flag_field(first, second),
-    }
-}
-
-fn refuse() -> BasicReading
-    ensures { λ r. ⌜ r ≡ basicBad ⌝ }
-{
-    BasicReading {
-        number: 19,
-        level: 0,
-        flags: 0,
     }
 }
 

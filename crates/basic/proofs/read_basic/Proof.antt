@@ -68,37 +68,37 @@ octet-at-requires-5 c κs = search needs
 framed-requires : tie.Need-framed-requires
 framed-requires c κs = search needs
 
-refuse-requires : tie.Need-refuse-requires
-refuse-requires c κs = search needs
+bad-requires : tie.Need-bad-requires
+bad-requires c κs = search needs
 
 returns : tie.Need-returns
 returns c =
     let d = c .before .before in
-    c .refuse .ensures ∙ sym (reading-at (octets d) ∙ rw (frame d ∙ not-true _ (c .before .if1 .taken)))
+    c .bad .ensures ∙ sym (reading-at (octets d) ∙ rw (frame d ∙ not-true _ (c .before .if1 .taken)))
 
 rank-of-requires : tie.Need-rank-of-requires
 rank-of-requires c κs = search needs
 
-refuse-requires-2 : tie.Need-refuse-requires-2
-refuse-requires-2 c κs = search needs
+bad-requires-2 : tie.Need-bad-requires-2
+bad-requires-2 c κs = search needs
 
 returns-2 : tie.Need-returns-2
 returns-2 c =
     let r = c .before .before in
     let d = r .before .before in
-    c .refuse2 .ensures ∙ sym (reading-at (octets d) ∙ rw (framed-yes (r .before), rank-no-level _ (rank r ∙ c .before .if2 .taken)))
+    c .bad2 .ensures ∙ sym (reading-at (octets d) ∙ rw (framed-yes (r .before), rank-no-level _ (rank r ∙ c .before .if2 .taken)))
 
 ended-requires : tie.Need-ended-requires
 ended-requires c κs = search needs
 
-refuse-requires-3 : tie.Need-refuse-requires-3
-refuse-requires-3 c κs = search needs
+bad-requires-3 : tie.Need-bad-requires-3
+bad-requires-3 c κs = search needs
 
 returns-3 : tie.Need-returns-3
 returns-3 c =
     let e = c .before .before in
     let r = e .before .before in
-    c .refuse3 .ensures
+    c .bad3 .ensures
     ∙ sym (reading-at (octets (r .before .before)) ∙ rw (framed-yes (r .before), level-yes (e .before), end e ∙ not-true _ (c .before .if3 .taken)))
 
 flag-field-requires : tie.Need-flag-field-requires
@@ -123,13 +123,13 @@ read-basic-spec =
     octet-at-requires-4
     octet-at-requires-5
     framed-requires
-    refuse-requires
+    bad-requires
     returns
     rank-of-requires
-    refuse-requires-2
+    bad-requires-2
     returns-2
     ended-requires
-    refuse-requires-3
+    bad-requires-3
     returns-3
     flag-field-requires
     returns-4)
