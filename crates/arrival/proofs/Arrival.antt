@@ -43,7 +43,7 @@ use Rattle.arrival.specs.Decision.{arrivalChecks}
 use Rattle.arrival.specs.Verdict.{verdictOf, stopped, going, keysBy, arrivalOf, arrivalKeys, Arrives}
 use Rattle.arrival.specs.Stages.{placeChecks, basicChecks, isOpen, insteadOf, beforeRange, heldBetween, ArrivesAt}
 use Rattle.arrival.proofs.Pointer.{reading-pointer, reading-number}
-use Rattle.arrival.proofs.First.{Real, Late, late-first, late-when, late-real, Early, AllEarly, early-first, early-when, between, before-none, before-zero, first-none, when-none, not-false-yes}
+use Rattle.arrival.proofs.First.{first-append, Real, late-else, Late, late-first, late-when, late-real, Early, AllEarly, early-first, early-when, between, before-none, before-zero, first-none, when-none, not-false-yes}
 use Rattle.arrival.proofs.Verdicts.{held-in-range, label-stands}
 
 -- The walk's answer decides which checks are left.
@@ -137,10 +137,10 @@ arrival-early p area code = (
   ),
 )
 
-pub arrival-late : (p : Port) (area : List ℕ) (code : ℕ) → Late (firstOf (arrivalChecks p area code))
-unfolding walkCheck requiredCheck optionCheck badBasicCheck missingBasicCheck basicRangeCheck rangeCheck
-arrival-late p area code =
-    late-first (arrivalChecks p area code) (
+pub before-late : (p : Port) (area : List ℕ) (code : ℕ) → Late (firstOf (beforeChecks p area code))
+unfolding walkCheck requiredCheck optionCheck badBasicCheck missingBasicCheck basicRangeCheck
+before-late p area code =
+    late-first (beforeChecks p area code) (
       walk-late (p .basic .on) area (walkAt p area) refl,
       (
         required-late (placeIn (walkAt p area)) p .0,
@@ -148,17 +148,18 @@ arrival-late p area code =
           option-late p area (placeIn (walkAt p area)) .0,
           (
             bad-late (basicIn (walkAt p area)) area .0,
-            (
-              missing-late (arrivingBasic p area) (p .basic .on) .0,
-              (
-                range-late (not (basicPasses (p .basic .on) (p .basic .receiving) (arrivingBasic p area))) code .0,
-                (late-when (not (inRange (p .lowest) (p .highest) (arrivingLabel p area))) (barred 14 code) fourteen, tt),
-              ),
-            ),
+            (missing-late (arrivingBasic p area) (p .basic .on) .0, (range-late (not (basicPasses (p .basic .on) (p .basic .receiving) (arrivingBasic p area))) code .0, tt)),
           ),
         ),
       ),
     )
+
+pub arrival-late : (p : Port) (area : List ℕ) (code : ℕ) → Late (firstOf (arrivalChecks p area code))
+unfolding rangeCheck
+arrival-late p area code =
+    subst Late (sym (first-append (beforeChecks p area code) (rangeCheck p area code ∷ [])))
+    (late-else (firstOf (beforeChecks p area code)) (firstOf (rangeCheck p area code ∷ [])) (before-late p area code)
+    (late-first (rangeCheck p area code ∷ []) (late-when (not (inRange (p .lowest) (p .highest) (arrivingLabel p area))) (barred 14 code) fourteen, tt)))
 
 pub arrival-real : (p : Port) (area : List ℕ) (code : ℕ) → Real (firstOf (arrivalChecks p area code))
 arrival-real p area code = late-real (firstOf (arrivalChecks p area code)) (arrival-late p area code)
@@ -346,6 +347,20 @@ basic-real b on way area code =
     late-real (firstOf (basicChecks b on way area code))
     (late-first (basicChecks b on way area code)
     (bad-late b area .0, (missing-late (octetsAt b area) on .0, (range-late (not (basicPasses on way (octetsAt b area))) code .0, tt))))
+
+-- A port that does not read option 130 meets none.
+pub off-none : (p : Port) (area : List ℕ) → p .basic .on ≡ false → arrivingBasic p area ≡ none
+unfolding arrivingBasic
+off-none p area e = go (walkAt p area) refl
+  where
+    go : (w : Walk) → walkAt p area ≡ w → octetsAt (basicIn w) area ≡ none
+    go (Sound l b) g = rw (off-nowhere area l b (ap (λ (t : Bool). walkOf t area) (sym e) ∙ g))
+    go (Refused n at) g = refl
+
+-- One that does meets the option that a walk with it read meets.
+pub on-some : (p : Port) (area o : List ℕ) → p .basic .on ≡ true → arrivingBasic p area ≡ some o → octetsAt (basicIn (walkOf true area)) area ≡ some o
+unfolding arrivingBasic
+on-some p area o e g = ap (λ (t : Bool). octetsAt (basicIn (walkOf t area)) area) (sym e) ∙ g
 
 -- What 19 to 21 answer, return by return.
 pub open-closed : (r : Verdict) (o : Option Refusal) → isOpen (r .number) ≡ false → r ≡ beforeRange r o

@@ -20,6 +20,10 @@ first-append [] ys = refl
 first-append (some r ∷ xs) ys = refl
 first-append (none ∷ xs) ys = first-append xs ys
 
+pub first-one : (o : Option Refusal) → firstOf (o ∷ []) ≡ o
+first-one none = refl
+first-one (some r) = refl
+
 -- A refusal's number is not 0.
 abbrev pub Real : Option Refusal → Type 0
 Real none = Unit {0}
@@ -155,3 +159,7 @@ or-none true b e = absurd (true≢false e)
 pub real-else : (a b : Option Refusal) → Real a → Real b → Real (orElse a b)
 real-else none b r q = q
 real-else (some x) b r q = r
+
+pub late-else : (a b : Option Refusal) → Late a → Late b → Late (orElse a b)
+late-else none b r q = q
+late-else (some x) b r q = r
