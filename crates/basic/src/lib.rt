@@ -117,7 +117,12 @@ impl Basic {
         if self.on {
             return false;
         }
-        basic_sound(self)
+        // not by `basic_sound`: called once, it is put into `port_sound`, and no port is copied for it
+        let receiving = self.receiving;
+        let sending = self.sending;
+        let first = way_zero(receiving);
+        let second = way_zero(sending);
+        first & second
     }
 }
 

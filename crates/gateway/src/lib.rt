@@ -110,7 +110,9 @@ fn hold_sending(ready: Verdict, from: bool, on: bool, sending: Way, area: &[u8])
         return bar_basic(ready);
     }
     let read = find_basic(area);
-    if passes_way(sending, read.level, read.flags) {
+    // copied here, where both ports read it, and not for every datagram
+    let way = sending;
+    if passes_way(way, read.level, read.flags) {
         return ready;
     }
     bar_basic(ready)

@@ -1,7 +1,5 @@
 -- `basic::Basic::is_off` meets its contract.
 use borrow.Author.Needs.{needs}
-use mathlib.Core.Path.{sym, _∙_, ap}
-use mathlib.Core.Bool.{Bool, not, _&&_}
 use Rattle.basic.specs.Settings.{isOff, basicSound}
 use Rattle.basic.proofs.Basic.is_off.Statement.{statement}
 use Rattle.basic.proofs.Basic.is_off.Tie as tie
@@ -10,14 +8,15 @@ returns : tie.Need-returns
 unfolding isOff
 returns c = rw (c .if1 .taken)
 
-basic-sound-requires : tie.Need-basic-sound-requires
-basic-sound-requires c κs = search needs
+way-zero-requires : tie.Need-way-zero-requires
+way-zero-requires c κs = search needs
+
+way-zero-requires-2 : tie.Need-way-zero-requires-2
+way-zero-requires-2 c κs = search needs
 
 returns-2 : tie.Need-returns-2
-unfolding isOff
-returns-2 c =
-    let b = c .before .before .args .self in
-    c .basic-sound .ensures ∙ sym (ap (λ (q : Bool). not q && basicSound b) (c .before .if1 .left))
+unfolding isOff basicSound
+returns-2 c = rw (c .before .before .before .before .if1 .left, c .before .way-zero .ensures, c .way-zero2 .ensures)
 
 pub is-off-spec : {M : Type 1} → statement M
-is-off-spec = tie.close (tie.spec returns basic-sound-requires returns-2)
+is-off-spec = tie.close (tie.spec returns way-zero-requires way-zero-requires-2 returns-2)
