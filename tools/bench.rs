@@ -273,7 +273,7 @@ fn records(lower: u8, upper: u8, high: u16, rows: &[[u16; 3]]) -> Records {
         let lowest = fast::Label { domain, level: lower, ..fast::Label::ALL_ZERO };
         let mut highest = fast::Label { domain, level: upper, count: 1, ..fast::Label::ALL_ZERO };
         highest.runs[0] = fast::Run { low: 0, high };
-        fast::Port { domain, lowest, highest, required: true, assigned: fast::Label::ALL_ZERO }
+        fast::Port { domain, lowest, highest, required: true, assigned: fast::Label::ALL_ZERO, ..fast::Port::PLAIN }
     };
     let none = fast::Row { low: 0, high: 0, target_low: 0 };
     let mut table = fast::Table {

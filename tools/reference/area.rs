@@ -1,19 +1,21 @@
 // The options area: the walk over an arriving one, the building of a leaving one.
 //
-// Document 01, "The order of checks" and "The leaving area"; RFC 791 for the options.
+// Document 01, "The order of checks" and "The leaving area"; document 02, wish 3; RFC 791 for the options.
 
+use crate::basic::BASIC_SECURITY;
 use crate::option::{fault, Fault, CIPSO, LENGTH_AT, MAX_OCTETS};
 
 const END_OF_OPTIONS: u8 = 0;
 const NO_OPERATION: u8 = 1;
-const BASIC_SECURITY: u8 = 130;
 const EXTENDED_SECURITY: u8 = 133;
 
 /// What the walk met.
 pub struct Walk<'a> {
     /// The option 134 with its offset in the area.
     pub cipso: Option<(usize, &'a [u8])>,
-    /// "each kept option (one the walk meets, not 134, 0 or 1)", in order.
+    /// The option 130 with its offset, where the arriving port has it switched on.
+    pub basic: Option<(usize, &'a [u8])>,
+    /// "each kept option (one the walk meets, not 134, 0 or 1)", in order. Of the 130: "It stays among the kept options, octet for octet."
     pub kept: Vec<&'a [u8]>,
 }
 
@@ -23,9 +25,10 @@ pub fn size_fits(area: &[u8]) -> bool {
 }
 
 /// "3, 4 and 5 come from one walk: the earliest option decides, and within it 3, then 4, then 5. Type 0 ends the walk and what
-/// follows is ignored; type 1 is one octet." Offsets are those of the option's type octet.
-pub fn walk(area: &[u8]) -> Result<Walk<'_>, Fault> {
-    let mut met = Walk { cipso: None, kept: Vec::new() };
+/// follows is ignored; type 1 is one octet." Offsets are those of the option's type octet. `basic_on` says whether the arriving port has
+/// switched option 130 on.
+pub fn walk(area: &[u8], basic_on: bool) -> Result<Walk<'_>, Fault> {
+    let mut met = Walk { cipso: None, basic: None, kept: Vec::new() };
     let mut at = 0;
     while at < area.len() {
         let option_type = area[at];
@@ -46,11 +49,17 @@ pub fn walk(area: &[u8]) -> Result<Walk<'_>, Fault> {
         }
         let option = &area[at..at + length];
         match option_type {
-            // 4: "option 130 or 133".
-            BASIC_SECURITY | EXTENDED_SECURITY => return fault(4, at),
-            // 5: "second option 134".
+            // 4 "covers 133, and 130 only where the arriving port hasn't switched it on".
+            EXTENDED_SECURITY => return fault(4, at),
+            BASIC_SECURITY if !basic_on => return fault(4, at),
+            // 5: "second option 134". "A second 130 is 5".
             CIPSO if met.cipso.is_some() => return fault(5, at),
+            BASIC_SECURITY if met.basic.is_some() => return fault(5, at),
             CIPSO => met.cipso = Some((at, option)),
+            BASIC_SECURITY => {
+                met.basic = Some((at, option));
+                met.kept.push(option);
+            }
             _ => met.kept.push(option),
         }
         at += length;

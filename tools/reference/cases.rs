@@ -16,7 +16,11 @@
 //                                                                           place, or VERSION and the version octet
 //   11 read and write   n (2), n octets, output                             as 10 where it is not accepted; else number, count, output
 //   12 write a file     port count (1), stored (1, at most 16), that many wide ports, table count (1), stored (1, at most 8),
-//                       that many wide tables, output                       number, count, output
+//                       that many wide tables, output                       number or NAMED, count, output
+//   13 read 130    n (1), n octets                                          number, level octet, flag field
+//   14 write 130   level octet (1), flag field (2), output                  number, count, output
+//   15 forward     wide port, wide port, wide table, facts, n (1), n octets, output     as 6
+//   16 deliver     wide port, host, facts, n (1), n octets                  as 7
 //   22 reverse          wide table, room (2, at most 1024 rows)             number, from, to, pair count, each pair, row count, each row
 //   24 bitmap    n (1), n octets                                            number, count, low and high of each run
 //
@@ -27,7 +31,9 @@
 //            row count (2), stored (1, at most 64), that many rows of low (2), high (2), target low (2)
 //   mark     0 or 1, the first of the facts; the others are 0
 //   facts    five octets, each 0 or 1, in document 02's order
-//   wide port     a port, then one octet of groups: 0 until later wishes add some
+//   wide port     a port, then one octet of groups, then the groups that are there; a group whose bit is 0 has document 01's values
+//                 1 Basic Security: on (1), then for receiving and for sending: lowest level (1), highest level (1), count (2),
+//                   stored (2, at most 256), that many flag fields (2 each)
 //   wide table    from (4), to (4), level pair count (2), stored (2, at most 16), that many pairs (1 + 1),
 //                 row count (2), lent (2, at most 64), that many rows of low (2), high (2), target low (2)
 //   output   length (2, at most 512, in entries 11 and 12 at most 65535), the octet that fills it (1)
@@ -36,9 +42,10 @@
 
 use std::io::{self, Read, Write};
 
+use crate::basic::{self, BasicRecord, Marking, WayRecord, MAX_FLAG_FIELDS};
 use crate::decision::{deliver, forward, Decision, Facts};
-use crate::entries::Entries;
-use crate::file::{self, Refusal, SetRecord, MAX_PORTS, MAX_TABLES};
+use crate::entries::{Entries, BASIC_GROUP, GROUPS};
+use crate::file::{self, Refusal, SetRecord, Unwritten, MAX_PORTS, MAX_TABLES};
 use crate::label::{HeldLabel, Run, MAX_RUNS};
 use crate::option::{read_alone, read_bitmap_alone, spell_alone};
 use crate::records::{renumber_alone, reverse, HostRecord, PortRecord, Row, TableRecord, MAX_LEVEL_PAIRS, MAX_ROWS};
@@ -55,6 +62,10 @@ pub const DELIVER_FACTS: u8 = 9;
 pub const READ_FILE: u8 = 10;
 pub const READ_AND_WRITE: u8 = 11;
 pub const WRITE_FILE: u8 = 12;
+pub const READ_BASIC: u8 = 13;
+pub const WRITE_BASIC: u8 = 14;
+pub const FORWARD_WIDE: u8 = 15;
+pub const DELIVER_WIDE: u8 = 16;
 pub const REVERSE: u8 = 22;
 pub const BITMAP: u8 = 24;
 
@@ -102,6 +113,10 @@ pub enum Case {
     ReadFile(Vec<u8>),
     ReadAndWrite(Vec<u8>, Output),
     WriteFile(Box<SetRecord>, Output),
+    ReadBasic(Vec<u8>),
+    WriteBasic(Marking, Output),
+    ForwardWide(Box<ForwardCase>),
+    DeliverWide(Box<DeliverCase>),
     Reverse(TableRecord, usize),
     Bitmap(Vec<u8>),
 }
@@ -174,6 +189,7 @@ impl<'a> Fields<'a> {
             highest: self.label()?,
             required: self.flag()?,
             assigned: self.label()?,
+            ..PortRecord::PLAIN
         })
     }
 
@@ -211,13 +227,25 @@ impl<'a> Fields<'a> {
         self.octets(count).map(|octets| octets.to_vec())
     }
 
-    /// "A group that is not built yet doesn't parse", and none is.
+    /// "A group that is not built yet doesn't parse."
     fn wide_port(&mut self) -> Option<PortRecord> {
-        let port = self.port()?;
-        if self.one()? != 0 {
+        let mut port = self.port()?;
+        let groups = self.one()?;
+        if groups & !GROUPS != 0 {
             return None;
         }
+        if groups & BASIC_GROUP != 0 {
+            port.basic = BasicRecord { on: self.flag()?, receiving: self.way()?, sending: self.way()? };
+        }
         Some(port)
+    }
+
+    fn way(&mut self) -> Option<WayRecord> {
+        let mut way = WayRecord { lowest: self.one()?, highest: self.one()?, count: self.two()?, ..WayRecord::ALL_ZERO };
+        for place in 0..self.long_stored(MAX_FLAG_FIELDS)? {
+            way.places[place] = self.two()?;
+        }
+        Some(way)
     }
 
     fn long_stored(&mut self, limit: usize) -> Option<usize> {
@@ -263,6 +291,21 @@ impl<'a> Fields<'a> {
     fn deliver(&mut self, facts: impl Fn(&mut Self) -> Option<Facts>) -> Option<DeliverCase> {
         Some(DeliverCase { port: self.port()?, host: self.host()?, facts: facts(self)?, area: self.counted_octets()? })
     }
+
+    fn forward_wide(&mut self) -> Option<ForwardCase> {
+        Some(ForwardCase {
+            arriving: self.wide_port()?,
+            leaving: self.wide_port()?,
+            table: self.wide_table()?,
+            facts: self.facts()?,
+            area: self.counted_octets()?,
+            output: self.output()?,
+        })
+    }
+
+    fn deliver_wide(&mut self) -> Option<DeliverCase> {
+        Some(DeliverCase { port: self.wide_port()?, host: self.host()?, facts: self.facts()?, area: self.counted_octets()? })
+    }
 }
 
 /// The case that the octets after a length mean, or none where they don't parse or their entry is not among the given ones.
@@ -285,6 +328,10 @@ pub fn parse(octets: &[u8], entries: &Entries) -> Option<Case> {
         READ_FILE => Case::ReadFile(fields.long_octets()?),
         READ_AND_WRITE => Case::ReadAndWrite(fields.long_octets()?, fields.output_up_to(MAX_FILE_OUTPUT)?),
         WRITE_FILE => Case::WriteFile(Box::new(fields.set()?), fields.output_up_to(MAX_FILE_OUTPUT)?),
+        READ_BASIC => Case::ReadBasic(fields.counted_octets()?),
+        WRITE_BASIC => Case::WriteBasic(Marking { level: fields.one()?, flags: fields.two()? }, fields.output()?),
+        FORWARD_WIDE => Case::ForwardWide(Box::new(fields.forward_wide()?)),
+        DELIVER_WIDE => Case::DeliverWide(Box::new(fields.deliver_wide()?)),
         REVERSE => Case::Reverse(fields.wide_table()?, fields.long_stored(MAX_ROOM)?),
         BITMAP => Case::Bitmap(fields.counted_octets()?),
         _ => return None,
@@ -368,9 +415,26 @@ impl Encoder {
         self.octets.extend(octets);
     }
 
-    fn wide_port(&mut self, port: &PortRecord) {
+    /// A group that says what document 01 says is there only with `spare`.
+    pub fn wide_port(&mut self, port: &PortRecord) {
         self.port(port);
-        self.octets.push(0);
+        let basic = self.spare > 0 || port.basic != BasicRecord::OFF;
+        self.octets.push(if basic { BASIC_GROUP } else { 0 });
+        if basic {
+            self.octets.push(port.basic.on as u8);
+            self.way(&port.basic.receiving);
+            self.way(&port.basic.sending);
+        }
+    }
+
+    fn way(&mut self, way: &WayRecord) {
+        let stored = self.stored(way.needed(), MAX_FLAG_FIELDS);
+        self.octets.extend([way.lowest, way.highest]);
+        self.two(way.count);
+        self.two(stored as u16);
+        for field in &way.places[..stored] {
+            self.two(*field);
+        }
     }
 
     fn wide_table(&mut self, table: &TableRecord) {
@@ -425,6 +489,22 @@ impl Encoder {
         self.port(&case.port);
         self.host(&case.host);
         self.flags(facts);
+        self.counted_octets(&case.area);
+    }
+
+    fn forward_wide(&mut self, case: &ForwardCase) {
+        self.wide_port(&case.arriving);
+        self.wide_port(&case.leaving);
+        self.wide_table(&case.table);
+        self.flags(&case.facts.listed());
+        self.counted_octets(&case.area);
+        self.output(case.output);
+    }
+
+    fn deliver_wide(&mut self, case: &DeliverCase) {
+        self.wide_port(&case.port);
+        self.host(&case.host);
+        self.flags(&case.facts.listed());
         self.counted_octets(&case.area);
     }
 }
@@ -486,6 +566,23 @@ pub fn encode(case: &Case, spare: usize) -> Vec<u8> {
             encoder.octets.push(WRITE_FILE);
             encoder.set(set);
             encoder.output(*output);
+        }
+        Case::ReadBasic(octets) => {
+            encoder.octets.push(READ_BASIC);
+            encoder.counted_octets(octets);
+        }
+        Case::WriteBasic(marking, output) => {
+            encoder.octets.extend([WRITE_BASIC, marking.level]);
+            encoder.two(marking.flags);
+            encoder.output(*output);
+        }
+        Case::ForwardWide(case) => {
+            encoder.octets.push(FORWARD_WIDE);
+            encoder.forward_wide(case);
+        }
+        Case::DeliverWide(case) => {
+            encoder.octets.push(DELIVER_WIDE);
+            encoder.deliver_wide(case);
         }
         Case::Reverse(table, room) => {
             encoder.octets.push(REVERSE);
@@ -576,10 +673,26 @@ impl Line {
     /// What the writer of files answers, and the output that it leaves.
     fn written(&mut self, set: &SetRecord, output: Output) {
         let mut octets = vec![output.fill; output.length];
-        let (number, count) = file::write(set, &mut octets);
-        self.number(number as usize);
+        let count = match file::write(set, &mut octets) {
+            Ok(count) => {
+                self.number(0);
+                count
+            }
+            Err(refusal) => {
+                self.unwritten(refusal);
+                0
+            }
+        };
         self.number(count);
         self.output(&octets);
+    }
+
+    pub fn unwritten(&mut self, refusal: Unwritten) {
+        match refusal {
+            Unwritten::Unsound => self.number(2),
+            Unwritten::Named => self.word("NAMED"),
+            Unwritten::Short => self.number(1),
+        }
     }
 
     fn decision(&mut self, decision: &Decision) {
@@ -637,13 +750,13 @@ pub fn answer(case: &Case) -> String {
             line.number(pointer);
             line.label(&held);
         }
-        Case::Forward(case) | Case::ForwardFacts(case) => {
+        Case::Forward(case) | Case::ForwardFacts(case) | Case::ForwardWide(case) => {
             let mut octets = vec![case.output.fill; case.output.length];
             let decision = forward(&case.arriving, &case.leaving, &case.table, &case.facts, &case.area, &mut octets);
             line.decision(&decision);
             line.output(&octets);
         }
-        Case::Deliver(case) | Case::DeliverFacts(case) => {
+        Case::Deliver(case) | Case::DeliverFacts(case) | Case::DeliverWide(case) => {
             let decision = deliver(&case.port, &case.host, &case.facts, &case.area);
             line.decision(&decision);
         }
@@ -660,6 +773,22 @@ pub fn answer(case: &Case) -> String {
             Err(refusal) => line.refusal(refusal),
         },
         Case::WriteFile(set, output) => line.written(set, *output),
+        Case::ReadBasic(octets) => {
+            let (number, marking) = match basic::read_alone(octets) {
+                Some(marking) => (0, marking),
+                None => (19, Marking { level: 0, flags: 0 }),
+            };
+            line.number(number);
+            line.number(marking.level as usize);
+            line.number(marking.flags as usize);
+        }
+        Case::WriteBasic(marking, output) => {
+            let mut octets = vec![output.fill; output.length];
+            let (number, count) = basic::write_alone(marking, &mut octets);
+            line.number(number as usize);
+            line.number(count);
+            line.output(&octets);
+        }
         Case::Reverse(table, room) => {
             let (number, reversed) = match reverse(table, *room) {
                 Ok(reversed) => (0, reversed),

@@ -1,10 +1,12 @@
 // The two jobs: forward and deliver.
 //
-// Document 01, "The order of checks, and each number". "The lowest number wins": the checks stand in the order of their numbers.
+// Document 01, "The order of checks, and each number". "The lowest number wins": the checks stand in the order of their numbers, save that
+// document 02 adds "numbers 19, 20 and 21 after 13, in that order".
 
 use crate::area::{build, size_fits, walk, Walk};
+use crate::basic::{self, Marking, BASIC_SECURITY};
 use crate::label::{HeldLabel, Label};
-use crate::option::{read, spell, Fault, MAX_OCTETS};
+use crate::option::{fault, read, spell, Fault, CIPSO, MAX_OCTETS};
 use crate::records::{HostRecord, Port, PortRecord, TableRecord};
 
 /// "Pointers count from the header's start: 20 plus the offset in the area."
@@ -17,7 +19,6 @@ const PARAMETER_PROBLEM: u8 = 12;
 const UNREACHABLE: u8 = 3;
 /// Code of a parameter problem where an option is missing; the pointer is then the missing type.
 const OPTION_MISSING: u8 = 1;
-const MISSING_TYPE: u8 = 134;
 
 /// What the caller states of a datagram. Document 02, wish 2: "no error goes out about an ICMP error message, a broadcast or multicast
 /// destination, a link-layer broadcast, a fragment other than the first, or a source that isn't one host".
@@ -71,9 +72,10 @@ fn refuse<T>(number: u8) -> Result<T, Fault> {
 /// The column "Type / code / pointer".
 fn report_of(fault: Fault, job_code: u8) -> (u8, u8, u8) {
     match fault.number {
-        3..=5 | 7..=13 => (PARAMETER_PROBLEM, 0, (HEADER_OCTETS + fault.offset) as u8),
-        6 => (PARAMETER_PROBLEM, OPTION_MISSING, MISSING_TYPE),
-        14..=18 => (UNREACHABLE, job_code, 0),
+        3..=5 | 7..=13 | 19 => (PARAMETER_PROBLEM, 0, (HEADER_OCTETS + fault.offset) as u8),
+        6 => (PARAMETER_PROBLEM, OPTION_MISSING, CIPSO),
+        20 => (PARAMETER_PROBLEM, OPTION_MISSING, BASIC_SECURITY),
+        14..=18 | 21 => (UNREACHABLE, job_code, 0),
         _ => (0, 0, 0),
     }
 }
@@ -89,11 +91,19 @@ fn done(label: HeldLabel, count: usize) -> Decision {
     Decision { number: 0, icmp_type: 0, icmp_code: 0, pointer: 0, count, label }
 }
 
-/// Checks 3 to 14 on an area of a fitting size at a sound port: the datagram's label, "its own, or the port's if it has none and none
-/// is required", and what the walk met.
-fn arrive<'a>(area: &'a [u8], port: &Port) -> Result<(Label, Walk<'a>), Fault> {
+/// What arrives at a port.
+struct Arrival<'a> {
+    /// "its own, or the port's if it has none and none is required"
+    label: Label,
+    /// What the option 130 says, where the port has it switched on.
+    marking: Option<Marking>,
+    met: Walk<'a>,
+}
+
+/// Checks 3 to 13, 19 and 20 on an area of a fitting size at a sound port.
+fn arrive<'a>(area: &'a [u8], port: &Port) -> Result<Arrival<'a>, Fault> {
     // 3 to 5.
-    let met = walk(area)?;
+    let met = walk(area, port.basic.is_some())?;
     let label = match (met.cipso, &port.assigned) {
         // 6: "label required, none there".
         (None, None) => return refuse(6),
@@ -104,11 +114,17 @@ fn arrive<'a>(area: &'a [u8], port: &Port) -> Result<(Label, Walk<'a>), Fault> {
             Err(fault) => return Err(Fault { number: fault.number, offset: at + fault.offset }),
         },
     };
-    // 14: "outside the arriving port's range".
-    if !port.in_range(&label) {
-        return refuse(14);
-    }
-    Ok((label, met))
+    let marking = match (&port.basic, met.basic) {
+        (None, _) => None,
+        // 20: "missing where it has".
+        (Some(_), None) => return refuse(20),
+        // 19: "bad, 12/0/its type octet".
+        (Some(_), Some((at, option))) => match basic::read(option) {
+            Some(marking) => Some(marking),
+            None => return fault(19, at),
+        },
+    };
+    Ok(Arrival { label, marking, met })
 }
 
 /// The leaving label and the leaving area, or the first refusal.
@@ -136,8 +152,16 @@ fn decide_forward(
         },
         _ => None,
     };
-    // 3 to 14.
-    let (label, met) = arrive(area, &arriving)?;
+    // 3 to 13, 19 and 20.
+    let Arrival { label, marking, met } = arrive(area, &arriving)?;
+    // 21: "level or flags out of range at either port".
+    if !arriving.receives(marking.as_ref()) || !leaving.sends(marking.as_ref()) {
+        return refuse(21);
+    }
+    // 14: "outside the arriving port's range".
+    if !arriving.in_range(&label) {
+        return refuse(14);
+    }
     // 16: "forward, domains differ: table's domains aren't the two ports', or a level or category has no number". "With equal port
     // domains the table isn't read and the label stays."
     let label = match table {
@@ -204,8 +228,16 @@ fn decide_deliver(port: &PortRecord, host: &HostRecord, area: &[u8]) -> Result<L
         Some(host) => host,
         None => return refuse(2),
     };
-    // 3 to 14.
-    let (label, _) = arrive(area, &port)?;
+    // 3 to 13, 19 and 20.
+    let Arrival { label, marking, .. } = arrive(area, &port)?;
+    // 21, at the one port.
+    if !port.receives(marking.as_ref()) {
+        return refuse(21);
+    }
+    // 14: "outside the arriving port's range".
+    if !port.in_range(&label) {
+        return refuse(14);
+    }
     // 15: "deliver: outside the host's range".
     if !host.in_range(&label) {
         return refuse(15);

@@ -1,5 +1,6 @@
 // Holds the fast variant against the plain reference on generated cases of the entries that it has.
 
+use crate::basic::WayRecord;
 use crate::cases::{hex, parse, Case, Line, Output};
 use crate::entries::Entries;
 use crate::fast;
@@ -25,7 +26,12 @@ fn port(record: &PortRecord) -> fast::Port {
         highest: label(&record.highest),
         required: record.required,
         assigned: label(&record.assigned),
+        basic: fast::basic::Basic { on: record.basic.on, receiving: way(&record.basic.receiving), sending: way(&record.basic.sending) },
     }
+}
+
+fn way(record: &WayRecord) -> fast::basic::Way {
+    fast::basic::Way { lowest: record.lowest, highest: record.highest, count: record.count, fields: record.places }
 }
 
 fn table(record: &TableRecord) -> fast::Table {
@@ -75,7 +81,11 @@ fn add_written(line: &mut Line, set: &fast::file::Set, output: Output) {
         Ok(count) => (0, count),
         Err(number) => (number, 0),
     };
-    line.number(number as usize);
+    if number == fast::file::NAMED {
+        line.word("NAMED");
+    } else {
+        line.number(number as usize);
+    }
     line.number(count);
     line.output(&octets);
 }
@@ -111,7 +121,7 @@ fn answer(case: &Case) -> Option<String> {
             line.number(pointer as usize);
             add_label(&mut line, &label);
         }
-        Case::Forward(case) | Case::ForwardFacts(case) => {
+        Case::Forward(case) | Case::ForwardFacts(case) | Case::ForwardWide(case) => {
             let mut octets = vec![case.output.fill; case.output.length];
             let (arriving, leaving, table) = (port(&case.arriving), port(&case.leaving), table(&case.table));
             let decision = fast::forward(&arriving, &leaving, &table, case.facts.silence(), &case.area, &mut octets);
@@ -134,6 +144,23 @@ fn answer(case: &Case) -> Option<String> {
             Err(refusal) => add_refusal(&mut line, refusal),
         },
         Case::WriteFile(record, output) => add_written(&mut line, &set(record), *output),
+        Case::ReadBasic(octets) => {
+            let marking = fast::basic::read_basic(octets);
+            line.number(if marking.is_some() { 0 } else { 19 });
+            line.number(marking.map_or(0, |marking| marking.level as usize));
+            line.number(marking.map_or(0, |marking| marking.flags as usize));
+        }
+        Case::WriteBasic(marking, output) => {
+            let mut octets = vec![output.fill; output.length];
+            let marking = fast::basic::Marking { level: marking.level, flags: marking.flags };
+            let (number, count) = match fast::basic::write_basic(marking, &mut octets) {
+                Ok(count) => (0, count),
+                Err(number) => (number, 0),
+            };
+            line.number(number as usize);
+            line.number(count as usize);
+            line.output(&octets);
+        }
         Case::Bitmap(octets) => {
             let mut runs = fast::Label::ALL_ZERO.runs;
             match fast::read_bitmap_alone(octets, &mut runs) {

@@ -304,10 +304,16 @@ impl Writer<'_> {
     }
 }
 
-/// Writes the file of a set: its length, or 2 or 1.
+/// Stands for a refusal by name.
+pub const NAMED: u8 = u8::MAX;
+
+/// Writes the file of a set: its length, or 2, `NAMED` or 1.
 pub fn write_file(set: &Set, output: &mut [u8]) -> Result<usize, u8> {
     if !set.sound() {
         return Err(2);
+    }
+    if !set.ports[..set.port_count as usize].iter().all(Port::is_plain) {
+        return Err(NAMED);
     }
     let length = set.length();
     let octets = output.get_mut(..length).ok_or(1)?;

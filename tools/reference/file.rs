@@ -128,7 +128,8 @@ impl<'a> Reader<'a> {
         if !required && !(lowest.within(&assigned) && assigned.within(&highest)) {
             return Err(Refusal::Place(assigned_at));
         }
-        Ok(PortRecord { domain, lowest, highest, required, assigned })
+        // "Version 1 files read later port fields as 01 had them".
+        Ok(PortRecord { domain, lowest, highest, required, assigned, ..PortRecord::PLAIN })
     }
 
     fn table(&mut self) -> Result<TableRecord, Refusal> {
@@ -225,7 +226,7 @@ fn table_octets(table: &TableRecord) -> Vec<u8> {
     octets
 }
 
-/// "A sound set has one file".
+/// "A sound set has one file", where version 1 can say it.
 pub fn file_of(set: &SetRecord) -> Vec<u8> {
     let mut octets = vec![0, 0, VERSION, set.port_count];
     octets.extend(set.ports[..set.port_count as usize].iter().flat_map(port_octets));
@@ -236,16 +237,30 @@ pub fn file_of(set: &SetRecord) -> Vec<u8> {
     octets
 }
 
+/// Why a set is not written.
+#[derive(Clone, Copy, PartialEq, Eq, Debug)]
+pub enum Unwritten {
+    /// 2.
+    Unsound,
+    /// "until Wish 8 the writer refuses others by name, after 2": a port has later fields that version 1 cannot say.
+    Named,
+    /// 1.
+    Short,
+}
+
 /// "The writer gives 2 for an unsound set, then 1 for too short an output; like every call added later, it keeps lent room past what
-/// it writes." The number and the count.
-pub fn write(set: &SetRecord, output: &mut [u8]) -> (u8, usize) {
+/// it writes." The count.
+pub fn write(set: &SetRecord, output: &mut [u8]) -> Result<usize, Unwritten> {
     if !set.sound() {
-        return (2, 0);
+        return Err(Unwritten::Unsound);
+    }
+    if !set.ports[..set.port_count as usize].iter().all(PortRecord::is_plain) {
+        return Err(Unwritten::Named);
     }
     let file = file_of(set);
     if output.len() < file.len() {
-        return (1, 0);
+        return Err(Unwritten::Short);
     }
     output[..file.len()].copy_from_slice(&file);
-    (0, file.len())
+    Ok(file.len())
 }

@@ -4,11 +4,13 @@
 //   records               port, host, table          area       the options area
 //   decision              forward and deliver        cases      calls read from octets, answered in lines
 //   sample                the sample program's job   fast       the same answers, written for speed
-//   file                  the house file            entries    which calls are built
+//   file                  the house file             entries    which calls are built
+//   basic                 one Basic Security option
 //
 // The other files generate cases and compare answers.
 
 mod area;
+mod basic;
 mod cases;
 mod categories;
 mod decision;

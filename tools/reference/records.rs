@@ -2,6 +2,7 @@
 //
 // Document 01, "Records".
 
+use crate::basic::{self, Basic, BasicRecord, Marking};
 use crate::categories::Categories;
 use crate::label::{HeldLabel, Label, HIGHEST_CATEGORY};
 
@@ -10,7 +11,7 @@ pub const MAX_LEVEL_PAIRS: usize = 16;
 /// "up to 64 rows (low, high, target low)"
 pub const MAX_ROWS: usize = 64;
 
-/// "Port: domain, lowest and highest label, whether a label is required, an assigned label."
+/// "Port: domain, lowest and highest label, whether a label is required, an assigned label." Then the fields of document 02.
 #[derive(Clone, PartialEq, Eq)]
 pub struct PortRecord {
     pub domain: u32,
@@ -18,22 +19,40 @@ pub struct PortRecord {
     pub highest: HeldLabel,
     pub required: bool,
     pub assigned: HeldLabel,
+    /// Wish 3.
+    pub basic: BasicRecord,
 }
 
-/// What a sound port record says. `assigned` is none where a label is required.
+/// What a sound port record says. `assigned` is none where a label is required, `basic` where option 130 is switched off.
 pub struct Port {
     pub domain: u32,
     pub lowest: Label,
     pub highest: Label,
     pub assigned: Option<Label>,
+    pub basic: Option<Basic>,
 }
 
 impl PortRecord {
-    pub const ALL_ZERO: PortRecord =
-        PortRecord { domain: 0, lowest: HeldLabel::ALL_ZERO, highest: HeldLabel::ALL_ZERO, required: false, assigned: HeldLabel::ALL_ZERO };
+    pub const ALL_ZERO: PortRecord = PortRecord {
+        domain: 0,
+        lowest: HeldLabel::ALL_ZERO,
+        highest: HeldLabel::ALL_ZERO,
+        required: false,
+        assigned: HeldLabel::ALL_ZERO,
+        basic: BasicRecord::OFF,
+    };
+
+    /// The later fields "as 01 had them".
+    pub const PLAIN: PortRecord = PortRecord { ..PortRecord::ALL_ZERO };
+
+    /// Whether the later fields are "as 01 had them".
+    pub fn is_plain(&self) -> bool {
+        self.basic == PortRecord::PLAIN.basic
+    }
 
     /// "Sound: nonzero domain, all labels used are well formed and of that domain, lowest ≤ highest. If a label isn't required, the
-    /// assigned label is in range; if it is required, the assigned label is all zero."
+    /// assigned label is in range; if it is required, the assigned label is all zero." Wish 3: "Sound then also asks" for the fields of
+    /// option 130.
     pub fn sound(&self) -> Option<Port> {
         if self.domain == 0 {
             return None;
@@ -55,13 +74,24 @@ impl PortRecord {
             }
             Some(assigned)
         };
-        Some(Port { domain: self.domain, lowest, highest, assigned })
+        let basic = self.basic.sound()?;
+        Some(Port { domain: self.domain, lowest, highest, assigned, basic })
     }
 }
 
 impl Port {
     pub fn in_range(&self, label: &Label) -> bool {
         label.in_range(&self.lowest, &self.highest)
+    }
+
+    /// 21 at the arriving port does not apply.
+    pub fn receives(&self, marking: Option<&Marking>) -> bool {
+        basic::passes(self.basic.as_ref().map(|basic| &basic.receiving), marking)
+    }
+
+    /// 21 at the leaving port does not apply.
+    pub fn sends(&self, marking: Option<&Marking>) -> bool {
+        basic::passes(self.basic.as_ref().map(|basic| &basic.sending), marking)
     }
 }
 

@@ -20,7 +20,7 @@ fn label_up_to(domain: u32, level: u8, highest: u16) -> HeldLabel {
 
 /// "both ports require labels"
 fn port(lowest: HeldLabel, highest: HeldLabel) -> PortRecord {
-    PortRecord { domain: lowest.domain, lowest, highest, required: true, assigned: HeldLabel::ALL_ZERO }
+    PortRecord { domain: lowest.domain, lowest, highest, required: true, assigned: HeldLabel::ALL_ZERO, ..PortRecord::PLAIN }
 }
 
 /// "Arriving: domain 5, level 1 with no categories to level 5 with 0..300."

@@ -5,4 +5,4 @@ use Rattle.area.specs.Examples.{WorkedAreas}
 
 pub worked : WorkedAreas
 unfolding metFrom metOf walkOf
-worked = refl
+worked = (refl, refl)

@@ -1,7 +1,6 @@
 -- Laws of the walk's definitions.
 use Prim.Native.Nat.{ℕ, zero, suc, pred, _+_, _-_, _≤_, _<_}
 use mathlib.Core.Path.{_≡_, refl, sym, ap, subst, _∙_}
-use mathlib.Core.Logic.{_⊎_, inl, inr}
 use mathlib.Core.List.{List, [], _∷_, _++_}
 use mathlib.Core.Bool.{Bool, true, false, cond}
 use native.Mathlib.Nat.{add-zero}
@@ -21,7 +20,7 @@ use Rattle.area.specs.declared.Walk.{Walk}
 use Rattle.area.specs.declared.Walk.the-variants.{Sound, Refused}
 use Rattle.area.specs.declared.Turn.{Turn}
 use Rattle.area.specs.declared.Turn.the-variants.{Done, On}
-use Rattle.area.specs.Area.{kindOf, sizeOf, Met, spanOf, frontOf, metFrom, metOf, judge, judged, walkOf, LabelAt, placedIn}
+use Rattle.area.specs.Area.{kindOf, sizeOf, Met, spanOf, frontOf, metFrom, metOf, judge, judged, walkOf, WholeAt, placedIn}
 use Rattle.area.specs.Meets.{StandIn}
 use Rattle.area.specs.Stages.{turnOf}
 use Rattle.area.proofs.Meets.{met-stand}
@@ -84,141 +83,182 @@ unfolding metFrom
 met-end area at h = rw (drop-of-length-le area h)
 
 -- what follows a turn of the walk
-abbrev pub afterTurn : List ℕ → ℕ → Turn → Walk
-afterTurn l at (Done w) = w
-afterTurn l at (On n s) = judged (metFrom (drop n l) 0 (at + n)) s
+abbrev pub afterTurn : Bool → List ℕ → ℕ → Turn → Walk
+afterTurn on l at (Done w) = w
+afterTurn on l at (On n label basic) = judged on (metFrom (drop n l) 0 (at + n)) label basic
 
-judged-front : (l : List ℕ) (at : ℕ) (k : Kind) (z : Size) (seen : Place)
-    → judged (frontOf k z at ++ behind l at (spanOf k z)) seen ≡ afterTurn l at (turnOf k z at seen)
-judged-front l at End z seen = refl
-judged-front l at NoOperation z seen = refl
-judged-front l at Basic (Whole n) seen = refl
-judged-front l at Basic Bad seen = refl
-judged-front l at Extended (Whole n) seen = refl
-judged-front l at Extended Bad seen = refl
-judged-front l at Cipso (Whole n) Nowhere = refl
-judged-front l at Cipso (Whole n) (At p) = refl
-judged-front l at Cipso Bad seen = refl
-judged-front l at Other (Whole n) seen = refl
-judged-front l at Other Bad seen = refl
+judged-front : (on : Bool) (l : List ℕ) (at : ℕ) (k : Kind) (z : Size) (label basic : Place)
+    → judged on (frontOf k z at ++ behind l at (spanOf k z)) label basic ≡ afterTurn on l at (turnOf on k z at label basic)
+judged-front on l at End z label basic = refl
+judged-front on l at NoOperation z label basic = refl
+judged-front false l at Basic (Whole n) label basic = refl
+judged-front true l at Basic (Whole n) label Nowhere = refl
+judged-front true l at Basic (Whole n) label (At p) = refl
+judged-front on l at Basic Bad label basic = refl
+judged-front on l at Extended (Whole n) label basic = refl
+judged-front on l at Extended Bad label basic = refl
+judged-front on l at Cipso (Whole n) Nowhere basic = refl
+judged-front on l at Cipso (Whole n) (At p) basic = refl
+judged-front on l at Cipso Bad label basic = refl
+judged-front on l at Other (Whole n) label basic = refl
+judged-front on l at Other Bad label basic = refl
 
-pub walk-turn : (l : List ℕ) (at : ℕ) (seen : Place) → 0 < length l
-    → judged (metFrom l 0 at) seen ≡ afterTurn l at (turnOf (kindOf (getD l 0 0)) (sizeOf l) at seen)
-walk-turn l at seen h = ap (λ (ms : List Met). judged ms seen) (met-turn l at h) ∙ judged-front l at (kindOf (getD l 0 0)) (sizeOf l) seen
+pub walk-turn : (on : Bool) (l : List ℕ) (at : ℕ) (label basic : Place) → 0 < length l
+    → judged on (metFrom l 0 at) label basic ≡ afterTurn on l at (turnOf on (kindOf (getD l 0 0)) (sizeOf l) at label basic)
+walk-turn on l at label basic h =
+    ap (λ (ms : List Met). judged on ms label basic) (met-turn l at h) ∙ judged-front on l at (kindOf (getD l 0 0)) (sizeOf l) label basic
 
 -- a turn that goes on passes over the whole option
-turn-on : (k : Kind) (z : Size) (at : ℕ) (seen : Place) (n : ℕ) (s : Place) → turnOf k z at seen ≡ On n s → spanOf k z ≡ Whole n
-turn-on End z at seen n s e = let z : _≡_ {A = ℕ} 0 1 = cc in absurd (omega arith)
-turn-on NoOperation z at seen n s e = cc
-turn-on Basic (Whole m) at seen n s e = let z : _≡_ {A = ℕ} 0 1 = cc in absurd (omega arith)
-turn-on Basic Bad at seen n s e = let z : _≡_ {A = ℕ} 0 1 = cc in absurd (omega arith)
-turn-on Extended (Whole m) at seen n s e = let z : _≡_ {A = ℕ} 0 1 = cc in absurd (omega arith)
-turn-on Extended Bad at seen n s e = let z : _≡_ {A = ℕ} 0 1 = cc in absurd (omega arith)
-turn-on Cipso (Whole m) at Nowhere n s e = cc
-turn-on Cipso (Whole m) at (At x) n s e = let z : _≡_ {A = ℕ} 0 1 = cc in absurd (omega arith)
-turn-on Cipso Bad at seen n s e = let z : _≡_ {A = ℕ} 0 1 = cc in absurd (omega arith)
-turn-on Other (Whole m) at seen n s e = cc
-turn-on Other Bad at seen n s e = let z : _≡_ {A = ℕ} 0 1 = cc in absurd (omega arith)
+turn-on : (on : Bool) (k : Kind) (z : Size) (at : ℕ) (label basic : Place) (n : ℕ) (l b : Place) → turnOf on k z at label basic ≡ On n l b → spanOf k z ≡ Whole n
+turn-on on End z at label basic n l b e = let z : _≡_ {A = ℕ} 0 1 = cc in absurd (omega arith)
+turn-on on NoOperation z at label basic n l b e = cc
+turn-on false Basic (Whole m) at label basic n l b e = let z : _≡_ {A = ℕ} 0 1 = cc in absurd (omega arith)
+turn-on true Basic (Whole m) at label Nowhere n l b e = cc
+turn-on true Basic (Whole m) at label (At x) n l b e = let z : _≡_ {A = ℕ} 0 1 = cc in absurd (omega arith)
+turn-on on Basic Bad at label basic n l b e = let z : _≡_ {A = ℕ} 0 1 = cc in absurd (omega arith)
+turn-on on Extended (Whole m) at label basic n l b e = let z : _≡_ {A = ℕ} 0 1 = cc in absurd (omega arith)
+turn-on on Extended Bad at label basic n l b e = let z : _≡_ {A = ℕ} 0 1 = cc in absurd (omega arith)
+turn-on on Cipso (Whole m) at Nowhere basic n l b e = cc
+turn-on on Cipso (Whole m) at (At x) basic n l b e = let z : _≡_ {A = ℕ} 0 1 = cc in absurd (omega arith)
+turn-on on Cipso Bad at label basic n l b e = let z : _≡_ {A = ℕ} 0 1 = cc in absurd (omega arith)
+turn-on on Other (Whole m) at label basic n l b e = cc
+turn-on on Other Bad at label basic n l b e = let z : _≡_ {A = ℕ} 0 1 = cc in absurd (omega arith)
 
 -- one turn of the loop, from what the calls gave: k the kind, z the size, u the turn
-module _ (area : List ℕ) (at : ℕ) (seen : Place) (k : Kind) (z : Size) (u : Turn) (h : at < length area)
-    (ez : z ≡ sizeOf (take (length area - at) (drop at area))) (eu : u ≡ turnOf k z at seen) where
+module _ (on : Bool) (area : List ℕ) (at : ℕ) (label basic : Place) (k : Kind) (z : Size) (u : Turn) (h : at < length area)
+    (ez : z ≡ sizeOf (take (length area - at) (drop at area))) (eu : u ≡ turnOf on k z at label basic) where
   pub turn-here :
       k ≡ kindOf (getD (take (length area - at) (drop at area)) 0 0)
-      → judged (metFrom (drop at area) 0 at) seen ≡ afterTurn (drop at area) at u
-  turn-here ek = rw (eu, ek, ez, tail-is) (walk-turn (drop at area) at seen (simp length-drop (omega arith)))
+      → judged on (metFrom (drop at area) 0 at) label basic ≡ afterTurn on (drop at area) at u
+  turn-here ek = rw (eu, ek, ez, tail-is) (walk-turn on (drop at area) at label basic (simp length-drop (omega arith)))
 
-  pub turn-moves : (n : ℕ) (s : Place) → u ≡ On n s → (1 ≤ n) × (at + n ≤ length area)
-  turn-moves n s e =
+  pub turn-moves : (n : ℕ) (l b : Place) → u ≡ On n l b → (1 ≤ n) × (at + n ≤ length area)
+  turn-moves n l b e =
       let ez′ : z ≡ sizeOf (drop at area) = rw tail-is at ez in
-      let q = span-on k (drop at area) z n (sym ez′) (simp length-drop (omega arith)) (turn-on k z at seen n s (sym eu ∙ e)) in
+      let q = span-on k (drop at area) z n (sym ez′) (simp length-drop (omega arith)) (turn-on on k z at label basic n l b (sym eu ∙ e)) in
       omega (arith, length-drop at area)
 
-pub walk-end : (area : List ℕ) (at : ℕ) (seen : Place) → length area ≤ at → judged (metFrom (drop at area) 0 at) seen ≡ Sound seen
-walk-end area at seen h = ap (λ (ms : List Met). judged ms seen) (met-end area at h)
+pub walk-end : (on : Bool) (area : List ℕ) (at : ℕ) (label basic : Place) → length area ≤ at
+    → judged on (metFrom (drop at area) 0 at) label basic ≡ Sound label basic
+walk-end on area at label basic h = ap (λ (ms : List Met). judged on ms label basic) (met-end area at h)
 
--- a refusal has a number from 3 on, and the option's place
-judge-refused : (k : Kind) (z : Size) (at : ℕ) (seen : Place) (num p : ℕ) → judge k z at seen ≡ Refused num p → (3 ≤ num) × (at ≡ p)
-judge-refused k Bad at seen num p e = let q : 3 ≡ num = cc in (omega arith, cc)
-judge-refused End (Whole m) at seen num p e = let z : _≡_ {A = ℕ} 0 1 = cc in absurd (omega arith)
-judge-refused NoOperation (Whole m) at seen num p e = let z : _≡_ {A = ℕ} 0 1 = cc in absurd (omega arith)
-judge-refused Basic (Whole m) at seen num p e = let q : 4 ≡ num = cc in (omega arith, cc)
-judge-refused Extended (Whole m) at seen num p e = let q : 4 ≡ num = cc in (omega arith, cc)
-judge-refused Cipso (Whole m) at Nowhere num p e = let z : _≡_ {A = ℕ} 0 1 = cc in absurd (omega arith)
-judge-refused Cipso (Whole m) at (At x) num p e = let q : 5 ≡ num = cc in (omega arith, cc)
-judge-refused Other (Whole m) at seen num p e = let z : _≡_ {A = ℕ} 0 1 = cc in absurd (omega arith)
-
--- where the place comes from: it was seen before, or the option is a whole 134
-judge-placed : (k : Kind) (z : Size) (at : ℕ) (seen s : Place) → judge k z at seen ≡ Sound s
-    → (seen ≡ s) ⊎ ((At at ≡ s) × (k ≡ Cipso) × (n : ℕ) × (z ≡ Whole n))
-judge-placed k Bad at seen s e = let z : _≡_ {A = ℕ} 0 1 = cc in absurd (omega arith)
-judge-placed End (Whole m) at seen s e = inl cc
-judge-placed NoOperation (Whole m) at seen s e = inl cc
-judge-placed Basic (Whole m) at seen s e = let z : _≡_ {A = ℕ} 0 1 = cc in absurd (omega arith)
-judge-placed Extended (Whole m) at seen s e = let z : _≡_ {A = ℕ} 0 1 = cc in absurd (omega arith)
-judge-placed Cipso (Whole m) at Nowhere s e = inr (cc, refl, m, refl)
-judge-placed Cipso (Whole m) at (At x) s e = let z : _≡_ {A = ℕ} 0 1 = cc in absurd (omega arith)
-judge-placed Other (Whole m) at seen s e = inl cc
+-- a refusal is 3, 4 or 5, and has the option's place
+judge-refused : (on : Bool) (k : Kind) (z : Size) (at : ℕ) (label basic : Place) (num p : ℕ) → judge on k z at label basic ≡ Refused num p
+    → (3 ≤ num) × (num ≤ 5) × (at ≡ p)
+judge-refused on k Bad at label basic num p e = let q : 3 ≡ num = cc in (omega arith, omega arith, cc)
+judge-refused on End (Whole m) at label basic num p e = let z : _≡_ {A = ℕ} 0 1 = cc in absurd (omega arith)
+judge-refused on NoOperation (Whole m) at label basic num p e = let z : _≡_ {A = ℕ} 0 1 = cc in absurd (omega arith)
+judge-refused false Basic (Whole m) at label basic num p e = let q : 4 ≡ num = cc in (omega arith, omega arith, cc)
+judge-refused true Basic (Whole m) at label Nowhere num p e = let z : _≡_ {A = ℕ} 0 1 = cc in absurd (omega arith)
+judge-refused true Basic (Whole m) at label (At x) num p e = let q : 5 ≡ num = cc in (omega arith, omega arith, cc)
+judge-refused on Extended (Whole m) at label basic num p e = let q : 4 ≡ num = cc in (omega arith, omega arith, cc)
+judge-refused on Cipso (Whole m) at Nowhere basic num p e = let z : _≡_ {A = ℕ} 0 1 = cc in absurd (omega arith)
+judge-refused on Cipso (Whole m) at (At x) basic num p e = let q : 5 ≡ num = cc in (omega arith, omega arith, cc)
+judge-refused on Other (Whole m) at label basic num p e = let z : _≡_ {A = ℕ} 0 1 = cc in absurd (omega arith)
 
 -- the same of options that stand in an area
-judged-refused : (area : List ℕ) (ms : List Met) (seen : Place) (num p : ℕ) → StandIn area ms → judged ms seen ≡ Refused num p
-    → (3 ≤ num) × (p < length area)
-judged-refused area [] seen num p s e = let z : _≡_ {A = ℕ} 0 1 = cc in absurd (omega arith)
-judged-refused area (m ∷ ms) seen num p s e = go (judge (m .kind) (m .size) (m .at) seen) refl (λ q f. judged-refused area ms q num p (s .3) f) e
+judged-refused : (on : Bool) (area : List ℕ) (ms : List Met) (label basic : Place) (num p : ℕ) → StandIn area ms → judged on ms label basic ≡ Refused num p
+    → (3 ≤ num) × (num ≤ 5) × (p < length area)
+judged-refused on area [] label basic num p s e = let z : _≡_ {A = ℕ} 0 1 = cc in absurd (omega arith)
+judged-refused on area (m ∷ ms) label basic num p s e =
+    go (judge on (m .kind) (m .size) (m .at) label basic) refl (λ l b f. judged-refused on area ms l b num p (s .3) f) e
   where
-    go : (w : Walk) → judge (m .kind) (m .size) (m .at) seen ≡ w
-        → ((q : Place) → judged ms q ≡ Refused num p → (3 ≤ num) × (p < length area))
-        → elim w as (λ _. Walk) [ Sound q ↦ judged ms q | Refused n at ↦ Refused n at ] ≡ Refused num p → (3 ≤ num) × (p < length area)
-    go (Sound q) ew g e = g q e
+    go : (w : Walk) → judge on (m .kind) (m .size) (m .at) label basic ≡ w
+        → ((l b : Place) → judged on ms l b ≡ Refused num p → (3 ≤ num) × (num ≤ 5) × (p < length area))
+        → elim w as (λ _. Walk) [ Sound l b ↦ judged on ms l b | Refused n at ↦ Refused n at ] ≡ Refused num p → (3 ≤ num) × (num ≤ 5) × (p < length area)
+    go (Sound l b) ew g e = g l b e
     go (Refused n at) ew g e =
-        let q = judge-refused (m .kind) (m .size) (m .at) seen num p (ew ∙ e) in
-        omega (arith, s .0)
+        let q = judge-refused on (m .kind) (m .size) (m .at) label basic num p (ew ∙ e) in
+        (q .0, q .1, omega (arith, s .0, q .2))
 
-pub area-refused : (area : List ℕ) (num p : ℕ) → walkOf area ≡ Refused num p → (3 ≤ num) × (p < length area)
+pub area-refused : (on : Bool) (area : List ℕ) (num p : ℕ) → walkOf on area ≡ Refused num p → (3 ≤ num) × (num ≤ 5) × (p < length area)
 unfolding walkOf
-area-refused area num p e = judged-refused area (metOf area) Nowhere num p (met-stand area) e
+area-refused on area num p e = judged-refused on area (metOf area) Nowhere Nowhere num p (met-stand area) e
 
-label-at : (area : List ℕ) (m : Met) (n : ℕ) → m .kind ≡ kindOf (getD area (m .at) 0)
-    → m .size ≡ spanOf (m .kind) (sizeOf (drop (m .at) area)) → m .kind ≡ Cipso → m .size ≡ Whole n → LabelAt area (m .at)
-label-at area m n ek ez k z =
+-- an option that the walk meets whole is a whole option of its kind
+whole-at : (area : List ℕ) (m : Met) (k : Kind) (n : ℕ) → m .kind ≡ kindOf (getD area (m .at) 0)
+    → m .size ≡ spanOf (m .kind) (sizeOf (drop (m .at) area)) → m .kind ≡ k → spanOf k (sizeOf (drop (m .at) area)) ≡ sizeOf (drop (m .at) area)
+    → m .size ≡ Whole n → WholeAt k area (m .at)
+whole-at area m k n ek ez ik is z =
     let g : getD (drop (m .at) area) 0 0 ≡ getD area (m .at) 0 = getD-drop (m .at) area 0 0 ∙ ap (λ (i : ℕ). getD area i 0) (add-zero (m .at)) in
-    record { size = n; whole = sym (ap (λ (x : Kind). spanOf x (sizeOf (drop (m .at) area))) k) ∙ sym ez ∙ z; kind = ap kindOf g ∙ sym ek ∙ k }
+    record { size = n; whole = sym is ∙ sym (ap (λ (x : Kind). spanOf x (sizeOf (drop (m .at) area))) ik) ∙ sym ez ∙ z; kind = ap kindOf g ∙ sym ek ∙ ik }
 
-judged-placed : (area : List ℕ) (ms : List Met) (seen : Place) (p : ℕ) → StandIn area ms → judged ms seen ≡ Sound (At p)
-    → (seen ≡ At p) ⊎ LabelAt area p
-judged-placed area [] seen p s e = inl cc
-judged-placed area (m ∷ ms) seen p s e = go (judge (m .kind) (m .size) (m .at) seen) refl (λ q f. judged-placed area ms q p (s .3) f) e
+-- the places that were met are those of whole options
+abbrev Placed : List ℕ → Place → Place → Type 0
+Placed area label basic = placedIn Cipso label area × placedIn Basic basic area
+
+moved : (area : List ℕ) (label basic l b : Place) → Placed area label basic → label ≡ l → basic ≡ b → Placed area l b
+moved area label basic l b h e f = (subst (λ (x : Place). placedIn Cipso x area) e (h .0), subst (λ (x : Place). placedIn Basic x area) f (h .1))
+
+moved-on : (area : List ℕ) (label basic l b : Place) → Placed area label basic → Sound label basic ≡ Sound l b → Placed area l b
+moved-on area label basic l b h e =
+    let p : label ≡ l = cc in
+    let q : basic ≡ b = cc in
+    moved area label basic l b h p q
+
+judge-placed : (on : Bool) (area : List ℕ) (k : Kind) (z : Size) (at : ℕ) (label basic l b : Place)
+    → ((n : ℕ) → k ≡ Cipso → z ≡ Whole n → WholeAt Cipso area at) → ((n : ℕ) → k ≡ Basic → z ≡ Whole n → WholeAt Basic area at)
+    → Placed area label basic → judge on k z at label basic ≡ Sound l b → Placed area l b
+judge-placed on area k Bad at label basic l b c d h e = let z : _≡_ {A = ℕ} 0 1 = cc in absurd (omega arith)
+judge-placed on area End (Whole m) at label basic l b c d h e = moved-on area label basic l b h e
+judge-placed on area NoOperation (Whole m) at label basic l b c d h e = moved-on area label basic l b h e
+judge-placed false area Basic (Whole m) at label basic l b c d h e = let z : _≡_ {A = ℕ} 0 1 = cc in absurd (omega arith)
+judge-placed true area Basic (Whole m) at label Nowhere l b c d h e =
+    let p : label ≡ l = cc in
+    let q : At at ≡ b = cc in
+    moved area label (At at) l b (h .0, d m refl refl) p q
+judge-placed true area Basic (Whole m) at label (At x) l b c d h e = let z : _≡_ {A = ℕ} 0 1 = cc in absurd (omega arith)
+judge-placed on area Extended (Whole m) at label basic l b c d h e = let z : _≡_ {A = ℕ} 0 1 = cc in absurd (omega arith)
+judge-placed on area Cipso (Whole m) at Nowhere basic l b c d h e =
+    let p : At at ≡ l = cc in
+    let q : basic ≡ b = cc in
+    moved area (At at) basic l b (c m refl refl, h .1) p q
+judge-placed on area Cipso (Whole m) at (At x) basic l b c d h e = let z : _≡_ {A = ℕ} 0 1 = cc in absurd (omega arith)
+judge-placed on area Other (Whole m) at label basic l b c d h e = moved-on area label basic l b h e
+
+judged-placed : (on : Bool) (area : List ℕ) (ms : List Met) (label basic l b : Place) → StandIn area ms → Placed area label basic
+    → judged on ms label basic ≡ Sound l b → Placed area l b
+judged-placed on area [] label basic l b s h e = moved-on area label basic l b h e
+judged-placed on area (m ∷ ms) label basic l b s h e =
+    go (judge on (m .kind) (m .size) (m .at) label basic) refl (λ x y g f. judged-placed on area ms x y l b (s .3) g f) e
   where
-    here : (q : Place) → (seen ≡ q) ⊎ ((At (m .at) ≡ q) × (m .kind ≡ Cipso) × (n : ℕ) × (m .size ≡ Whole n))
-        → (q ≡ At p) ⊎ LabelAt area p → (seen ≡ At p) ⊎ LabelAt area p
-    here q x (inr o) = inr o
-    here q (inl x) (inl y) = inl (x ∙ y)
-    here q (inr x) (inl y) =
-        let i : m .at ≡ p = cc (x .0) in
-        inr (subst (LabelAt area) i (label-at area m (x .2) (s .1) (s .2) (x .1) (x .3)))
-
-    go : (w : Walk) → judge (m .kind) (m .size) (m .at) seen ≡ w
-        → ((q : Place) → judged ms q ≡ Sound (At p) → (q ≡ At p) ⊎ LabelAt area p)
-        → elim w as (λ _. Walk) [ Sound q ↦ judged ms q | Refused n at ↦ Refused n at ] ≡ Sound (At p) → (seen ≡ At p) ⊎ LabelAt area p
-    go (Sound q) ew g e = here q (judge-placed (m .kind) (m .size) (m .at) seen q ew) (g q e)
+    go : (w : Walk) → judge on (m .kind) (m .size) (m .at) label basic ≡ w
+        → ((x y : Place) → Placed area x y → judged on ms x y ≡ Sound l b → Placed area l b)
+        → elim w as (λ _. Walk) [ Sound x y ↦ judged on ms x y | Refused n at ↦ Refused n at ] ≡ Sound l b → Placed area l b
+    go (Sound x y) ew g e =
+        g x y
+        (judge-placed on area (m .kind) (m .size) (m .at) label basic x y
+        (λ n k z. whole-at area m Cipso n (s .1) (s .2) k refl z) (λ n k z. whole-at area m Basic n (s .1) (s .2) k refl z) h ew) e
     go (Refused n at) ew g e = let z : _≡_ {A = ℕ} 0 1 = cc in absurd (omega arith)
 
--- the place that the walk answers is that of a whole option 134
-pub area-placed : (area : List ℕ) (p : ℕ) → walkOf area ≡ Sound (At p) → LabelAt area p
+-- the places that the walk answers are those of a whole option 134 and of a whole option 130
+pub sound-placed : (on : Bool) (area : List ℕ) (l b : Place) → walkOf on area ≡ Sound l b → placedIn Cipso l area × placedIn Basic b area
 unfolding walkOf
-area-placed area p e = go (judged-placed area (metOf area) Nowhere p (met-stand area) e)
-  where
-    go : (Nowhere ≡ At p) ⊎ LabelAt area p → LabelAt area p
-    go (inl f) = let z : _≡_ {A = ℕ} 0 1 = cc in absurd (omega arith)
-    go (inr o) = o
+sound-placed on area l b e = judged-placed on area (metOf area) Nowhere Nowhere l b (met-stand area) (tt, tt) e
 
-pub sound-placed : (area : List ℕ) (q : Place) → walkOf area ≡ Sound q → placedIn q area
-sound-placed area Nowhere e = tt
-sound-placed area (At p) e = area-placed area p e
+-- where option 130 is not read, none is met
+judged-off : (ms : List Met) (label basic l b : Place) → judged false ms label basic ≡ Sound l b → basic ≡ b
+judged-off [] label basic l b e = cc
+judged-off (m ∷ ms) label basic l b e = go (m .kind) (m .size) label (λ x f. judged-off ms x basic l b f) e
+  where
+    go : (k : Kind) (z : Size) (label : Place) → ((x : Place) → judged false ms x basic ≡ Sound l b → basic ≡ b)
+        → elim (judge false k z (m .at) label basic) as (λ _. Walk) [ Sound x y ↦ judged false ms x y | Refused n at ↦ Refused n at ] ≡ Sound l b → basic ≡ b
+    go k Bad label g e = let z : _≡_ {A = ℕ} 0 1 = cc in absurd (omega arith)
+    go End (Whole n) label g e = g label e
+    go NoOperation (Whole n) label g e = g label e
+    go Basic (Whole n) label g e = let z : _≡_ {A = ℕ} 0 1 = cc in absurd (omega arith)
+    go Extended (Whole n) label g e = let z : _≡_ {A = ℕ} 0 1 = cc in absurd (omega arith)
+    go Cipso (Whole n) Nowhere g e = g (At (m .at)) e
+    go Cipso (Whole n) (At p) g e = let z : _≡_ {A = ℕ} 0 1 = cc in absurd (omega arith)
+    go Other (Whole n) label g e = g label e
+
+pub off-nowhere : (area : List ℕ) (l b : Place) → walkOf false area ≡ Sound l b → b ≡ Nowhere
+unfolding walkOf
+off-nowhere area l b e = sym (judged-off (metOf area) Nowhere Nowhere l b e)
 
 -- the option's octets are in the list
-pub label-in : (l : List ℕ) (i : ℕ) (o : LabelAt l i) → (2 ≤ o .size) × (i + o .size ≤ length l)
-label-in l i o =
+pub whole-in : (k : Kind) (l : List ℕ) (i : ℕ) (o : WholeAt k l i) → (2 ≤ o .size) × (i + o .size ≤ length l)
+whole-in k l i o =
     let q = size-whole (drop i l) (o .size) (o .whole) in
     omega (arith, length-drop i l)
 
@@ -242,4 +282,16 @@ cipso-octet t e = go (eqb t 0) (eqb t 1) (eqb t 130) (eqb t 133) (eqb t 134) ref
     go false false true d f q e = let z : _≡_ {A = ℕ} 0 1 = cc in absurd (omega arith)
     go false false false true f q e = let z : _≡_ {A = ℕ} 0 1 = cc in absurd (omega arith)
     go false false false false true q e = eqb-true t 134 q
+    go false false false false false q e = let z : _≡_ {A = ℕ} 0 1 = cc in absurd (omega arith)
+
+-- type 130
+pub basic-octet : (t : ℕ) → kindOf t ≡ Basic → t ≡ 130
+basic-octet t e = go (eqb t 0) (eqb t 1) (eqb t 130) (eqb t 133) (eqb t 134) refl e
+  where
+    go : (a b c d f : Bool) → eqb t 130 ≡ c → cond a End (cond b NoOperation (cond c Basic (cond d Extended (cond f Cipso Other)))) ≡ Basic → t ≡ 130
+    go true b c d f q e = let z : _≡_ {A = ℕ} 0 1 = cc in absurd (omega arith)
+    go false true c d f q e = let z : _≡_ {A = ℕ} 0 1 = cc in absurd (omega arith)
+    go false false true d f q e = eqb-true t 130 q
+    go false false false true f q e = let z : _≡_ {A = ℕ} 0 1 = cc in absurd (omega arith)
+    go false false false false true q e = let z : _≡_ {A = ℕ} 0 1 = cc in absurd (omega arith)
     go false false false false false q e = let z : _≡_ {A = ℕ} 0 1 = cc in absurd (omega arith)

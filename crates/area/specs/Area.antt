@@ -2,8 +2,9 @@
 use Prim.Native.Nat.{ℕ, zero, suc, pred, _+_}
 use mathlib.Core.List.{List, [], _∷_, _++_}
 use mathlib.Core.Path.{_≡_}
-use mathlib.Core.Bool.{cond}
-use lib.ListN.{length, getD, drop}
+use mathlib.Core.Bool.{Bool, true, false, cond}
+use mathlib.Core.Option.{Option, none, some}
+use lib.ListN.{length, getD, take, drop}
 use lib.Dec.{ltb, leb, eqb}
 use Rattle.area.specs.declared.Kind.{Kind}
 use Rattle.area.specs.declared.Kind.the-variants.{End, NoOperation, Basic, Extended, Cipso, Other}
@@ -67,36 +68,48 @@ unfoldable pub metOf : List ℕ → List Met
 metOf area = metFrom area 0 0
 
 -- a second option 134 is refused
-abbrev pub judgeLabel : ℕ → Place → Walk
-judgeLabel at Nowhere = Sound (At at)
-judgeLabel at (At p) = Refused 5 at
+abbrev pub judgeLabel : ℕ → Place → Place → Walk
+judgeLabel at Nowhere basic = Sound (At at) basic
+judgeLabel at (At p) basic = Refused 5 at
 
--- one option at an octet, with the place of the option 134 if one was met before: 3, then 4, then 5
-abbrev pub judge : Kind → Size → ℕ → Place → Walk
-judge k Bad at seen = Refused 3 at
-judge End (Whole n) at seen = Sound seen
-judge NoOperation (Whole n) at seen = Sound seen
-judge Basic (Whole n) at seen = Refused 4 at
-judge Extended (Whole n) at seen = Refused 4 at
-judge Cipso (Whole n) at seen = judgeLabel at seen
-judge Other (Whole n) at seen = Sound seen
+-- an option 130 is refused where the arriving port does not read it; where it does, a second one is
+abbrev pub judgeBasic : Bool → ℕ → Place → Place → Walk
+judgeBasic false at label basic = Refused 4 at
+judgeBasic true at label Nowhere = Sound label (At at)
+judgeBasic true at label (At p) = Refused 5 at
+
+-- one option at an octet, with the places of the options 134 and 130 that were met before: 3, then 4, then 5
+abbrev pub judge : Bool → Kind → Size → ℕ → Place → Place → Walk
+judge on k Bad at label basic = Refused 3 at
+judge on End (Whole n) at label basic = Sound label basic
+judge on NoOperation (Whole n) at label basic = Sound label basic
+judge on Basic (Whole n) at label basic = judgeBasic on at label basic
+judge on Extended (Whole n) at label basic = Refused 4 at
+judge on Cipso (Whole n) at label basic = judgeLabel at label basic
+judge on Other (Whole n) at label basic = Sound label basic
 
 -- the earliest option decides
-abbrev pub judged : List Met → Place → Walk
-judged [] seen = Sound seen
-judged (m ∷ ms) seen = elim (judge (m .kind) (m .size) (m .at) seen) [ Sound s ↦ judged ms s | Refused n at ↦ Refused n at ]
+abbrev pub judged : Bool → List Met → Place → Place → Walk
+judged on [] label basic = Sound label basic
+judged on (m ∷ ms) label basic =
+    elim (judge on (m .kind) (m .size) (m .at) label basic) [ Sound l b ↦ judged on ms l b | Refused n at ↦ Refused n at ]
 
--- what the walk answers: the place of the option 134, or the refusal
-unfoldable pub walkOf : List ℕ → Walk
-walkOf area = judged (metOf area) Nowhere
+-- what the walk answers: the places of the options 134 and 130, or the refusal; `on` says whether the arriving port reads option 130
+unfoldable pub walkOf : Bool → List ℕ → Walk
+walkOf on area = judged on (metOf area) Nowhere Nowhere
 
--- a whole option 134 that stands in the list from octet i on
-pub record LabelAt (l : List ℕ) (i : ℕ) : Type 0 where
+-- the octets of the option at a place, if there is one: as many as its length octet says
+abbrev pub octetsAt : Place → List ℕ → Option (List ℕ)
+octetsAt Nowhere l = none
+octetsAt (At p) l = some (take (getD l (p + 1) 0) (drop p l))
+
+-- a whole option of a kind that stands in the list from octet i on
+pub record WholeAt (k : Kind) (l : List ℕ) (i : ℕ) : Type 0 where
   pub size : ℕ
   pub whole : sizeOf (drop i l) ≡ Whole size
-  pub kind : kindOf (getD (drop i l) 0 0) ≡ Cipso
+  pub kind : kindOf (getD (drop i l) 0 0) ≡ k
 
--- the place, if there is one, is that of a whole option 134
-abbrev pub placedIn : Place → List ℕ → Type 0
-placedIn Nowhere l = Unit {0}
-placedIn (At p) l = LabelAt l p
+-- the place, if there is one, is that of a whole option of the kind
+abbrev pub placedIn : Kind → Place → List ℕ → Type 0
+placedIn k Nowhere l = Unit {0}
+placedIn k (At p) l = WholeAt k l p

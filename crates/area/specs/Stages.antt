@@ -1,5 +1,6 @@
 -- What one turn of the walk answers; no public contract names it.
 use Prim.Native.Nat.{ℕ}
+use mathlib.Core.Bool.{Bool}
 use Rattle.area.specs.declared.Kind.{Kind}
 use Rattle.area.specs.declared.Kind.the-variants.{End, NoOperation, Basic, Extended, Cipso, Other}
 use Rattle.area.specs.declared.Size.{Size}
@@ -9,19 +10,22 @@ use Rattle.area.specs.declared.Walk.{Walk}
 use Rattle.area.specs.declared.Walk.the-variants.{Sound, Refused}
 use Rattle.area.specs.declared.Turn.{Turn}
 use Rattle.area.specs.declared.Turn.the-variants.{Done, On}
-use Rattle.area.specs.Area.{judge}
+use Rattle.area.specs.Area.{judgeBasic, judge}
 
 -- the walk goes on over the option, or a refusal ends it
 abbrev pub turnBy : Size → Walk → Turn
 turnBy Bad w = Done w
-turnBy (Whole n) (Sound seen) = On n seen
+turnBy (Whole n) (Sound label basic) = On n label basic
 turnBy (Whole n) (Refused r at) = Done (Refused r at)
 
+abbrev pub basicTurn : Bool → ℕ → ℕ → Place → Place → Turn
+basicTurn on n at label basic = turnBy (Whole n) (judgeBasic on at label basic)
+
 -- type 0 ends it
-abbrev pub turnOf : Kind → Size → ℕ → Place → Turn
-turnOf End z at seen = Done (Sound seen)
-turnOf NoOperation z at seen = On 1 seen
-turnOf Basic z at seen = turnBy z (judge Basic z at seen)
-turnOf Extended z at seen = turnBy z (judge Extended z at seen)
-turnOf Cipso z at seen = turnBy z (judge Cipso z at seen)
-turnOf Other z at seen = turnBy z (judge Other z at seen)
+abbrev pub turnOf : Bool → Kind → Size → ℕ → Place → Place → Turn
+turnOf on End z at label basic = Done (Sound label basic)
+turnOf on NoOperation z at label basic = On 1 label basic
+turnOf on Basic z at label basic = turnBy z (judge on Basic z at label basic)
+turnOf on Extended z at label basic = turnBy z (judge on Extended z at label basic)
+turnOf on Cipso z at label basic = turnBy z (judge on Cipso z at label basic)
+turnOf on Other z at label basic = turnBy z (judge on Other z at label basic)

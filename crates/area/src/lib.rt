@@ -1,7 +1,7 @@
 // The options area of an IPv4 header (RFC 791; document 01, "The order of checks"): the types of options, and the walk.
 ghost use mathlib.Core.Path.{_≡_};
 ghost use Rattle.area.specs.Area.{kindOf, sizeOf, walkOf};
-ghost use Rattle.area.specs.Stages.{turnOf};
+ghost use Rattle.area.specs.Stages.{basicTurn, turnOf};
 ghost use Prim.Native.Nat.{_<_, _≤_};
 ghost use lib.ListN.{length};
 
@@ -21,22 +21,22 @@ pub enum Size {
     Bad,
 }
 
-// Where the option 134 is: nowhere, or at an octet of the area.
+// Where an option is: nowhere, or at an octet of the area.
 pub enum Place {
     Nowhere,
     At(usize),
 }
 
-// What the walk answers: the place of the option 134, or a refusal (3, 4 or 5) with the octet of the option's type.
+// What the walk answers: the places of the option 134 and of the option 130, or a refusal (3, 4 or 5) with the octet of the option's type.
 pub enum Walk {
-    Sound(Place),
+    Sound(Place, Place),
     Refused(u8, usize),
 }
 
 // What one option makes of the walk: it is done, or goes on over some octets.
 pub enum Turn {
     Done(Walk),
-    On(usize, Place),
+    On(usize, Place, Place),
 }
 
 // The type of an option, by its first octet.
@@ -71,16 +71,17 @@ pub fn read_size(rest: &[u8]) -> Size
     }
 }
 
-// One option of the walk, which stands at an octet: within it 3 comes first, then 4, then 5.
-fn take_turn(kind: Kind, size: Size, at: usize, seen: Place) -> Turn
-    ensures { λ r. ⌜ r ≡ turnOf kind size at seen ⌝ }
+// One option of the walk, which stands at an octet: within it 3 comes first, then 4, then 5. `on` says whether option 130 is read; `label` and
+// `basic` are the places of the options 134 and 130 that were met before.
+fn take_turn(on: bool, kind: Kind, size: Size, at: usize, label: Place, basic: Place) -> Turn
+    ensures { λ r. ⌜ r ≡ turnOf on kind size at label basic ⌝ }
 {
     match kind {
-        Kind::End => Turn::Done(Walk::Sound(seen)),
-        Kind::NoOperation => Turn::On(1, seen),
+        Kind::End => Turn::Done(Walk::Sound(label, basic)),
+        Kind::NoOperation => Turn::On(1, label, basic),
         Kind::Basic => match size {
             Size::Bad => Turn::Done(Walk::Refused(3, at)),
-            Size::Whole(_) => Turn::Done(Walk::Refused(4, at)),
+            Size::Whole(n) => take_basic(on, n, at, label, basic),
         },
         Kind::Extended => match size {
             Size::Bad => Turn::Done(Walk::Refused(3, at)), // 3 before 4
@@ -88,33 +89,49 @@ fn take_turn(kind: Kind, size: Size, at: usize, seen: Place) -> Turn
         },
         Kind::Cipso => match size {
             Size::Bad => Turn::Done(Walk::Refused(3, at)),
-            Size::Whole(n) => match seen {
-                Place::Nowhere => Turn::On(n, Place::At(at)),
+            Size::Whole(n) => match label {
+                Place::Nowhere => Turn::On(n, Place::At(at), basic),
                 Place::At(_) => Turn::Done(Walk::Refused(5, at)),
             },
         },
         Kind::Other => match size {
             Size::Bad => Turn::Done(Walk::Refused(3, at)),
-            Size::Whole(n) => Turn::On(n, seen),
+            Size::Whole(n) => Turn::On(n, label, basic),
         },
     }
 }
 
-// The walk over an area: the earliest option that is refused decides, and type 0 ends it.
-pub fn walk_area(area: &[u8]) -> Walk
-    ensures { λ r. ⌜ r ≡ walkOf (now (area .entry)) ⌝ }
+// A whole option 130 of n octets.
+fn take_basic(on: bool, n: usize, at: usize, label: Place, basic: Place) -> Turn
+    ensures { λ r. ⌜ r ≡ basicTurn on n at label basic ⌝ }
+{
+    if !on {
+        return Turn::Done(Walk::Refused(4, at));
+    }
+    match basic {
+        Place::Nowhere => Turn::On(n, label, Place::At(at)),
+        Place::At(_) => Turn::Done(Walk::Refused(5, at)),
+    }
+}
+
+// The walk over an area: the earliest option that is refused decides, and type 0 ends it. `on` says whether the port at which it arrives reads
+// option 130.
+pub fn walk_area(area: &[u8], on: bool) -> Walk
+    ensures { λ r. ⌜ r ≡ walkOf on (now (area .entry)) ⌝ }
 {
     let mut at = 0;
-    let mut seen = Place::Nowhere;
+    let mut label = Place::Nowhere;
+    let mut basic = Place::Nowhere;
     while at < area.len() {
         let rest = &area[at..];
-        match take_turn(read_kind(rest[0]), read_size(rest), at, seen) {
+        match take_turn(on, read_kind(rest[0]), read_size(rest), at, label, basic) {
             Turn::Done(w) => return w,
-            Turn::On(n, s) => {
+            Turn::On(n, l, b) => {
                 at = at + n;
-                seen = s;
+                label = l;
+                basic = b;
             }
         }
     }
-    Walk::Sound(seen)
+    Walk::Sound(label, basic)
 }

@@ -1,7 +1,7 @@
 -- Laws of checks 3 to 14: the walk, the option and the arriving port's range.
-use mathlib.Core.Path.{_≡_, refl, sym, _∙_, ap}
+use mathlib.Core.Path.{_≡_, refl, sym, _∙_, ap, subst}
 use mathlib.Core.Bool.{Bool, true, false, cond, not, _||_, true≢false}
-use mathlib.Core.List.{List, [], _∷_}
+use mathlib.Core.List.{List, [], _∷_, _++_}
 use mathlib.Core.Option.{Option, none, some}
 use Prim.Native.Nat.{ℕ, suc, _+_, _-_, _%_, _≤_, _<_}
 use native.Mathlib.Omega.{arith}
@@ -26,57 +26,140 @@ use Rattle.area.specs.declared.Place.{Place}
 use Rattle.area.specs.declared.Place.the-variants.{Nowhere, At}
 use Rattle.area.specs.declared.Walk.{Walk}
 use Rattle.area.specs.declared.Walk.the-variants.{Sound, Refused}
-use Rattle.area.specs.Area.{walkOf, LabelAt}
-use Rattle.area.proofs.Laws.{area-refused, label-in, whole-size, cipso-octet}
+use Rattle.area.specs.declared.Kind.{Kind}
+use Rattle.area.specs.declared.Kind.the-variants.{Cipso}
+use Rattle.area.specs.Area.{walkOf, octetsAt, WholeAt}
+use Rattle.area.proofs.Laws.{area-refused, off-nowhere, whole-in, whole-size, cipso-octet}
+use Rattle.basic.specs.declared.Way.{Way}
+use Rattle.basic.specs.declared.BasicReading.{BasicReading}
+use Rattle.basic.specs.Alone.{basicReading}
+use Rattle.basic.specs.Settings.{passesWay}
 use Rattle.port.specs.declared.Port.{Port}
 use Rattle.port.specs.Port.{portSound}
 use Rattle.port.proofs.Laws.{sound}
-use Rattle.arrival.specs.Checks.{Refusal, faulty, barred, when, firstOf, badArea, walkRefusal, walkCheck, placeIn, optionAt, requiredBy, requiredCheck, optionBy, optionCheck, labelBy, arrivingLabel, rangeCheck}
+use Rattle.arrival.specs.Checks.{Refusal, faulty, barred, when, firstOf, badArea, walkAt, walkRefusal, walkCheck, placeIn, basicIn, optionAt, requiredBy, requiredCheck, optionBy, optionCheck, badBasicBy, badBasicCheck, arrivingBasic, missingBasicBy, missingBasicCheck, basicPasses, basicRangeCheck, labelBy, arrivingLabel, rangeCheck}
 use Rattle.arrival.specs.declared.Verdict.{Verdict}
 use Rattle.arrival.specs.Decision.{arrivalChecks}
 use Rattle.arrival.specs.Verdict.{verdictOf, stopped, going, keysBy, arrivalOf, arrivalKeys, Arrives}
-use Rattle.arrival.specs.Stages.{placeChecks, heldBetween, ArrivesAt}
+use Rattle.arrival.specs.Stages.{placeChecks, basicChecks, isOpen, insteadOf, beforeRange, heldBetween, ArrivesAt}
 use Rattle.arrival.proofs.Pointer.{reading-pointer, reading-number}
-use Rattle.arrival.proofs.First.{Real, Late, late-first, late-when, late-real, first-none, when-none, not-false-yes}
+use Rattle.arrival.proofs.First.{first-append, Real, late-else, Late, late-first, late-when, late-real, Early, AllEarly, early-first, early-when, between, before-none, before-zero, first-none, when-none, not-false-yes}
 use Rattle.arrival.proofs.Verdicts.{held-in-range, label-stands}
 
 -- The walk's answer decides which checks are left.
-pub arrival-refused : (p : Port) (area : List ℕ) (code n at : ℕ) → walkOf area ≡ Refused n at → firstOf (arrivalChecks p area code) ≡ some (faulty n at)
+pub arrival-refused : (p : Port) (area : List ℕ) (code n at : ℕ) → walkAt p area ≡ Refused n at → firstOf (arrivalChecks p area code) ≡ some (faulty n at)
 unfolding walkCheck
 arrival-refused p area code n at e = rw e
 
-pub arrival-placed : (p : Port) (area : List ℕ) (code : ℕ) (q : Place) → walkOf area ≡ Sound q
-    → (firstOf (arrivalChecks p area code) ≡ firstOf (placeChecks q p area code)) × (arrivingLabel p area ≡ labelBy q p area)
-unfolding walkCheck requiredCheck optionCheck rangeCheck arrivingLabel
-arrival-placed p area code q e = (rw e, rw e)
+-- by place: 6 to 13, and then 19 to 21 before 14
+abbrev labelChecks : Place → Port → List ℕ → List (Option Refusal)
+labelChecks l p area = requiredBy l p ∷ optionBy l p area ∷ []
 
--- Every refusal has a number, 3 or above.
+abbrev outOfRange : Place → Port → List ℕ → Bool
+outOfRange l p area = not (inRange (p .lowest) (p .highest) (labelBy l p area))
 
-walk-late : (area : List ℕ) (w : Walk) → walkOf area ≡ w → Late (walkRefusal w)
-walk-late area (Sound q) e = tt
-walk-late area (Refused n at) e = area-refused area n at e .0
+pub arrival-placed : (p : Port) (area : List ℕ) (code : ℕ) (l b : Place) → walkAt p area ≡ Sound l b
+    → (firstOf (arrivalChecks p area code)
+    ≡ firstOf (labelChecks l p area ++ (basicChecks b (p .basic .on) (p .basic .receiving) area code ++ (when (outOfRange l p area) (barred 14 code) ∷ []))))
+    × (arrivingLabel p area ≡ labelBy l p area)
+unfolding walkCheck requiredCheck optionCheck badBasicCheck missingBasicCheck basicRangeCheck arrivingBasic rangeCheck arrivingLabel
+arrival-placed p area code l b e = (rw e, rw e)
 
-option-late : (q : Place) (p : Port) (area : List ℕ) → Late (optionBy q p area)
-option-late Nowhere p area = tt
-option-late (At i) p area = go (eqb (readingFor (p .domain) (optionAt i area) .number) 0) refl
-  where
-    go : (b : Bool) → eqb (readingFor (p .domain) (optionAt i area) .number) 0 ≡ b
-        → Late (when (not b) (faulty (readingFor (p .domain) (optionAt i area) .number) (i + readingFor (p .domain) (optionAt i area) .pointer)))
-    go true e = tt
-    go false e = omega (arith, reading-number (p .domain) (optionAt i area) (eqb-false _ _ e))
+-- Every refusal has a number, 3 or above, and those before the range have not 14.
 
-required-late : (q : Place) (p : Port) → Late (requiredBy q p)
-required-late Nowhere p = late-when (p .required) _ (omega arith)
-required-late (At i) p = tt
+walk-late : (on : Bool) (area : List ℕ) (w : Walk) → walkOf on area ≡ w → Late (walkRefusal w)
+walk-late on area (Sound l b) e = tt
+walk-late on area (Refused n at) e = area-refused on area n at e .0
+
+walk-early : (on : Bool) (area : List ℕ) (w : Walk) → walkOf on area ≡ w → Early (walkRefusal w)
+walk-early on area (Sound l b) e = tt
+walk-early on area (Refused n at) e =
+    let r = area-refused on area n at e in
+    (λ z. omega (arith, r .0), λ z. omega (arith, r .1))
+
+module _ (p : Port) (area : List ℕ) where
+  option-in : (i : ℕ) → (b : Bool) → eqb (readingFor (p .domain) (optionAt i area) .number) 0 ≡ b
+      → let o = when (not b) (faulty (readingFor (p .domain) (optionAt i area) .number) (i + readingFor (p .domain) (optionAt i area) .pointer)) in
+      Late o × Early o
+  option-in i true e = (tt, tt)
+  option-in i false e =
+      let n = reading-number (p .domain) (optionAt i area) (eqb-false _ _ e) in
+      (omega (arith, n .0), (λ z. omega (arith, n .0), λ z. omega (arith, n .1)))
+
+  option-late : (q : Place) → Late (optionBy q p area) × Early (optionBy q p area)
+  option-late Nowhere = (tt, tt)
+  option-late (At i) = option-in i (eqb (readingFor (p .domain) (optionAt i area) .number) 0) refl
+
+required-late : (q : Place) (p : Port) → Late (requiredBy q p) × Early (requiredBy q p)
+required-late Nowhere p = (late-when (p .required) _ (omega arith), early-when (p .required) _ (λ z. omega arith) (λ z. omega arith))
+required-late (At i) p = (tt, tt)
+
+bad-late : (b : Place) (area : List ℕ) → Late (badBasicBy b area) × Early (badBasicBy b area)
+bad-late Nowhere area = (tt, tt)
+bad-late (At i) area =
+    let c : Bool = not (eqb (basicReading (optionAt i area) .number) 0) in
+    (late-when c (faulty 19 i) (omega arith), early-when c (faulty 19 i) (λ z. omega arith) (λ z. omega arith))
+
+missing-late : (o : Option (List ℕ)) (on : Bool) → Late (missingBasicBy o on) × Early (missingBasicBy o on)
+missing-late none on = (late-when on _ (omega arith), early-when on _ (λ z. omega arith) (λ z. omega arith))
+missing-late (some o) on = (tt, tt)
+
+range-late : (b : Bool) (code : ℕ) → Late (when b (barred 21 code)) × Early (when b (barred 21 code))
+range-late b code = (late-when b (barred 21 code) (omega arith), early-when b (barred 21 code) (λ z. omega arith) (λ z. omega arith))
 
 fourteen : _≤_ 3 14
 fourteen = omega arith
 
+-- the checks before the range
+abbrev pub beforeChecks : Port → List ℕ → ℕ → List (Option Refusal)
+beforeChecks p area code =
+    walkCheck p area
+    ∷ requiredCheck p area
+    ∷ optionCheck p area
+    ∷ badBasicCheck p area
+    ∷ missingBasicCheck p area
+    ∷ basicRangeCheck p area code
+    ∷ []
+
+pub arrival-early : (p : Port) (area : List ℕ) (code : ℕ) → AllEarly (beforeChecks p area code)
+unfolding walkCheck requiredCheck optionCheck badBasicCheck missingBasicCheck basicRangeCheck
+arrival-early p area code = (
+  walk-early (p .basic .on) area (walkAt p area) refl,
+  (
+    required-late (placeIn (walkAt p area)) p .1,
+    (
+      option-late p area (placeIn (walkAt p area)) .1,
+      (
+        bad-late (basicIn (walkAt p area)) area .1,
+        (missing-late (arrivingBasic p area) (p .basic .on) .1, (range-late (not (basicPasses (p .basic .on) (p .basic .receiving) (arrivingBasic p area))) code .1, tt)),
+      ),
+    ),
+  ),
+)
+
+pub before-late : (p : Port) (area : List ℕ) (code : ℕ) → Late (firstOf (beforeChecks p area code))
+unfolding walkCheck requiredCheck optionCheck badBasicCheck missingBasicCheck basicRangeCheck
+before-late p area code =
+    late-first (beforeChecks p area code) (
+      walk-late (p .basic .on) area (walkAt p area) refl,
+      (
+        required-late (placeIn (walkAt p area)) p .0,
+        (
+          option-late p area (placeIn (walkAt p area)) .0,
+          (
+            bad-late (basicIn (walkAt p area)) area .0,
+            (missing-late (arrivingBasic p area) (p .basic .on) .0, (range-late (not (basicPasses (p .basic .on) (p .basic .receiving) (arrivingBasic p area))) code .0, tt)),
+          ),
+        ),
+      ),
+    )
+
 pub arrival-late : (p : Port) (area : List ℕ) (code : ℕ) → Late (firstOf (arrivalChecks p area code))
-unfolding walkCheck requiredCheck optionCheck rangeCheck
+unfolding rangeCheck
 arrival-late p area code =
-    late-first (arrivalChecks p area code)
-    (walk-late area (walkOf area) refl, (required-late (placeIn (walkOf area)) p, (option-late (placeIn (walkOf area)) p area, (late-when (not (inRange (p .lowest) (p .highest) (arrivingLabel p area))) (barred 14 code) fourteen, tt))))
+    subst Late (sym (first-append (beforeChecks p area code) (rangeCheck p area code ∷ [])))
+    (late-else (firstOf (beforeChecks p area code)) (firstOf (rangeCheck p area code ∷ [])) (before-late p area code)
+    (late-first (rangeCheck p area code ∷ []) (late-when (not (inRange (p .lowest) (p .highest) (arrivingLabel p area))) (barred 14 code) fourteen, tt)))
 
 pub arrival-real : (p : Port) (area : List ℕ) (code : ℕ) → Real (firstOf (arrivalChecks p area code))
 arrival-real p area code = late-real (firstOf (arrivalChecks p area code)) (arrival-late p area code)
@@ -97,9 +180,22 @@ pub arrival-held : (p : Port) (area : List ℕ) (code : ℕ) → portSound p ≡
 unfolding rangeCheck
 arrival-held p area code s e =
     let a = first-none (arrivalChecks p area code) e in
-    in-range-held p (arrivingLabel p area) s (not-false-yes _ (when-none _ _ (a .1 .1 .1 .0)))
+    in-range-held p (arrivingLabel p area) s (not-false-yes _ (when-none _ _ (a .1 .1 .1 .1 .1 .1 .0)))
 
 -- The option at its place.
+
+-- an option of a kind that stands in the area: its length octet says how long it is
+pub record Inside (area : List ℕ) (at : ℕ) : Type 0 where
+  pub inside : at + getD area (at + 1) 0 ≤ length area
+  pub least : 2 ≤ getD area (at + 1) 0
+  pub size : length (optionAt at area) ≡ getD area (at + 1) 0
+
+pub whole-inside : (k : Kind) (area : List ℕ) (at : ℕ) → WholeAt k area at → Inside area at
+whole-inside k area at o =
+    let i = whole-in k area at o in
+    let n : getD area (at + 1) 0 ≡ o .size = sym (getD-drop at area 1 0) ∙ whole-size (drop at area) (o .size) (o .whole) in
+    let h : getD area (at + 1) 0 ≤ length (drop at area) = simp length-drop (omega arith) in
+    record { inside = omega arith; least = omega arith; size = length-take-le (getD area (at + 1) 0) (drop at area) h }
 
 pub record Framed (area : List ℕ) (at : ℕ) : Type 0 where
   pub inside : at + getD area (at + 1) 0 ≤ length area
@@ -107,19 +203,22 @@ pub record Framed (area : List ℕ) (at : ℕ) : Type 0 where
   pub size : length (optionAt at area) ≡ getD area (at + 1) 0
   pub framed : framed (optionAt at area) ≡ true
 
-pub placed-framed : (area : List ℕ) (at : ℕ) → LabelAt area at → Framed area at
+-- its slice
+pub slice-is : (at : ℕ) (area : List ℕ) → take (at + getD area (at + 1) 0 - at) (drop at area) ≡ optionAt at area
+slice-is at area =
+    let e : at + getD area (at + 1) 0 - at ≡ getD area (at + 1) 0 = omega arith in
+    ap (λ (k : ℕ). take k (drop at area)) e
+
+pub placed-framed : (area : List ℕ) (at : ℕ) → WholeAt Cipso area at → Framed area at
 placed-framed area at o =
-    let i = label-in area at o in
-    let n : getD area (at + 1) 0 ≡ o .size = sym (getD-drop at area 1 0) ∙ whole-size (drop at area) (o .size) (o .whole) in
-    let h : getD area (at + 1) 0 ≤ length (drop at area) = simp length-drop (omega arith) in
-    let s : length (optionAt at area) ≡ getD area (at + 1) 0 = length-take-le (getD area (at + 1) 0) (drop at area) h in
-    let a : getD (optionAt at area) 0 0 ≡ 134 = getD-take (getD area (at + 1) 0) (drop at area) 0 0 (omega arith) ∙ cipso-octet (getD (drop at area) 0 0) (o .kind) in
-    let b : getD (optionAt at area) 1 0 ≡ length (optionAt at area) = getD-take (getD area (at + 1) 0) (drop at area) 1 0 (omega arith) ∙ getD-drop at area 1 0 ∙ sym s in
+    let i = whole-inside Cipso area at o in
+    let a : getD (optionAt at area) 0 0 ≡ 134 = getD-take (getD area (at + 1) 0) (drop at area) 0 0 (omega (arith, i .least)) ∙ cipso-octet (getD (drop at area) 0 0) (o .kind) in
+    let b : getD (optionAt at area) 1 0 ≡ length (optionAt at area) = getD-take (getD area (at + 1) 0) (drop at area) 1 0 (omega (arith, i .least)) ∙ getD-drop at area 1 0 ∙ sym (i .size) in
     record {
-      inside = omega arith;
-      least = omega arith;
-      size = s;
-      framed = simp (le-leb 2 (length (optionAt at area)) (omega arith), eq-eqb _ _ a, eq-eqb _ _ b);
+      inside = i .inside;
+      least = i .least;
+      size = i .size;
+      framed = simp (le-leb 2 (length (optionAt at area)) (omega (arith, i .least, i .size)), eq-eqb _ _ a, eq-eqb _ _ b);
     }
 
 -- the checks of an option, by what was read
@@ -133,9 +232,7 @@ readChecks p at code x =
 -- Reading the option there: its slice is the option, its refusal is that of the checks, and its label is held against the range.
 module _ (p : Port) (area : List ℕ) (at code : ℕ) (r : Reading) (is : r ≡ readingFor (p .domain) (take (at + getD area (at + 1) 0 - at) (drop at area))) where
   r-is : r ≡ readingFor (p .domain) (optionAt at area)
-  r-is =
-      let e : at + getD area (at + 1) 0 - at ≡ getD area (at + 1) 0 = omega arith in
-      is ∙ ap (λ (k : ℕ). readingFor (p .domain) (take k (drop at area))) e
+  r-is = is ∙ ap (readingFor (p .domain)) (slice-is at area)
 
   pub read-refused : (r .number ≡ 0 → ⊥) → firstOf (placeChecks (At at) p area code) ≡ some (faulty (r .number) (at + r .pointer))
   read-refused h = ap (λ (x : Reading). firstOf (readChecks p at code x)) (sym r-is) ∙ rw (ne-eqb (r .number) 0 h)
@@ -150,12 +247,12 @@ module _ (p : Port) (area : List ℕ) (at code : ℕ) (r : Reading) (is : r ≡ 
     ap (λ (x : Reading). x .label) (sym r-is),
   )
 
-  pub read-formed : LabelAt area at → Octets (optionAt at area) → portSound p ≡ true → r .number ≡ 0 → wellFormed (r .label) ≡ true
+  pub read-formed : WholeAt Cipso area at → Octets (optionAt at area) → portSound p ≡ true → r .number ≡ 0 → wellFormed (r .label) ≡ true
   read-formed o oct s h =
       let m = reads .for (p .domain) .means (optionAt at area) oct (placed-framed area at o .framed) (sound p s .owned) (ap (λ (x : Reading). x .number) (sym r-is) ∙ h) in
       ap (λ (x : Reading). wellFormed (x .label)) r-is ∙ m .label
 
-  pub read-points : LabelAt area at → length area ≤ 40 → r .pointer ≤ 50
+  pub read-points : WholeAt Cipso area at → length area ≤ 40 → r .pointer ≤ 50
   read-points o h =
       let f = placed-framed area at o in
       let q : r .pointer ≤ length (optionAt at area) + 10 = rw (r-is) (reading-pointer (p .domain) (optionAt at area)) in
@@ -191,10 +288,10 @@ module _ (p : Port) (area keys keys′ : List ℕ) (at code : ℕ) (r : KeyReadi
         stands = λ z. absurd (h z);
       }
 
-  pub keys-point : LabelAt area at → length area ≤ 40 → r .pointer ≤ 50
+  pub keys-point : WholeAt Cipso area at → length area ≤ 40 → r .pointer ≤ 50
   keys-point o h = read-points p area at code whole (is .reading room) o h
 
-  module _ (o : LabelAt area at) (oct : Octets (optionAt at area)) (s : portSound p ≡ true) (z : r .number ≡ 0) where
+  module _ (o : WholeAt Cipso area at) (oct : Octets (optionAt at area)) (s : portSound p ≡ true) (z : r .number ≡ 0) where
     formed-is : wellFormed (whole .label) ≡ true
     formed-is = read-formed p area at code whole (is .reading room) o oct s z
 
@@ -243,6 +340,55 @@ none-assigned p area keys keys′ code s e h w =
       stands = λ z. rw w (label-stands (p .assigned) keys (sound p s .assigned-formed e) h);
     }
 
+-- 19 to 21 have numbers.
+pub basic-real : (b : Place) (on : Bool) (way : Way) (area : List ℕ) (code : ℕ) → Real (firstOf (basicChecks b on way area code))
+basic-real b on way area code =
+    late-real (firstOf (basicChecks b on way area code))
+    (late-first (basicChecks b on way area code)
+    (bad-late b area .0, (missing-late (octetsAt b area) on .0, (range-late (not (basicPasses on way (octetsAt b area))) code .0, tt))))
+
+-- A port that does not read option 130 meets none.
+pub off-none : (p : Port) (area : List ℕ) → p .basic .on ≡ false → arrivingBasic p area ≡ none
+unfolding arrivingBasic
+off-none p area e = go (walkAt p area) refl
+  where
+    go : (w : Walk) → walkAt p area ≡ w → octetsAt (basicIn w) area ≡ none
+    go (Sound l b) g = rw (off-nowhere area l b (ap (λ (t : Bool). walkOf t area) (sym e) ∙ g))
+    go (Refused n at) g = refl
+
+-- One that does meets the option that a walk with it read meets.
+pub on-some : (p : Port) (area o : List ℕ) → p .basic .on ≡ true → arrivingBasic p area ≡ some o → octetsAt (basicIn (walkOf true area)) area ≡ some o
+unfolding arrivingBasic
+on-some p area o e g = ap (λ (t : Bool). octetsAt (basicIn (walkOf t area)) area) (sym e) ∙ g
+
+-- What 19 to 21 answer, return by return.
+pub open-closed : (r : Verdict) (o : Option Refusal) → isOpen (r .number) ≡ false → r ≡ beforeRange r o
+open-closed r o e = sym (ap (λ (b : Bool). cond b (insteadOf r o) r) e)
+
+module _ (r : Verdict) (way : Way) (area : List ℕ) (code : ℕ) (asked : isOpen (r .number) ≡ true) where
+  answered-by : (b : Place) (o : Option Refusal) → firstOf (basicChecks b true way area code) ≡ o
+      → insteadOf r o ≡ beforeRange r (firstOf (basicChecks b true way area code))
+  answered-by b o e = sym (ap (λ (t : Bool). cond t (insteadOf r (firstOf (basicChecks b true way area code))) r) asked ∙ ap (insteadOf r) e)
+
+  pub basic-missing : stopped 20 12 1 130 ≡ beforeRange r (firstOf (basicChecks Nowhere true way area code))
+  basic-missing = answered-by Nowhere _ refl
+
+  module _ (at : ℕ) (x : BasicReading) (is : x ≡ basicReading (optionAt at area)) where
+    abbrev by-reading : BasicReading → Option Refusal
+    by-reading y =
+        firstOf
+        (when (not (eqb (y .number) 0)) (faulty 19 at) ∷ none ∷ when (not (passesWay way (y .level) (y .flags))) (barred 21 code) ∷ [])
+
+    pub basic-bad : (x .number ≡ 0 → ⊥) → stopped 19 12 0 (20 + at) ≡ beforeRange r (firstOf (basicChecks (At at) true way area code))
+    basic-bad h = answered-by (At at) (some (faulty 19 at)) (ap by-reading (sym is) ∙ rw (ne-eqb (x .number) 0 h))
+
+    pub basic-outside : x .number ≡ 0 → passesWay way (x .level) (x .flags) ≡ false
+        → stopped 21 3 code 0 ≡ beforeRange r (firstOf (basicChecks (At at) true way area code))
+    basic-outside h e = answered-by (At at) (some (barred 21 code)) (ap by-reading (sym is) ∙ rw (eq-eqb (x .number) 0 h, e))
+
+    pub basic-passes : x .number ≡ 0 → passesWay way (x .level) (x .flags) ≡ true → r ≡ beforeRange r (firstOf (basicChecks (At at) true way area code))
+    basic-passes h e = answered-by (At at) none (ap by-reading (sym is) ∙ rw (eq-eqb (x .number) 0 h, e))
+
 -- Checks 1 and 2, and then those of the walk.
 module _ (p : Port) (area keys : List ℕ) (code : ℕ) where
   pub port-sized : (badArea area || ltb (length keys) 120) ≡ true → Arrives p area code keys keys (stopped 1 0 0 0)
@@ -255,24 +401,52 @@ module _ (p : Port) (area keys : List ℕ) (code : ℕ) where
     port-unsound e = record { answer = rw (sized, e); left = rw (sized, e); stands = λ z. absurd (omega arith) }
 
     module _ (s : portSound p ≡ true) where
-      pub port-walked : (n at : ℕ) → walkOf area ≡ Refused n at → Arrives p area code keys keys (stopped n 12 0 (20 + at))
+      pub port-walked : (n at : ℕ) → walkAt p area ≡ Refused n at → Arrives p area code keys keys (stopped n 12 0 (20 + at))
       unfolding arrivalOf arrivalKeys
       port-walked n at e =
           record {
             answer = rw (sized, s, arrival-refused p area code n at e);
             left = rw (sized, s, e);
-            stands = λ z. absurd (omega (arith, area-refused area n at e .0));
+            stands = λ z. absurd (omega (arith, area-refused (p .basic .on) area n at e .0));
           }
 
-      pub port-placed : (q : Place) (keys′ : List ℕ) (r : Verdict) → walkOf area ≡ Sound q → ArrivesAt q p area code keys keys′ r → Arrives p area code keys keys′ r
+      -- what 6 to 13 and 14 answered, with 19 to 21 between
+      pub port-placed : (l b : Place) (keys′ : List ℕ) (r : Verdict) → walkAt p area ≡ Sound l b → ArrivesAt l p area code keys keys′ r
+          → Arrives p area code keys keys′ (beforeRange r (firstOf (basicChecks b (p .basic .on) (p .basic .receiving) area code)))
       unfolding arrivalOf arrivalKeys
-      port-placed q keys′ r e w =
-          let a = arrival-placed p area code q e in
+      port-placed l b keys′ r e w =
+          let a = arrival-placed p area code l b e in
+          let v = labelBy l p area .level in
+          let n = labelBy l p area .count in
+          let early = early-first (labelChecks l p area) (required-late l p .1, (option-late p area l .1, tt)) in
+          let o = firstOf (basicChecks b (p .basic .on) (p .basic .receiving) area code) in
+          let g : beforeRange r o ≡ verdictOf (firstOf (arrivalChecks p area code)) v n =
+          ap (λ (x : Verdict). beforeRange x o) (w .answer)
+          ∙ between (labelChecks l p area) (basicChecks b (p .basic .on) (p .basic .receiving) area code) (outOfRange l p area) code v n early
+          ∙ ap (λ (x : Option Refusal). verdictOf x v n) (sym (a .0)) in
           record {
-            answer = rw (sized, s, a .0, a .1) (w .answer);
+            answer = rw (sized, s, a .1) g;
             left = rw (sized, s, e) (w .left);
-            stands = λ z. rw (a .1) (w .stands z);
+            stands = λ z.
+                (let q : beforeRange r o ≡ r = before-zero r o (basic-real b (p .basic .on) (p .basic .receiving) area code) z in
+                rw (q, a .1) (w .stands (ap (λ (x : Verdict). x .number) (sym q) ∙ z)));
           }
+
+      -- where the port does not read option 130 there is none
+      pub port-off : (l b : Place) (keys′ : List ℕ) (r : Verdict) → walkAt p area ≡ Sound l b → p .basic .on ≡ false → ArrivesAt l p area code keys keys′ r
+          → Arrives p area code keys keys′ r
+      port-off l b keys′ r e f w =
+          let q : b ≡ Nowhere = off-nowhere area l b (ap (λ (x : Bool). walkOf x area) (sym f) ∙ e) in
+          let o : firstOf (basicChecks b (p .basic .on) (p .basic .receiving) area code) ≡ none = rw (q, f) in
+          subst (Arrives p area code keys keys′) (ap (beforeRange r) o ∙ before-none r) (port-placed l b keys′ r e w)
+
+      -- where it does, they are asked
+      pub port-on : (l b : Place) (keys′ : List ℕ) (r v : Verdict) → walkAt p area ≡ Sound l b → p .basic .on ≡ true → ArrivesAt l p area code keys keys′ r
+          → v ≡ beforeRange r (firstOf (basicChecks b true (p .basic .receiving) area code)) → Arrives p area code keys keys′ v
+      port-on l b keys′ r v e f w g =
+          subst (Arrives p area code keys keys′)
+          (ap (λ (t : Bool). beforeRange r (firstOf (basicChecks b t (p .basic .receiving) area code))) f ∙ sym g)
+          (port-placed l b keys′ r e w)
 
 pub octets-of : (b : List ℕ) → ((i : ℕ) → getD b i 0 < 256) → Octets b
 octets-of [] h = tt

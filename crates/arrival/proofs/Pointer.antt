@@ -49,20 +49,34 @@ reading-pointer d o =
       ),
     )
 
-abbrev NumbersFrom : ℕ → List Check → Type 0
-NumbersFrom b [] = Unit {0}
-NumbersFrom b (c ∷ cs) = (b ≤ c .number) × NumbersFrom b cs
+-- a number of 7 to 13
+abbrev OptionNumber : ℕ → Type 0
+OptionNumber n = (7 ≤ n) × (n ≤ 13)
 
-first-number : (b : ℕ) (cs : List Check) (l : Label) → NumbersFrom b cs → (checkedReading cs l .number ≡ 0 → ⊥) → b ≤ checkedReading cs l .number
-first-number b [] l w h = absurd (h refl)
-first-number b (c ∷ cs) l w h = go (first-number b cs l (w .1)) (c .applies) h
+abbrev OptionNumbers : List Check → Type 0
+OptionNumbers [] = Unit {0}
+OptionNumbers (c ∷ cs) = OptionNumber (c .number) × OptionNumbers cs
+
+first-number : (cs : List Check) (l : Label) → OptionNumbers cs → (checkedReading cs l .number ≡ 0 → ⊥) → OptionNumber (checkedReading cs l .number)
+first-number [] l w h = absurd (h refl)
+first-number (c ∷ cs) l w h = go (first-number cs l (w .1)) (c .applies) h
   where
-    go : ((checkedReading cs l .number ≡ 0 → ⊥) → b ≤ checkedReading cs l .number) → (t : Bool) → ((cond t (notRead (c .number) (c .pointer)) (checkedReading cs l)) .number ≡ 0 → ⊥) → b ≤ (cond t (notRead (c .number) (c .pointer)) (checkedReading cs l)) .number
+    go : ((checkedReading cs l .number ≡ 0 → ⊥) → OptionNumber (checkedReading cs l .number)) → (t : Bool)
+        → ((cond t (notRead (c .number) (c .pointer)) (checkedReading cs l)) .number ≡ 0 → ⊥) → OptionNumber ((cond t (notRead (c .number) (c .pointer)) (checkedReading cs l)) .number)
     go f true z = w .0
     go f false z = f z
 
-pub reading-number : (d : ℕ) (o : List ℕ) → (readingFor d o .number ≡ 0 → ⊥) → 7 ≤ readingFor d o .number
+pub reading-number : (d : ℕ) (o : List ℕ) → (readingFor d o .number ≡ 0 → ⊥) → (7 ≤ readingFor d o .number) × (readingFor d o .number ≤ 13)
 unfolding readingFor readingBy tagChecks
 reading-number d o h =
-    first-number 7 (check (ltb (length o) 10) 7 1 ∷ check (not (eqb (domainOf o) d)) 8 2 ∷ tagChecks o) (labelIn o)
-    (omega arith, (omega arith, (omega arith, (omega arith, (omega arith, (omega arith, (omega arith, tt))))))) h
+    first-number (check (ltb (length o) 10) 7 1 ∷ check (not (eqb (domainOf o) d)) 8 2 ∷ tagChecks o) (labelIn o) (
+      (omega arith, omega arith),
+      (
+        (omega arith, omega arith),
+        (
+          (omega arith, omega arith),
+          ((omega arith, omega arith), ((omega arith, omega arith), ((omega arith, omega arith), ((omega arith, omega arith), tt)))),
+        ),
+      ),
+    )
+    h

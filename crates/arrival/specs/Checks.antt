@@ -1,4 +1,4 @@
--- Document 01, "The order of checks, and each number": every check, what it asks and what it reports.
+-- Document 01, "The order of checks, and each number": every check, what it asks and what it reports. Document 02, Wish 3: 19, 20 and 21.
 use mathlib.Core.Path.{_≡_}
 use mathlib.Core.Bool.{Bool, true, false, not, _&&_, _||_}
 use mathlib.Core.List.{List, [], _∷_}
@@ -13,7 +13,10 @@ use Rattle.area.specs.declared.Place.{Place}
 use Rattle.area.specs.declared.Place.the-variants.{Nowhere, At}
 use Rattle.area.specs.declared.Walk.{Walk}
 use Rattle.area.specs.declared.Walk.the-variants.{Sound, Refused}
-use Rattle.area.specs.Area.{walkOf}
+use Rattle.area.specs.Area.{walkOf, octetsAt}
+use Rattle.basic.specs.declared.Way.{Way}
+use Rattle.basic.specs.Alone.{basicReading}
+use Rattle.basic.specs.Settings.{passesWay}
 use Rattle.port.specs.declared.Port.{Port}
 use Rattle.port.specs.declared.Host.{Host}
 use Rattle.port.specs.Port.{portSound, hostSound}
@@ -58,18 +61,26 @@ NoneApplies (c ∷ cs) = (c ≡ none) × NoneApplies cs
 abbrev pub badArea : List ℕ → Bool
 badArea area = ltb 40 (length area) || not (eqb (length area % 4) 0)
 
--- 3, 4 and 5, from one walk
+-- the one walk over an area that arrives at a port
+abbrev pub walkAt : Port → List ℕ → Walk
+walkAt port area = walkOf (port .basic .on) area
+
+-- 3, 4 and 5, from it
 abbrev pub walkRefusal : Walk → Option Refusal
-walkRefusal (Sound q) = none
+walkRefusal (Sound label basic) = none
 walkRefusal (Refused n at) = some (faulty n at)
 
-unfoldable pub walkCheck : List ℕ → Option Refusal
-walkCheck area = walkRefusal (walkOf area)
+unfoldable pub walkCheck : Port → List ℕ → Option Refusal
+walkCheck port area = walkRefusal (walkAt port area)
 
--- the area's option 134 is the one its walk meets
+-- the area's option 134, and its option 130, are those that the walk meets
 abbrev pub placeIn : Walk → Place
-placeIn (Sound q) = q
+placeIn (Sound label basic) = label
 placeIn (Refused n at) = Nowhere
+
+abbrev pub basicIn : Walk → Place
+basicIn (Sound label basic) = basic
+basicIn (Refused n at) = Nowhere
 
 -- its octets: as many as its length octet says
 abbrev pub optionAt : ℕ → List ℕ → List ℕ
@@ -81,7 +92,7 @@ requiredBy Nowhere port = when (port .required) (record { number = 6; kind = 12;
 requiredBy (At p) port = none
 
 unfoldable pub requiredCheck : Port → List ℕ → Option Refusal
-requiredCheck port area = requiredBy (placeIn (walkOf area)) port
+requiredCheck port area = requiredBy (placeIn (walkAt port area)) port
 
 -- 7 to 13: what is wrong with the option, read for the port's domain
 abbrev pub optionBy : Place → Port → List ℕ → Option Refusal
@@ -91,7 +102,37 @@ optionBy (At p) port area =
     (faulty (readingFor (port .domain) (optionAt p area) .number) (p + readingFor (port .domain) (optionAt p area) .pointer))
 
 unfoldable pub optionCheck : Port → List ℕ → Option Refusal
-optionCheck port area = optionBy (placeIn (walkOf area)) port area
+optionCheck port area = optionBy (placeIn (walkAt port area)) port area
+
+-- 19: the option 130 is bad
+abbrev pub badBasicBy : Place → List ℕ → Option Refusal
+badBasicBy Nowhere area = none
+badBasicBy (At p) area = when (not (eqb (basicReading (optionAt p area) .number) 0)) (faulty 19 p)
+
+unfoldable pub badBasicCheck : Port → List ℕ → Option Refusal
+badBasicCheck port area = badBasicBy (basicIn (walkAt port area)) area
+
+-- the octets of the datagram's option 130, if it has one
+unfoldable pub arrivingBasic : Port → List ℕ → Option (List ℕ)
+arrivingBasic port area = octetsAt (basicIn (walkAt port area)) area
+
+-- 20: the port reads option 130, and none is there
+abbrev pub missingBasicBy : Option (List ℕ) → Bool → Option Refusal
+missingBasicBy none on = when on (record { number = 20; kind = 12; code = 1; pointer = 130 })
+missingBasicBy (some o) on = none
+
+unfoldable pub missingBasicCheck : Port → List ℕ → Option Refusal
+missingBasicCheck port area = missingBasicBy (arrivingBasic port area) (port .basic .on)
+
+-- what passes a port one way: no option 130 where it is switched off; where it is on, one whose level and flags are permitted
+abbrev pub basicPasses : Bool → Way → Option (List ℕ) → Bool
+basicPasses on way none = not on
+basicPasses on way (some o) = on && passesWay way (basicReading o .level) (basicReading o .flags)
+
+-- 21: level or flags out of the arriving port's range
+unfoldable pub basicRangeCheck : Port → List ℕ → ℕ → Option Refusal
+basicRangeCheck port area code =
+    when (not (basicPasses (port .basic .on) (port .basic .receiving) (arrivingBasic port area))) (barred 21 code)
 
 -- the datagram's label: its own, or the port's assigned one where it has none
 abbrev pub labelBy : Place → Port → List ℕ → Label
@@ -99,7 +140,7 @@ labelBy Nowhere port area = port .assigned
 labelBy (At p) port area = readingFor (port .domain) (optionAt p area) .label
 
 unfoldable pub arrivingLabel : Port → List ℕ → Label
-arrivingLabel port area = labelBy (placeIn (walkOf area)) port area
+arrivingLabel port area = labelBy (placeIn (walkAt port area)) port area
 
 -- 14: outside the arriving port's range
 unfoldable pub rangeCheck : Port → List ℕ → ℕ → Option Refusal

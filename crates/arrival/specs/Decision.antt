@@ -8,7 +8,7 @@ use Rattle.label.specs.Label.{zeroLabel}
 use Rattle.port.specs.declared.Port.{Port}
 use Rattle.arrival.specs.declared.Decision.{Decision}
 use Rattle.arrival.specs.declared.Facts.{Facts}
-use Rattle.arrival.specs.Checks.{Refusal, firstOf, walkCheck, requiredCheck, optionCheck, rangeCheck, arrivingLabel, Delivery, deliverySizes, deliveryRecords, hostCheck}
+use Rattle.arrival.specs.Checks.{Refusal, firstOf, walkCheck, requiredCheck, optionCheck, badBasicCheck, missingBasicCheck, basicRangeCheck, rangeCheck, arrivingLabel, Delivery, deliverySizes, deliveryRecords, hostCheck}
 
 -- RFC 1122, section 3.2.2: no error goes out about an ICMP error message, a broadcast or multicast destination, a link-layer broadcast, a
 -- fragment other than the first, or a source that is not one host; any of these facts silences
@@ -39,19 +39,29 @@ abbrev pub decided : Bool → Option Refusal → Label → ℕ → Decision
 decided quiet (some r) l n = refused quiet r
 decided quiet none l n = done l n
 
--- checks 3 to 14, which both jobs share
+-- checks 3 to 13, 19 to 21 and 14, which both jobs share
 abbrev pub arrivalChecks : Port → List ℕ → ℕ → List (Option Refusal)
 arrivalChecks port area code =
-    walkCheck area ∷ requiredCheck port area ∷ optionCheck port area ∷ rangeCheck port area code ∷ []
+    walkCheck port area  -- 3, 4, 5
+    ∷ requiredCheck port area  -- 6
+    ∷ optionCheck port area  -- 7 to 13
+    ∷ badBasicCheck port area  -- 19
+    ∷ missingBasicCheck port area  -- 20
+    ∷ basicRangeCheck port area code  -- 21
+    ∷ rangeCheck port area code  -- 14
+    ∷ []
 
--- deliver: the checks in the order of their numbers
+-- deliver: the checks in their order
 abbrev pub deliverChecks : Delivery → List (Option Refusal)
 deliverChecks d =
     deliverySizes d  -- 1
     ∷ deliveryRecords d  -- 2
-    ∷ walkCheck (d .area)  -- 3, 4, 5
+    ∷ walkCheck (d .port) (d .area)  -- 3, 4, 5
     ∷ requiredCheck (d .port) (d .area)  -- 6
     ∷ optionCheck (d .port) (d .area)  -- 7 to 13
+    ∷ badBasicCheck (d .port) (d .area)  -- 19
+    ∷ missingBasicCheck (d .port) (d .area)  -- 20
+    ∷ basicRangeCheck (d .port) (d .area) 10  -- 21
     ∷ rangeCheck (d .port) (d .area) 10  -- 14
     ∷ hostCheck d  -- 15
     ∷ []

@@ -1,7 +1,7 @@
 -- What the stages of a decision answer, in the terms of the checks; no public contract names these but for the inputs put together.
-use mathlib.Core.Bool.{Bool, cond, not}
+use mathlib.Core.Bool.{Bool, cond, not, _||_}
 use mathlib.Core.List.{List, [], _∷_}
-use mathlib.Core.Option.{Option}
+use mathlib.Core.Option.{Option, none, some}
 use mathlib.Core.Path.{_≡_}
 use Prim.Native.Nat.{ℕ}
 use lib.Dec.{eqb}
@@ -11,12 +11,16 @@ use Rattle.label.specs.Label.{used, inRange}
 use Rattle.label.specs.Keys.{keyRuns}
 use Rattle.label.specs.Range.{answered, lookOf, runsBetween}
 use Rattle.area.specs.declared.Place.{Place}
+use Rattle.area.specs.Area.{octetsAt}
+use Rattle.basic.specs.declared.BasicReading.{BasicReading}
+use Rattle.basic.specs.declared.Way.{Way}
+use Rattle.basic.specs.Alone.{basicBad, basicReading}
 use Rattle.port.specs.declared.Port.{Port}
 use Rattle.port.specs.declared.Host.{Host}
 use Rattle.port.specs.Port.{hostSound}
 use Rattle.arrival.specs.declared.Verdict.{Verdict}
 use Rattle.arrival.specs.declared.Facts.{Facts}
-use Rattle.arrival.specs.Checks.{Refusal, barred, when, firstOf, requiredBy, optionBy, labelBy, Delivery}
+use Rattle.arrival.specs.Checks.{Refusal, barred, when, firstOf, requiredBy, optionBy, badBasicBy, missingBasicBy, basicPasses, labelBy, Delivery}
 use Rattle.arrival.specs.Verdict.{verdictOf, stopped, going, keysBy}
 
 -- the inputs of a delivery
@@ -29,7 +33,7 @@ reported quiet r =
     cond (eqb (r .number) 0) (going (r .level) (r .count))
     (cond quiet (stopped (r .number) 0 0 0) (stopped (r .number) (r .kind) (r .code) (r .pointer)))
 
--- checks 6 to 14, with the option 134 at its place
+-- checks 6 to 13, and 14, with the option 134 at its place
 abbrev pub placeChecks : Place → Port → List ℕ → ℕ → List (Option Refusal)
 placeChecks q port area code =
     requiredBy q port
@@ -42,6 +46,31 @@ pub record ArrivesAt (q : Place) (port : Port) (area : List ℕ) (code : ℕ) (k
   pub answer : r ≡ verdictOf (firstOf (placeChecks q port area code)) (labelBy q port area .level) (labelBy q port area .count)
   pub left : keys′ ≡ keysBy q port area keys
   pub stands : r .number ≡ 0 → keyRuns (take (r .count) keys′) ≡ used (labelBy q port area)
+
+-- 19 to 21 of a port's settings, with the option 130 at its place
+abbrev pub basicChecks : Place → Bool → Way → List ℕ → ℕ → List (Option Refusal)
+basicChecks b on way area code =
+    badBasicBy b area
+    ∷ missingBasicBy (octetsAt b area) on
+    ∷ when (not (basicPasses on way (octetsAt b area))) (barred 21 code)
+    ∷ []
+
+-- 19 to 21 are still to be asked: no check applies, or 14, which comes after them
+abbrev pub isOpen : ℕ → Bool
+isOpen n = eqb n 0 || eqb n 14
+
+-- a verdict, if a refusal of these comes before it
+abbrev pub insteadOf : Verdict → Option Refusal → Verdict
+insteadOf r none = r
+insteadOf r (some x) = verdictOf (some x) 0 0
+
+abbrev pub beforeRange : Verdict → Option Refusal → Verdict
+beforeRange r o = cond (isOpen (r .number)) (insteadOf r o) r
+
+-- the level and flags of an area's option 130, if it has one
+abbrev pub basicRead : Option (List ℕ) → BasicReading
+basicRead none = basicBad
+basicRead (some o) = basicReading o
 
 -- whether a verdict's level and keys lie between two labels
 abbrev pub heldBetween : Label → Label → Verdict → List ℕ → Bool

@@ -13,12 +13,11 @@ use Rattle.area.specs.declared.Place.{Place}
 use Rattle.area.specs.declared.Place.the-variants.{Nowhere, At}
 use Rattle.area.specs.declared.Walk.{Walk}
 use Rattle.area.specs.declared.Walk.the-variants.{Sound, Refused}
-use Rattle.area.specs.Area.{walkOf}
 use Rattle.port.specs.declared.Port.{Port}
 use Rattle.port.specs.Port.{portSound}
 use Rattle.arrival.specs.declared.Decision.{Decision}
 use Rattle.arrival.specs.declared.Verdict.{Verdict}
-use Rattle.arrival.specs.Checks.{Refusal, silent, when, firstOf, badArea, optionAt, arrivingLabel}
+use Rattle.arrival.specs.Checks.{Refusal, silent, when, firstOf, badArea, walkAt, optionAt, arrivingLabel}
 use Rattle.arrival.specs.Decision.{refused, done, arrivalChecks}
 
 -- the refusal of the first check that applies, with level and count 0; or 0 with the level and the count of keys
@@ -34,7 +33,7 @@ stopped n k c p = verdictOf (some (record { number = n; kind = k; code = c; poin
 abbrev pub going : ℕ → ℕ → Verdict
 going v n = verdictOf none v n
 
--- the checks at a port, 1 to 14; `room` is the length of the list of keys, and 1 is given where it is under 120
+-- the checks at a port, from 1 to 14 in their order; `room` is the length of the list of keys, and 1 is given where it is under 120
 abbrev pub portChecks : Port → List ℕ → ℕ → ℕ → List (Option Refusal)
 portChecks port area code room =
     when (badArea area || ltb room 120) (silent 1) ∷ when (not (portSound port)) (silent 2) ∷ arrivalChecks port area code
@@ -49,12 +48,12 @@ keysBy Nowhere port area keys = cond (port .required) keys (withKeys (port .assi
 keysBy (At p) port area keys = keysAfter (port .domain) (optionAt p area) keys
 
 abbrev pub keysWalked : Walk → Port → List ℕ → List ℕ → List ℕ
-keysWalked (Sound q) port area keys = keysBy q port area keys
+keysWalked (Sound label basic) port area keys = keysBy label port area keys
 keysWalked (Refused n at) port area keys = keys
 
 unfoldable pub arrivalKeys : Port → List ℕ → List ℕ → List ℕ
 arrivalKeys port area keys =
-    cond (badArea area || ltb (length keys) 120) keys (cond (portSound port) (keysWalked (walkOf area) port area keys) keys)
+    cond (badArea area || ltb (length keys) 120) keys (cond (portSound port) (keysWalked (walkAt port area) port area keys) keys)
 
 -- arriving: the verdict and the keys, for every input; where no check applies, the first keys are the runs of the label that the datagram arrives with
 pub record Arrives (port : Port) (area : List ℕ) (code : ℕ) (keys keys′ : List ℕ) (r : Verdict) : Type 0 where

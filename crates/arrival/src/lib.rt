@@ -1,7 +1,12 @@
-// What both jobs share, checks 1 to 14 of a datagram that arrives at a port, and deliver (document 01, "The order of checks").
+// What both jobs share, checks 1 to 14 and 19 to 21 of a datagram that arrives at a port, and deliver (document 01, "The order of checks"; document
+// 02, Wish 3).
 use area::Place;
 use area::Walk;
 use area::walk_area;
+use basic::BasicReading;
+use basic::Way;
+use basic::passes_way;
+use basic::read_basic;
 use label::Label;
 use label::Look;
 use label::label_keys;
@@ -18,12 +23,15 @@ ghost use mathlib.Core.Bool.{true, false, cond, _||_, not};
 ghost use Prim.Native.Nat.{_%_, _≤_};
 ghost use lib.ListN.{length};
 ghost use lib.Dec.{ltb, eqb};
-ghost use Rattle.area.specs.Area.{placedIn, LabelAt};
+ghost use Rattle.area.specs.Area.{walkOf, octetsAt, placedIn, WholeAt};
+ghost use Rattle.area.specs.declared.Kind.the-variants.{Basic, Cipso};
 ghost use Rattle.area.specs.declared.Place.the-variants.{At};
+ghost use Rattle.basic.specs.Alone.{basicReading};
 ghost use Rattle.port.specs.Port.{portSound};
 ghost use Rattle.arrival.specs.Decision.{silenced, deliverOf};
 ghost use Rattle.arrival.specs.Verdict.{stopped, going, Arrives, concluded};
-ghost use Rattle.arrival.specs.Stages.{deliveryOf, ArrivesAt, reported, heldBetween, hostedBy};
+ghost use Rattle.arrival.specs.Checks.{firstOf, basicIn, optionAt};
+ghost use Rattle.arrival.specs.Stages.{deliveryOf, ArrivesAt, basicChecks, isOpen, beforeRange, basicRead, reported, heldBetween, hostedBy};
 
 // What is decided: 0 and the label (and, of a forwarding, the count of the leaving area), or a refusal's number with its ICMP type (`kind`),
 // code and pointer.
@@ -71,7 +79,7 @@ pub fn deliver(port: Port, host: Host, facts: Facts, area: &[u8]) -> Decision
     conclude(verdict, port.domain, facts, 0, &keys)
 }
 
-// Checks 1 to 14 at a port: 0, with the runs of the label that the datagram arrives with as keys at the head of the list, or the refusal;
+// Checks 1 to 14 and 19 to 21 at a port: 0, with the runs of the label that the datagram arrives with as keys at the head of the list, or the refusal;
 // 1 for a list of under 120 keys too.
 pub fn arrive(port: Port, area: &[u8], code: u8, keys: &mut [u32]) -> Verdict
     ensures { λ r. ⌜ Arrives port (now (area .entry)) code (now (keys .entry)) (now (keys .exit)) r ⌝ }
@@ -85,9 +93,37 @@ pub fn arrive(port: Port, area: &[u8], code: u8, keys: &mut [u32]) -> Verdict
     if !port_sound(port) {
         return stop(2, 0, 0, 0);
     }
-    match walk_area(area) {
+    let on = port.basic.on;
+    match walk_area(area, on) {
         Walk::Refused(number, at) => stop(number, 12, 0, (20 + at) as u8),
-        Walk::Sound(place) => arrive_at(port, area, place, code, keys),
+        Walk::Sound(label, basic) => {
+            let arrived = arrive_at(port, area, label, code, keys);
+            if !on {
+                // no option 130 was met
+                return arrived;
+            }
+            check_basic(arrived, port.basic.receiving, area, basic, code)
+        }
+    }
+}
+
+// Whether 19 to 21 are still to be asked: no check applies, or 14, which comes after them.
+pub fn is_open(number: u8) -> bool
+    ensures { λ r. ⌜ r ≡ isOpen number ⌝ }
+{
+    (number == 0) | (number == 14)
+}
+
+// The level and flags of the area's option 130; 19 where its walk meets none, or one that is not valid.
+pub fn find_basic(area: &[u8]) -> BasicReading
+    ensures { λ r. ⌜ r ≡ basicRead (octetsAt (basicIn (walkOf true (now (area .entry)))) (now (area .entry))) ⌝ }
+{
+    match walk_area(area, true) {
+        Walk::Refused(_, _) => BasicReading::bad(),
+        Walk::Sound(_, place) => match place {
+            Place::Nowhere => BasicReading::bad(),
+            Place::At(at) => read_basic_at(area, at),
+        },
     }
 }
 
@@ -189,10 +225,10 @@ fn bad_area(n: usize) -> bool
     n % 4 != 0
 }
 
-// Checks 6 to 14, with the place of the option 134.
+// Checks 6 to 13, and 14, with the place of the option 134.
 fn arrive_at(port: Port, area: &[u8], place: Place, code: u8, keys: &mut [u32]) -> Verdict
     requires { ⌜ length (now area) ≤ 40 ⌝ }
-    requires { ⌜ placedIn place (now area) ⌝ }
+    requires { ⌜ placedIn Cipso place (now area) ⌝ }
     requires { ⌜ portSound port ≡ true ⌝ }
     requires { ⌜ 120 ≤ length (now keys) ⌝ }
     ensures { λ r. ⌜ ArrivesAt place port (now (area .entry)) code (now (keys .entry)) (now (keys .exit)) r ⌝ }
@@ -211,10 +247,10 @@ fn arrive_at(port: Port, area: &[u8], place: Place, code: u8, keys: &mut [u32]) 
     }
 }
 
-// Checks 7 to 14, with an option 134 at an octet.
+// Checks 7 to 13, and 14, with an option 134 at an octet.
 fn read_at(port: Port, area: &[u8], at: usize, code: u8, keys: &mut [u32]) -> Verdict
     requires { ⌜ length (now area) ≤ 40 ⌝ }
-    requires { ⌜ LabelAt (now area) at ⌝ }
+    requires { ⌜ WholeAt Cipso (now area) at ⌝ }
     requires { ⌜ portSound port ≡ true ⌝ }
     requires { ⌜ 120 ≤ length (now keys) ⌝ }
     ensures { λ r. ⌜ ArrivesAt (At at) port (now (area .entry)) code (now (keys .entry)) (now (keys .exit)) r ⌝ }
@@ -259,7 +295,42 @@ fn hold_within(
     }
 }
 
-// Check 2 of the host, and 15: 1 comes before them, 2 of the host before 3 to 14.
+// Checks 19 to 21 of a port that reads option 130, which come before 14, with the place of the option 130.
+fn check_basic(arrived: Verdict, way: Way, area: &[u8], place: Place, code: u8) -> Verdict
+    requires { ⌜ length (now area) ≤ 40 ⌝ }
+    requires { ⌜ placedIn Basic place (now area) ⌝ }
+    ensures { λ r. ⌜ r ≡ beforeRange arrived (firstOf (basicChecks place true way (now (area .entry)) code)) ⌝ }
+{
+    if !is_open(arrived.number) {
+        return arrived;
+    }
+    match place {
+        Place::Nowhere => stop(20, 12, 1, 130),
+        Place::At(at) => {
+            let read = read_basic_at(area, at);
+            if read.number != 0 {
+                return stop(19, 12, 0, (20 + at) as u8);
+            }
+            if !passes_way(way, read.level, read.flags) {
+                return stop(21, 3, code, 0);
+            }
+            arrived
+        }
+    }
+}
+
+// Reads the option 130 at an octet.
+fn read_basic_at(area: &[u8], at: usize) -> BasicReading
+    requires { ⌜ WholeAt Basic (now area) at ⌝ }
+    ensures { λ r. ⌜ r ≡ basicReading (optionAt at (now (area .entry))) ⌝ }
+{
+    let next = at + 1;
+    let n = area[next] as usize;
+    let end = at + n;
+    read_basic(&area[at..end])
+}
+
+// Check 2 of the host, and 15: 1 comes before them, 2 of the host before 3 to 21.
 fn reach_host(arrived: Verdict, host: Host, domain: u32, keys: &[u32]) -> Verdict
     ensures { λ r. ⌜ r ≡ hostedBy arrived host domain (now (keys .entry)) ⌝ }
 {

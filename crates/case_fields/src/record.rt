@@ -1,5 +1,5 @@
 // The records of a case: labels, ports, a host, the table with its level pairs, and the facts of a datagram.
-use crate::field::CUT;
+use crate::field::Octet;
 use crate::field::take_flag;
 use crate::field::take_limited;
 use crate::field::take_octet;
@@ -8,12 +8,19 @@ use crate::field::take_short;
 use crate::field::take_stored;
 use crate::field::take_word;
 use arrival::Facts;
+use basic::Basic;
+use basic::Way;
 use label::Label;
 use label::Run;
 use port::Host;
 use port::Port;
 use table::Row;
 use table::Table;
+
+// The groups of a port's later fields: option 130.
+const BASIC_GROUP: u8 = 1;
+
+const ALL_GROUPS: usize = 1;
 
 pub struct TakenLabel {
     pub label: Label,
@@ -23,6 +30,16 @@ pub struct TakenLabel {
 pub struct TakenPort {
     pub port: Port,
     pub next: usize,
+}
+
+struct TakenBasic {
+    basic: Basic,
+    next: usize,
+}
+
+struct TakenWay {
+    way: Way,
+    next: usize,
 }
 
 pub struct TakenHost {
@@ -89,20 +106,89 @@ pub fn take_port(case: &[u8], at: usize) -> TakenPort {
     }
 }
 
-// A port and the groups of its later fields, of which there are none yet.
+// A port and the groups of its later fields: which there are, and those in their order. One that is not there has the values of document 01.
 pub fn take_wide_port(case: &[u8], at: usize) -> TakenPort {
     let taken = take_port(case, at);
-    let groups = take_octet(case, taken.next);
-    let port = taken.port;
-    if groups.value != 0 {
-        return TakenPort {
-            port: port,
-            next: CUT,
-        };
-    }
+    let groups = take_groups(case, taken.next);
+    let basic = take_basic(case, groups.next, has_group(groups.value, BASIC_GROUP));
+    let plain = taken.port;
+    let lowest = plain.lowest;
+    let highest = plain.highest;
+    let assigned = plain.assigned;
+    let settings = basic.basic;
+    let port = Port {
+        domain: plain.domain,
+        lowest: lowest,
+        highest: highest,
+        required: plain.required,
+        assigned: assigned,
+        basic: settings,
+    };
     TakenPort {
         port: port,
-        next: groups.next,
+        next: basic.next,
+    }
+}
+
+// One octet, the sum of the groups that are there.
+fn take_groups(case: &[u8], at: usize) -> Octet {
+    take_stored(case, at, ALL_GROUPS)
+}
+
+fn has_group(groups: u8, group: u8) -> bool {
+    if group == 0 {
+        return false;
+    }
+    groups / group % 2 == 1
+}
+
+// Whether the Basic Security Option is switched on, and what passes of it, receiving and sending.
+fn take_basic(case: &[u8], at: usize, there: bool) -> TakenBasic {
+    if !there {
+        return TakenBasic {
+            basic: Basic::off(),
+            next: at,
+        };
+    }
+    let on = take_flag(case, at);
+    let receiving = take_way(case, on.next);
+    let sending = take_way(case, receiving.next);
+    let a = receiving.way;
+    let b = sending.way;
+    let basic = Basic {
+        on: on.value,
+        receiving: a,
+        sending: b,
+    };
+    TakenBasic {
+        basic: basic,
+        next: sending.next,
+    }
+}
+
+// Lowest and highest level, count, and the flag fields that are stored.
+fn take_way(case: &[u8], at: usize) -> TakenWay {
+    let lowest = take_octet(case, at);
+    let highest = take_octet(case, lowest.next);
+    let count = take_short(case, highest.next);
+    let stored = take_limited(case, count.next, 256);
+    let off = Basic::off();
+    let mut way = off.receiving;
+    way.lowest = lowest.value;
+    way.highest = highest.value;
+    way.count = count.value as usize;
+    let n = stored.value as usize;
+    let mut next = stored.next;
+    let mut i: usize = 0;
+    while i < n {
+        let field = take_short(case, next);
+        way.flags[i] = field.value;
+        next = field.next;
+        i += 1;
+    }
+    TakenWay {
+        way: way,
+        next: next,
     }
 }
 

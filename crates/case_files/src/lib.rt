@@ -10,13 +10,13 @@ use case_fields::take_wide_port;
 use case_fields::take_wide_table;
 use case_lines::put_broken;
 use case_lines::put_part;
+use file::Written;
 use file::read_file;
 use file::write_file;
 use fileset::Set;
 use fileset::empty_set;
 use filetable::LevelPair;
 use filetable::Renumbering;
-use lines::put_decimal;
 use lines::put_next;
 use lines::put_word;
 
@@ -68,9 +68,21 @@ fn put_written(out: &mut [u8], n: usize, set: Set, room: u16, fill: u8) -> usize
     let mut space = [fill; ROOM];
     let size = room as usize;
     let w = write_file(set, &mut space[0..size]);
-    let k = put_decimal(out, n, w.number as u64);
-    let m = put_next(out, k, w.count as u64);
-    put_space(out, m, &space, size)
+    let k = put_number(out, n, w);
+    put_space(out, k, &space, size)
+}
+
+// The number of the writer, or NAMED where it refuses by name, and the count.
+fn put_number(out: &mut [u8], n: usize, w: Written) -> usize {
+    match w {
+        Written::Done(count) => {
+            let k = put_word(out, n, b"0");
+            put_next(out, k, count as u64)
+        }
+        Written::Short => put_word(out, n, b"1 0"),
+        Written::Unsound => put_word(out, n, b"2 0"),
+        Written::Unsaid => put_word(out, n, b"NAMED 0"),
+    }
 }
 
 // An output of `size` octets.

@@ -1,10 +1,14 @@
-// Entries 4, 5 and 24: one option spelled and read, and a bitmap read by the table of octets.
+// Entries 4, 5, 13, 14 and 24: one option spelled and read, option 130 read and written, and a bitmap read by the table of octets.
+use basic::read_basic;
+use basic::write_basic;
 use bitmap::read_bitmap;
 use case_fields::LONGEST;
 use case_fields::octets_of;
 use case_fields::take_label;
+use case_fields::take_octet;
 use case_fields::take_octets;
 use case_fields::take_output;
+use case_fields::take_short;
 use case_lines::put_broken;
 use case_lines::put_label;
 use case_lines::put_lent;
@@ -41,7 +45,35 @@ pub fn ask_read(case: &[u8], at: usize, out: &mut [u8], n: usize) -> usize {
     put_label(out, pointed, label)
 }
 
-// Number, count, low and high of each run.
+// Entry 13: option 130 read alone.
+pub fn ask_read_basic(case: &[u8], at: usize, out: &mut [u8], n: usize) -> usize {
+    let octets = take_octets(case, at);
+    if octets.next != case.len() {
+        return put_broken(out, n);
+    }
+    let r = read_basic(octets_of(case, octets.from, octets.end));
+    let numbered = put_decimal(out, n, r.number as u64);
+    let levelled = put_next(out, numbered, r.level as u64);
+    put_next(out, levelled, r.flags as u64)
+}
+
+// Entry 14: option 130 written.
+pub fn ask_write_basic(case: &[u8], at: usize, out: &mut [u8], n: usize) -> usize {
+    let level = take_octet(case, at);
+    let flags = take_short(case, level.next);
+    let lent = take_output(case, flags.next);
+    if lent.next != case.len() {
+        return put_broken(out, n);
+    }
+    let room = lent.room;
+    let mut space = [lent.fill; LONGEST];
+    let w = write_basic(level.value, flags.value, &mut space[0..room]);
+    let numbered = put_decimal(out, n, w.number as u64);
+    let counted = put_next(out, numbered, w.count as u64);
+    put_lent(out, counted, &space, room)
+}
+
+// Entry 24. Number, count, low and high of each run.
 pub fn ask_bitmap(case: &[u8], at: usize, out: &mut [u8], n: usize) -> usize {
     let octets = take_octets(case, at);
     if octets.next != case.len() {

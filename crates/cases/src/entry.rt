@@ -1,6 +1,8 @@
 // Which function a case asks: its first octet names the entry. An entry takes its fields, calls its function and puts its line.
 use case_decisions::ask_deliver;
 use case_decisions::ask_forward;
+use case_decisions::ask_wide_deliver;
+use case_decisions::ask_wide_forward;
 use case_fields::take_octet;
 use case_files::ask_read_file;
 use case_files::ask_read_write;
@@ -8,10 +10,12 @@ use case_files::ask_write;
 use case_labels::ask_bitmap;
 use case_labels::ask_contains;
 use case_labels::ask_read;
+use case_labels::ask_read_basic;
 use case_labels::ask_renumber;
 use case_labels::ask_reverse;
 use case_labels::ask_spell;
 use case_labels::ask_within;
+use case_labels::ask_write_basic;
 use case_lines::put_broken;
 
 // The line of one case.
@@ -32,6 +36,10 @@ pub fn answer(case: &[u8], out: &mut [u8], n: usize) -> usize {
         10 => ask_read_file(case, at, out, n),
         11 => ask_read_write(case, at, out, n),
         12 => ask_write(case, at, out, n),
+        13 => ask_read_basic(case, at, out, n),
+        14 => ask_write_basic(case, at, out, n),
+        15 => ask_wide_forward(case, at, out, n),
+        16 => ask_wide_deliver(case, at, out, n),
         22 => ask_reverse(case, at, out, n),
         24 => ask_bitmap(case, at, out, n),
         _ => put_broken(out, n),

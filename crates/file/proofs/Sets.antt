@@ -1,4 +1,4 @@
--- A set has octets exactly when it is sound.
+-- A set has octets exactly when it is sound and version 1 can say it.
 use mathlib.Core.Bool.{Bool, true, false, cond, not, _&&_}
 use mathlib.Core.List.{List, [], _∷_, _++_}
 use mathlib.Core.Path.{_≡_, refl, sym, ap, subst, _∙_}
@@ -11,15 +11,18 @@ use lib.Seq.{length-take-le}
 use borrow.Author.Tests.{le-leb, leb-true, eq-eqb, eqb-true, not-true}
 use Rattle.label.specs.Label.{isZero, zeroLabel}
 use Rattle.label.proofs.Bools.{and-left, and-right, and-both}
+use Rattle.basic.specs.Settings.{basicOff, isOff, basicSound, wayZero}
+use Rattle.basic.proofs.Settings.{off-is}
 use Rattle.port.specs.declared.Port.{Port}
-use Rattle.port.specs.Port.{portSound}
+use Rattle.port.specs.Port.{isPlain, portSound}
 use Rattle.table.specs.Table.{noRow, unusedRows, unusedPairs}
 use Rattle.format.specs.Format.{Sound, Each}
 use Rattle.format.specs.Laws.{flat}
 use Rattle.format.specs.Places.{padded, placesFit, Filled}
 use Rattle.format.proofs.Places.{padded-again, padded-length, fits-used, fits-unused, fit-padded}
 use Rattle.fileport.specs.PortFormat.{portFormat}
-use Rattle.fileport.proofs.Soundness.{is-zero, ports-said, port-places}
+use Rattle.fileport.specs.Theorems.{typedPort}
+use Rattle.fileport.proofs.Soundness.{is-zero, places, ports-said, port-typed}
 use Rattle.fileport.proofs.LabelLaws.{label-length, port-length}
 use Rattle.filetable.specs.declared.LevelPair.{LevelPair}
 use Rattle.filetable.specs.declared.Renumbering.{Renumbering}
@@ -28,50 +31,69 @@ use Rattle.filetable.specs.Theorems.{typedPairs, twoEach, renumberingSound}
 use Rattle.filetable.proofs.Soundness.{tables-said, unused-rows, unused-pairs, renumbering-places}
 use Rattle.filetable.proofs.Octets.{table-length}
 use Rattle.fileset.specs.declared.Set.{Set}
-use Rattle.fileset.specs.Set.{noPort, typedPort, zeroPort, zeroTable, usedPort, unusedPort, usedTable, unusedTable, typed, setSound}
+use Rattle.fileset.specs.Set.{noPort, zeroPort, zeroTable, usedPort, unusedPort, usedTable, unusedTable, typed, setSound}
 use Rattle.file.specs.SetFormat.{alike, same, portsFormat, tablesFormat, setOf, setFormat}
 use Rattle.file.specs.Stages.{portOctets, tableOctets}
+use Rattle.file.specs.File.{allPlain, sayable}
 use Rattle.file.specs.Theorems.{Fits}
 use Rattle.file.proofs.Files.{set-again}
 use Rattle.file.proofs.Sizes.{Parts, parts, total-is}
 
 -- Ports.
 
-port-typed : (p : Port) → typedPort p ≡ true → (length (p .lowest .runs) ≡ 120) × (length (p .highest .runs) ≡ 120) × (length (p .assigned .runs) ≡ 120)
-unfolding typedPort
-port-typed p e =
-    let r = and-right (eqb (length (p .lowest .runs)) 120) _ e in (
-      eqb-true _ _ (and-left (eqb (length (p .lowest .runs)) 120) _ e),
-      eqb-true _ _ (and-left (eqb (length (p .highest .runs)) 120) _ r),
-      eqb-true _ _ (and-right (eqb (length (p .highest .runs)) 120) _ r),
-    )
+-- what suits a place that is used, in a set that version 1 can say
+saidPort : Port → Bool
+saidPort p = usedPort p && isPlain p
 
-port-used : (p : Port) → usedPort p ≡ true → Sound portFormat p
-unfolding usedPort
-port-used p e = ports-said .says p (port-typed p (and-right (portSound p) _ e) .2) (and-left (portSound p) _ e)
+port-used : (p : Port) → saidPort p ≡ true → Sound portFormat p
+unfolding saidPort usedPort
+port-used p e =
+    let u = and-left (portSound p && typedPort p) _ e in
+    ports-said .says p (and-right (portSound p) _ u) (and-left (portSound p) _ u) (and-right (portSound p && typedPort p) _ e)
 
 port-said : (p : Port) → Sound portFormat p → usedPort p ≡ true
-unfolding usedPort typedPort
-port-said p h = let n = port-places p h in rw (ports-said .said p h, eq-eqb _ _ (n .0), eq-eqb _ _ (n .1), eq-eqb _ _ (n .2))
+unfolding usedPort
+port-said p h = rw (ports-said .said p h .0, port-typed p h)
+
+ports-sayable : (n : ℕ) (ps : List Port) → placesFit usedPort unusedPort n ps ≡ true → allPlain (take n ps) ≡ true
+    → placesFit saidPort unusedPort n ps ≡ true
+unfolding saidPort
+ports-sayable zero ps e q = same-unused ps e
+  where
+    same-unused : (ps : List Port) → placesFit usedPort unusedPort 0 ps ≡ true → placesFit saidPort unusedPort 0 ps ≡ true
+    same-unused [] e = refl
+    same-unused (p ∷ ps) e = and-both (and-left (unusedPort p) _ e) (same-unused ps (and-right (unusedPort p) _ e))
+ports-sayable (suc n) [] e q = refl
+ports-sayable (suc n) (p ∷ ps) e q =
+    and-both
+    (and-both (and-left (usedPort p) _ e) (and-left (isPlain p) _ q))
+    (ports-sayable n ps (and-right (usedPort p) _ e) (and-right (isPlain p) _ q))
+
+ports-plain : (ps : List Port) → Each (λ st a. Sound portFormat a) same 0 ps → allPlain ps ≡ true
+ports-plain [] h = refl
+ports-plain (p ∷ ps) h = and-both (ports-said .said p (h .0) .1) (ports-plain ps (h .1))
 
 port-unused : (p : Port) → unusedPort p ≡ true → p ≡ noPort
 unfolding unusedPort zeroPort
 port-unused p e =
-    let n = port-typed p (and-right (zeroPort p) _ e) in
+    let n = places p (and-right (zeroPort p) _ e) in
     let a : Bool = eqb (p .domain) 0 in
     let l : Bool = isZero (p .lowest) in
     let h : Bool = isZero (p .highest) in
     let r : Bool = not (p .required) in
-    let z = and-left (zeroPort p) _ e in
+    let g : Bool = isZero (p .assigned) in
+    let y = and-left (zeroPort p) _ e in
+    let z = and-left ((((a && l) && h) && r) && g) _ y in
     let z1 = and-left (((a && l) && h) && r) _ z in
     let z2 = and-left ((a && l) && h) _ z1 in
     let z3 = and-left (a && l) _ z2 in
     let d : p .domain ≡ 0 = eqb-true _ _ (and-left a _ z3) in
-    let lo : p .lowest ≡ zeroLabel = is-zero (p .lowest) (n .0) (and-right a _ z3) in
-    let hi : p .highest ≡ zeroLabel = is-zero (p .highest) (n .1) (and-right (a && l) _ z2) in
+    let lo : p .lowest ≡ zeroLabel = is-zero (p .lowest) (n .lowest) (and-right a _ z3) in
+    let hi : p .highest ≡ zeroLabel = is-zero (p .highest) (n .highest) (and-right (a && l) _ z2) in
     let re : p .required ≡ false = not-true _ (and-right ((a && l) && h) _ z1) in
-    let gi : p .assigned ≡ zeroLabel = is-zero (p .assigned) (n .2) (and-right (((a && l) && h) && r) _ z) in
-    λ i. record { domain = d i; lowest = lo i; highest = hi i; required = re i; assigned = gi i }
+    let gi : p .assigned ≡ zeroLabel = is-zero (p .assigned) (n .assigned) (and-right (((a && l) && h) && r) _ z) in
+    let ba : p .basic ≡ basicOff = off-is (p .basic) (n .receiving) (n .sending) (and-right ((((a && l) && h) && r) && g) _ y) in
+    λ i. record { domain = d i; lowest = lo i; highest = hi i; required = re i; assigned = gi i; basic = ba i }
 
 -- Tables.
 
@@ -128,21 +150,22 @@ filled-tables s p =
       limit = p .tables-held;
     }
 
-pub set-says : (s : Set) → setSound s ≡ true → Sound setFormat s
-unfolding Sound setFormat portsFormat tablesFormat
-set-says s e =
+pub set-says : (s : Set) → setSound s ≡ true → sayable s ≡ true → Sound setFormat s
+unfolding Sound setFormat portsFormat tablesFormat sayable
+set-says s e q =
     let p = parts s e in
+    let u = ports-sayable (s .portcount) (s .ports) (p .ports) q in
     let f = filled-ports s p in
     let g = filled-tables s p in (
       (
-        (fits-used usedPort unusedPort (λ a. Sound portFormat a) same port-used (s .portcount) (s .ports) 0 (p .ports), omega (arith, f .size, f .limit), omega (arith, f .size, f .limit)),
+        (fits-used saidPort unusedPort (λ a. Sound portFormat a) same port-used (s .portcount) (s .ports) 0 u, omega (arith, f .size, f .limit), omega (arith, f .size, f .limit)),
         (fits-used usedTable unusedTable (λ a. Sound tableFormat a) same table-used (s .tablecount) (s .tables) 0 (p .tables), omega (arith, g .size, g .limit), omega (arith, g .size, g .limit)),
       ),
       set-again f g,
     )
 
 no-port : unusedPort noPort ≡ true
-unfolding unusedPort zeroPort typedPort isZero
+unfolding unusedPort zeroPort typedPort isZero isOff basicSound wayZero
 no-port = refl
 
 no-table : unusedTable noTable ≡ true
@@ -168,6 +191,10 @@ set-said s h =
     subst (λ (x : Set). setSound x ≡ true) (h .1)
     (set-of (take (s .portcount) (s .ports)) (take (s .tablecount) (s .tables)) (h .0 .0 .1) (h .0 .1 .1) (h .0 .0 .0) (h .0 .1 .0))
 
+pub set-sayable : (s : Set) → Sound setFormat s → sayable s ≡ true
+unfolding Sound setFormat portsFormat tablesFormat sayable
+set-sayable s h = ports-plain (take (s .portcount) (s .ports)) (h .0 .0 .0)
+
 -- How long the file of a sound set is at most.
 
 capped : (n k : ℕ) → cond (leb n k) n k ≤ k
@@ -180,10 +207,10 @@ capped n k = go (leb n k) refl
 port-bound : (p : Port) → usedPort p ≡ true → length (portOctets p) ≤ 1463
 unfolding usedPort portOctets
 port-bound p e =
-    let n = port-typed p (and-right (portSound p) _ e) in
-    let l = label-length (p .domain) (p .lowest) (n .0) in
-    let h = label-length (p .domain) (p .highest) (n .1) in
-    let g = label-length (cond (p .required) 0 (p .domain)) (p .assigned) (n .2) in
+    let n = places p (and-right (portSound p) _ e) in
+    let l = label-length (p .domain) (p .lowest) (n .lowest) in
+    let h = label-length (p .domain) (p .highest) (n .highest) in
+    let g = label-length (cond (p .required) 0 (p .domain)) (p .assigned) (n .assigned) in
     rw (port-length p _ _ _ l h g) (omega (arith, capped (p .lowest .count) 120, capped (p .highest .count) 120, capped (p .assigned .count) 120))
 
 table-bound : (r : Renumbering) → usedTable r ≡ true → length (tableOctets r) ≤ 428

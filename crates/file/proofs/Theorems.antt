@@ -21,7 +21,7 @@ use Rattle.file.specs.declared.FileRead.{FileRead}
 use Rattle.file.specs.File.{fileFormat, accepted, refused, unknown, answered, fileReading, totalOf, fileOctets}
 use Rattle.file.specs.Theorems.{GivenBack, OneFile, Accepted, LengthFirst, Named}
 use Rattle.file.proofs.Sizes.{file-length}
-use Rattle.file.proofs.Sets.{set-says, set-said, file-fits}
+use Rattle.file.proofs.Sets.{set-says, set-said, set-sayable, file-fits}
 
 -- A list stands in itself, and only it does.
 
@@ -106,21 +106,21 @@ module _ (o : List ℕ) (w : Octets o) (s : Set) (e : fileReading o ≡ accepted
       let k : v .0 .0 ≡ totalOf (v .1) = ha ∙ q in
       let f : octets (fileFormat (length o)) v ≡ octets (fileFormat (totalOf (v .1))) ((totalOf (v .1), 1), v .1) =
       (λ i. octets (fileFormat (length o)) ((k i, hb i), v .1)) ∙ file-any (length o) (totalOf (v .1)) (totalOf (v .1)) 1 (v .1) in
-      rw (← r .set) (record { file = stands-all (octets (fileFormat (length o)) v) o l (p .stands) ∙ f; sound = set-said (v .1) (h .2) })
+      rw (← r .set) (record { file = stands-all (octets (fileFormat (length o)) v) o l (p .stands) ∙ f; sound = set-said (v .1) (h .2); sayable = set-sayable (v .1) (h .2) })
 
 pub accepted-only : Accepted
 accepted-only o w s e = one-file o w s e
 
 pub given-back : GivenBack
 unfolding fileReading answered fileOctets
-given-back s e =
+given-back s e q =
     let t : ℕ = totalOf s in
     let v : (ℕ × ℕ) × Set = ((totalOf s, 1), s) in
     let o : List ℕ = octets (fileFormat (totalOf s)) ((totalOf s, 1), s) in
     let f : totalOf s ≤ 26837 = file-fits s e in
     let l : length (octets (fileFormat (totalOf s)) ((totalOf s, 1), s)) ≡ totalOf s = any-length (totalOf s) (totalOf s) 1 s in
     let b : readAt (fileFormat (totalOf s)) (octets (fileFormat (totalOf s)) ((totalOf s, 1), s)) 0 ≡ got ((totalOf s, 1), s) (0 + length (octets (fileFormat (totalOf s)) ((totalOf s, 1), s))) =
-    read-back (fileFormat (totalOf s)) o 0 v (sound-file (totalOf s) s (omega arith) (set-says s e)) (stands-self o) in
+    read-back (fileFormat (totalOf s)) o 0 v (sound-file (totalOf s) s (omega arith) (set-says s e q)) (stands-self o) in
     rw (l, b, l, zero-add, eq-eqb (totalOf s) (totalOf s) refl)
 
 pub length-first : LengthFirst

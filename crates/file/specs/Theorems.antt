@@ -1,5 +1,6 @@
 -- Document 02, Wish 1: "A file is accepted exactly when its length agrees, then its version is known, then every record is sound; a refusal names the first octet of the first bad
--- field. A sound set has one file, and what the writer wrote the reader gives back. An unknown version is refused by name."
+-- field. A sound set has one file, and what the writer wrote the reader gives back. An unknown version is refused by name." Wish 3: "Version 1 files read later port fields as 01 had
+-- them; until Wish 8 the writer refuses others by name, after 2."
 use mathlib.Core.Bool.{true}
 use mathlib.Core.List.{List}
 use mathlib.Core.Path.{_≡_}
@@ -9,16 +10,17 @@ use Rattle.format.specs.Format.{valueAt}
 use Rattle.format.specs.Laws.{Octets}
 use Rattle.fileset.specs.declared.Set.{Set}
 use Rattle.fileset.specs.Set.{setSound}
-use Rattle.file.specs.File.{accepted, refused, unknown, fileReading, totalOf, fileOctets}
+use Rattle.file.specs.File.{accepted, refused, unknown, fileReading, sayable, totalOf, fileOctets}
 
--- what the writer wrote the reader gives back, for every sound set
+-- what the writer wrote the reader gives back, for every sound set that version 1 can say
 abbrev pub GivenBack : Type 0
-GivenBack = (s : Set) → setSound s ≡ true → fileReading (fileOctets s) ≡ accepted s
+GivenBack = (s : Set) → setSound s ≡ true → sayable s ≡ true → fileReading (fileOctets s) ≡ accepted s
 
--- what the reader accepts is the one file of a sound set, octet for octet
+-- what the reader accepts is the one file of such a set, octet for octet: its ports are as document 01 has them
 pub record OneFile (o : List ℕ) (s : Set) : Type 0 where
   pub file : o ≡ fileOctets s
   pub sound : setSound s ≡ true
+  pub sayable : sayable s ≡ true
 
 abbrev pub Accepted : Type 0
 Accepted = (o : List ℕ) → Octets o → (s : Set) → fileReading o ≡ accepted s → OneFile o s

@@ -12,7 +12,7 @@ ghost use Rattle.filetable.specs.TableFormat.{tableFormat, noTable};
 ghost use Rattle.fileset.specs.Set.{noPort, setSound};
 ghost use Rattle.file.specs.SetFormat.{alike, same, portsFormat, tablesFormat};
 ghost use Rattle.file.specs.Stages.{portOctets, tableOctets};
-ghost use Rattle.file.specs.File.{refused, answered, fileReading, totalOf, fileOctets, writtenOf, outputOf};
+ghost use Rattle.file.specs.File.{refused, answered, fileReading, allPlain, sayable, totalOf, fileOctets, writtenOf, outputOf};
 use fileport::port_size;
 use fileport::read_port;
 use fileport::write_port;
@@ -56,10 +56,16 @@ pub struct FileRead {
     pub set: Set,
 }
 
-// What writing a file came to: the number is 0, 1 (too short an output) or 2 (an unsound set).
-pub struct Written {
-    pub number: u8,
-    pub count: usize,
+// What writing a file came to.
+pub enum Written {
+    // the file stands in the output, with so many octets
+    Done(usize),
+    // 1: too short an output
+    Short,
+    // 2: an unsound set
+    Unsound,
+    // refused by name: the set has a port of which version 1 cannot say all fields
+    Unsaid,
 }
 
 fn read_each_port(octets: &[u8], ok: bool, at: usize, count: usize) -> PortsRead
@@ -287,26 +293,46 @@ fn file_size(set: Set) -> usize
     5 + ports_size(held, set.portcount) + tables_size(kept, set.tablecount)
 }
 
-// Writes the file of a set: 2 for an unsound set, then 1 for an output that is too short, else 0 and the count. A refusal writes nothing, and octets past the file are kept.
+// Whether each of the first n ports is as document 01 has it.
+fn ports_plain(ports: [Port; 16], n: usize) -> bool
+    requires { ⌜ n ≤ 16 ⌝ }
+    ensures { λ r. ⌜ r ≡ allPlain (take n ports) ⌝ }
+{
+    let mut i: usize = 0;
+    while i < n {
+        let port = ports[i];
+        if !port.is_plain() {
+            return false;
+        }
+        i += 1;
+    }
+    true
+}
+
+// Whether version 1 can say a sound set.
+fn set_sayable(set: Set) -> bool
+    requires { ⌜ setSound set ≡ true ⌝ }
+    ensures { λ r. ⌜ r ≡ sayable set ⌝ }
+{
+    let held = set.ports;
+    ports_plain(held, set.portcount)
+}
+
+// Writes the file of a set: 2 for an unsound set, then a refusal by name for one that version 1 cannot say, then 1 for an output that is too short, else the count. A refusal
+// writes nothing, and octets past the file are kept.
 pub fn write_file(set: Set, out: &mut [u8]) -> Written
     ensures { λ r. ⌜ (r ≡ writtenOf set (length (now (out .entry)))) × (now (out .exit) ≡ outputOf set (now (out .entry))) ⌝ }
 {
     if !set_sound(set) {
-        return Written {
-            number: 2,
-            count: 0,
-        };
+        return Written::Unsound;
+    }
+    if !set_sayable(set) {
+        return Written::Unsaid;
     }
     let total = file_size(set);
     if out.len() < total {
-        return Written {
-            number: 1,
-            count: 0,
-        };
+        return Written::Short;
     }
     write_fields(set, total, out);
-    Written {
-        number: 0,
-        count: total,
-    }
+    Written::Done(total)
 }

@@ -1,5 +1,5 @@
--- The format of a label says exactly the well-formed labels of its domain, that of a port exactly the sound ports.
-use mathlib.Core.Bool.{Bool, true, false, cond, not, _&&_}
+-- The format of a label says exactly the well-formed labels of its domain, that of a port exactly the sound ports that are as document 01 has them.
+use mathlib.Core.Bool.{Bool, true, false, cond, not, _&&_, and-true}
 use mathlib.Core.List.{List, [], _∷_, _++_}
 use mathlib.Core.Path.{_≡_, refl, sym, ap, subst, _∙_}
 use Prim.Native.Nat.{ℕ, zero, suc, _+_, _-_, _≤_, _<_}
@@ -15,12 +15,14 @@ use Rattle.label.proofs.Bools.{and-left, and-right, and-both}
 use Rattle.label.proofs.Runs.{first}
 use Rattle.label.proofs.Labels.{Formed, formed, well-formed, formed-of, used-length, of-used, leq-says}
 use Rattle.port.specs.declared.Port.{Port}
-use Rattle.port.specs.Port.{portSound, rangeSound, assignedSound}
+use Rattle.port.specs.Port.{plainPort, isPlain, portSound, rangeSound, assignedSound}
+use Rattle.basic.specs.declared.Basic.{Basic}
+use Rattle.basic.specs.Settings.{basicOff, isOff, basicSound, wayZero}
 use Rattle.port.proofs.Laws as port
 use Rattle.format.specs.Format.{Sound, Each}
 use Rattle.fileport.specs.LabelFormat.{runFormat, nextFloor, unless0, labelFormat}
 use Rattle.fileport.specs.PortFormat.{portFormat}
-use Rattle.fileport.specs.Theorems.{LabelsSaid, PortsSaid}
+use Rattle.fileport.specs.Theorems.{LabelsSaid, typedPort, PortsSaid}
 
 -- Runs.
 
@@ -152,13 +154,40 @@ assigned-says p false e n s =
     let k : p .assigned .domain ≡ p .domain = sym d ∙ s .range .low-domain in
     (says-in (p .domain) (p .assigned) k (s .assigned-formed e), i)
 
-port-says : (p : Port) → length (p .assigned .runs) ≡ 120 → portSound p ≡ true → Sound portFormat p
+-- the places of a port, part by part
+pub record Places (p : Port) : Type 0 where
+  pub lowest : length (p .lowest .runs) ≡ 120
+  pub highest : length (p .highest .runs) ≡ 120
+  pub assigned : length (p .assigned .runs) ≡ 120
+  pub receiving : length (p .basic .receiving .flags) ≡ 256
+  pub sending : length (p .basic .sending .flags) ≡ 256
+
+pub places : (p : Port) → typedPort p ≡ true → Places p
+unfolding typedPort
+places p e =
+    let e1 = and-right (eqb (length (p .lowest .runs)) 120) _ e in
+    let e2 = and-right (eqb (length (p .highest .runs)) 120) _ e1 in
+    let e3 = and-right (eqb (length (p .assigned .runs)) 120) _ e2 in
+    record {
+      lowest = eqb-true _ _ (and-left (eqb (length (p .lowest .runs)) 120) _ e);
+      highest = eqb-true _ _ (and-left (eqb (length (p .highest .runs)) 120) _ e1);
+      assigned = eqb-true _ _ (and-left (eqb (length (p .assigned .runs)) 120) _ e2);
+      receiving = eqb-true _ _ (and-left (eqb (length (p .basic .receiving .flags)) 256) _ e3);
+      sending = eqb-true _ _ (and-right (eqb (length (p .basic .receiving .flags)) 256) _ e3);
+    }
+
+pub typed-port : (p : Port) → Places p → typedPort p ≡ true
+unfolding typedPort
+typed-port p n = rw (eq-eqb _ _ (n .lowest), eq-eqb _ _ (n .highest), eq-eqb _ _ (n .assigned), eq-eqb _ _ (n .receiving), eq-eqb _ _ (n .sending))
+
+port-says : (p : Port) → typedPort p ≡ true → portSound p ≡ true → isPlain p ≡ true → Sound portFormat p
 unfolding Sound portFormat
-port-says p n e =
+port-says p t e plain =
+    let n = places p t in
     let s = port.sound p e in
     let r = s .range in
     let f = formed (p .lowest) (r .low-formed) in
-    let a = assigned-says p (p .required) refl n s in (
+    let a = assigned-says p (p .required) refl (n .assigned) s in (
       (
         (omega (arith, s .owned), omega (arith, f .domain, r .low-domain), omega (arith, f .domain, r .low-domain)),
         (
@@ -169,7 +198,7 @@ port-says p n e =
           ),
         ),
       ),
-      refl,
+      sym (port.plain-is p (n .receiving) (n .sending) plain),
     )
 
 assigned-said : (p : Port) (q : Bool) → Sound (labelFormat (cond q 0 (p .domain))) (p .assigned) → cond q true (inRange (p .lowest) (p .highest) (p .assigned)) ≡ true
@@ -177,19 +206,49 @@ assigned-said : (p : Port) (q : Bool) → Sound (labelFormat (cond q 0 (p .domai
 assigned-said p true h e = zero-said (p .assigned) h
 assigned-said p false h e = e
 
-port-said : (p : Port) → Sound portFormat p → portSound p ≡ true
+-- a port that the format says is made of document 01's fields
+off-off : isOff basicOff ≡ true
+unfolding isOff basicSound wayZero
+off-off = refl
+
+plain-basic : (p : Port) → Sound portFormat p → p .basic ≡ basicOff
+unfolding Sound portFormat
+plain-basic p h = sym (ap (λ (q : Port). q .basic) (h .1))
+
+plain-said : (p : Port) → p .basic ≡ basicOff → isPlain p ≡ true
+unfolding isPlain
+plain-said p e = ap isOff e ∙ off-off
+
+sound-off : basicSound basicOff ≡ true
+unfolding basicSound wayZero
+sound-off = refl
+
+sound-said : (p : Port) → Sound portFormat p → portSound p ≡ true
 unfolding Sound portFormat portSound rangeSound assignedSound
-port-said p h =
+sound-said p h =
     let d : 0 < p .domain = omega (arith, h .0 .0 .0) in
     let lo = label-said (p .domain) (p .lowest) d (h .0 .1 .0) in
     let hi = label-said (p .domain) (p .highest) d (h .0 .1 .1 .0 .0) in
-    rw (ne-eqb (p .domain) 0 (λ z. omega arith), eq-eqb _ _ (lo .1), eq-eqb _ _ (hi .1), h .0 .1 .1 .0 .1)
+    let b : basicSound (p .basic) ≡ true = ap basicSound (plain-basic p h) ∙ sound-off in
+    rw (ne-eqb (p .domain) 0 (λ z. omega arith), eq-eqb _ _ (lo .1), eq-eqb _ _ (hi .1), h .0 .1 .1 .0 .1, b, and-true)
     (assigned-said p (p .required) (h .0 .1 .1 .1 .1 .0) (h .0 .1 .1 .1 .1 .1))
+
+port-said : (p : Port) → Sound portFormat p → (portSound p ≡ true) × (isPlain p ≡ true)
+port-said p h = (sound-said p h, plain-said p (plain-basic p h))
 
 pub ports-said : PortsSaid
 ports-said = record { says = port-says; said = port-said }
 
-pub port-places : (p : Port) → Sound portFormat p → (length (p .lowest .runs) ≡ 120) × (length (p .highest .runs) ≡ 120) × (length (p .assigned .runs) ≡ 120)
+pub port-typed : (p : Port) → Sound portFormat p → typedPort p ≡ true
 unfolding Sound portFormat
-port-places p h =
-    (label-places (p .domain) (p .lowest) (h .0 .1 .0), label-places (p .domain) (p .highest) (h .0 .1 .1 .0 .0), label-places (cond (p .required) 0 (p .domain)) (p .assigned) (h .0 .1 .1 .1 .1 .0))
+port-typed p h =
+    let b : basicOff ≡ p .basic = sym (plain-basic p h) in
+    typed-port
+    p
+    (record {
+      lowest = label-places (p .domain) (p .lowest) (h .0 .1 .0);
+      highest = label-places (p .domain) (p .highest) (h .0 .1 .1 .0 .0);
+      assigned = label-places (cond (p .required) 0 (p .domain)) (p .assigned) (h .0 .1 .1 .1 .1 .0);
+      receiving = sym (ap (λ (x : Basic). length (x .receiving .flags)) b);
+      sending = sym (ap (λ (x : Basic). length (x .sending .flags)) b);
+    })

@@ -11,30 +11,28 @@ use lib.Seq.{take-suc}
 use borrow.Author.Tests.{eq-eqb}
 use Rattle.label.proofs.Bools.{and-left, and-right}
 use Rattle.label.specs.declared.Label.{Label}
+use Rattle.basic.specs.declared.Way.{Way}
 use Rattle.port.specs.declared.Port.{Port}
 use Rattle.port.specs.Port.{portSound}
 use Rattle.table.specs.declared.Row.{Row}
 use Rattle.table.specs.declared.Table.{Table}
 use Rattle.table.specs.Table.{tableSound, typed, levelsSound, rowsSound, unusedRows, unusedPairs}
 use Rattle.format.proofs.Places.{Held, padded-length}
+use Rattle.fileport.proofs.Soundness.{Places, typed-port}
 use Rattle.filetable.specs.declared.LevelPair.{LevelPair}
 use Rattle.filetable.specs.declared.Renumbering.{Renumbering}
 use Rattle.filetable.specs.TableFormat.{levelsOf}
 use Rattle.filetable.specs.Theorems.{twoEach, typedPairs, renumberingSound}
-use Rattle.fileset.specs.Set.{typedPort, zeroPort, zeroTable, usedPort, unusedPort, usedTable, unusedTable}
+use Rattle.fileset.specs.Set.{zeroPort, zeroTable, usedPort, unusedPort, usedTable, unusedTable}
 
-typed-port : (p : Port) → length (p .lowest .runs) ≡ 120 → length (p .highest .runs) ≡ 120 → length (p .assigned .runs) ≡ 120 → typedPort p ≡ true
-unfolding typedPort
-typed-port p a b c = rw (eq-eqb _ _ a, eq-eqb _ _ b, eq-eqb _ _ c)
-
-module _ (p : Port) (a : length (p .lowest .runs) ≡ 120) (b : length (p .highest .runs) ≡ 120) (c : length (p .assigned .runs) ≡ 120) where
+module _ (p : Port) (n : Places p) where
   pub used-port : portSound p ≡ usedPort p
   unfolding usedPort
-  used-port = rw (typed-port p a b c) (sym (and-true (portSound p)))
+  used-port = rw (typed-port p n) (sym (and-true (portSound p)))
 
   pub unused-port : zeroPort p ≡ unusedPort p
   unfolding unusedPort
-  unused-port = rw (typed-port p a b c) (sym (and-true (zeroPort p)))
+  unused-port = rw (typed-port p n) (sym (and-true (zeroPort p)))
 
 module _ (r : Renumbering) (a : length (r .table .rows) ≡ 64) (b : typedPairs r ≡ true) where
   pub used-table : tableSound (r .table) (levelsOf r) ≡ usedTable r
@@ -71,8 +69,19 @@ typed-pairs r e t = rw (eq-eqb _ _ e) t
 abbrev pub outLabel : Label
 outLabel = record { domain = 0; level = 0; count = 0; runs = [] }
 
+abbrev outWay : Way
+outWay = record { lowest = 0; highest = 0; count = 0; flags = [] }
+
 abbrev pub outPort : Port
-outPort = record { domain = 0; lowest = outLabel; highest = outLabel; required = false; assigned = outLabel }
+outPort =
+    record {
+      domain = 0;
+      lowest = outLabel;
+      highest = outLabel;
+      required = false;
+      assigned = outLabel;
+      basic = record { on = false; receiving = outWay; sending = outWay };
+    }
 
 abbrev pub outPair : LevelPair
 outPair = record { levels = [] }

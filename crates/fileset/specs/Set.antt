@@ -6,11 +6,13 @@ use Prim.Native.Nat.{ℕ}
 use lib.Dec.{leb, eqb}
 use lib.ListN.{length, replicate}
 use Rattle.label.specs.Label.{zeroLabel, isZero}
+use Rattle.basic.specs.Settings.{basicOff, isOff}
 use Rattle.port.specs.declared.Port.{Port}
 use Rattle.port.specs.Port.{portSound}
 use Rattle.table.specs.declared.Table.{Table}
 use Rattle.table.specs.Table.{unusedRows, unusedPairs}
 use Rattle.format.specs.Places.{placesFit}
+use Rattle.fileport.specs.Theorems.{typedPort}
 use Rattle.filetable.specs.declared.Renumbering.{Renumbering}
 use Rattle.filetable.specs.TableFormat.{noTable, levelsOf}
 use Rattle.filetable.specs.Theorems.{typedPairs, renumberingSound}
@@ -18,18 +20,14 @@ use Rattle.fileset.specs.declared.Set.{Set}
 
 -- the records whose every number is 0, and the set of none
 abbrev pub noPort : Port
-noPort = record { domain = 0; lowest = zeroLabel; highest = zeroLabel; required = false; assigned = zeroLabel }
+noPort = record { domain = 0; lowest = zeroLabel; highest = zeroLabel; required = false; assigned = zeroLabel; basic = basicOff }
 
 abbrev pub emptySet : Set
 emptySet = record { portcount = 0; ports = replicate 16 noPort; tablecount = 0; tables = replicate 8 noTable }
 
--- what the types say of every port: 120 places in each label
-unfoldable pub typedPort : Port → Bool
-typedPort p = eqb (length (p .lowest .runs)) 120 && (eqb (length (p .highest .runs)) 120 && eqb (length (p .assigned .runs)) 120)
-
 -- every number of the port is 0
 unfoldable pub zeroPort : Port → Bool
-zeroPort p = (((eqb (p .domain) 0 && isZero (p .lowest)) && isZero (p .highest)) && not (p .required)) && isZero (p .assigned)
+zeroPort p = ((((eqb (p .domain) 0 && isZero (p .lowest)) && isZero (p .highest)) && not (p .required)) && isZero (p .assigned)) && isOff (p .basic)
 
 -- every number of the table and of its level pairs is 0
 unfoldable pub zeroTable : Table → List (List ℕ) → Bool

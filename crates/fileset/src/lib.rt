@@ -8,6 +8,7 @@ ghost use Rattle.format.specs.Places.{placesFit};
 ghost use Rattle.filetable.specs.TableFormat.{noTable, levelsOf};
 ghost use Rattle.filetable.specs.Theorems.{typedPairs};
 ghost use Rattle.fileset.specs.Set.{noPort, emptySet, zeroPort, zeroTable, usedPort, unusedPort, usedTable, unusedTable, setSound};
+use basic::Basic;
 use filetable::LevelPair;
 use filetable::Renumbering;
 use label::Label;
@@ -36,6 +37,7 @@ pub fn empty_port() -> Port
         highest: none,
         required: false,
         assigned: none,
+        basic: Basic::off(),
     }
 }
 
@@ -104,7 +106,9 @@ fn port_zero(port: Port) -> bool
     let low = lowest.is_zero();
     let high = highest.is_zero();
     let given = assigned.is_zero();
-    (port.domain == 0) & low & high & !port.required & given
+    let basic = port.basic;
+    let off = basic.is_off();
+    (port.domain == 0) & low & high & !port.required & given & off
 }
 
 // Whether a port suits its place: sound in one that is used, all zero in another.

@@ -11,7 +11,7 @@ use lib.Seq.{take-append-seam, drop-append-seam, drop-drop, drop-at}
 use borrow.Author.Tests.{le-leb, leb-true, leb-false, lt-ltb, le-ltb, ltb-false, ne-eqb}
 use Rattle.label.specs.declared.Run.{Run}
 use Rattle.label.specs.declared.Label.{Label}
-use Rattle.label.specs.Label.{used, wellFormed}
+use Rattle.label.specs.Label.{used, wellFormed, inRange}
 use Rattle.label.specs.Range.{setInRange}
 use Rattle.label.proofs.Bools.{and-left, and-right, or-none}
 use Rattle.label.proofs.Labels.{used-of}
@@ -26,11 +26,11 @@ use Rattle.port.specs.Port.{portSound}
 use Rattle.table.specs.declared.Table.{Table}
 use Rattle.table.specs.Table.{tableSound}
 use Rattle.arrival.specs.declared.Decision.{Decision}
-use Rattle.arrival.specs.Checks.{Refusal, silent, barred, when, firstOf, badArea, arrivingLabel}
+use Rattle.arrival.specs.Checks.{Refusal, silent, barred, when, firstOf, badArea, arrivingBasic, basicPasses, arrivingLabel, rangeCheck}
 use Rattle.arrival.specs.Decision.{silenced, refused, done, decided, arrivalChecks}
-use Rattle.arrival.proofs.First.{orElse, first-append, first-none, none-first, when-none, Real, real-first, real-when, not-false-yes, real-else}
-use Rattle.arrival.proofs.Arrival.{arrival-held, arrival-real}
-use Rattle.gateway.specs.Crossing.{Forwarding, sameDomain, sizes, records, Crossing, crossing, stays, hasNumbers, numberCheck, leavingLevel, leavingRuns, leavingCheck, leavingLabel, leavingOption, noRoom, spellingCheck}
+use Rattle.arrival.proofs.First.{orElse, first-append, first-none, none-first, when-none, Real, real-first, real-when, not-false-yes, real-else, Late, late-first, late-when, late-real, late-else}
+use Rattle.arrival.proofs.Arrival.{beforeChecks, before-late, arrival-held}
+use Rattle.gateway.specs.Crossing.{Forwarding, sameDomain, sizes, records, leavingBasicCheck, Crossing, crossing, stays, hasNumbers, numberCheck, leavingLevel, leavingRuns, leavingCheck, leavingLabel, leavingOption, noRoom, spellingCheck}
 use Rattle.gateway.specs.Forward.{forwardChecks, leavingCount, forwardOf, optionOctets, outputOf}
 use Rattle.gateway.specs.Stages.{crossingChecks, hasRoomFor}
 use Rattle.gateway.proofs.Crossings.{crossing-real, crossing-formed}
@@ -47,6 +47,34 @@ pub crossing-last : (x : Crossing) (kept : List ℕ)
     → firstOf (numberCheck x ∷ leavingCheck x ∷ spellingCheck x kept ∷ []) ≡ orElse (firstOf (crossingChecks x)) (when (noRoom (leavingOption x) kept) (barred 18 9))
 unfolding spellingCheck
 crossing-last x kept = split18 (numberCheck x) (leavingCheck x) (ltb 120 (length (leavingRuns x))) (noRoom (leavingOption x) kept) (barred 18 9)
+
+-- the checks from the walk to the arriving port's range, with 21 of the leaving port among them
+abbrev pub reachChecks : Forwarding → List (Option Refusal)
+reachChecks f = beforeChecks (f .arriving) (f .area) 9 ++ (leavingBasicCheck f ∷ rangeCheck (f .arriving) (f .area) 9 ∷ [])
+
+-- where none of them applies, none of the arriving port's does
+pub reach-arrival : (f : Forwarding) → firstOf (reachChecks f) ≡ none → firstOf (arrivalChecks (f .arriving) (f .area) 9) ≡ none
+reach-arrival f e =
+    let n = first-none (reachChecks f) e in
+    none-first (arrivalChecks (f .arriving) (f .area) 9)
+    (n .0, (n .1 .0, (n .1 .1 .0, (n .1 .1 .1 .0, (n .1 .1 .1 .1 .0, (n .1 .1 .1 .1 .1 .0, (n .1 .1 .1 .1 .1 .1 .1 .0, tt)))))))
+
+fourteen : _≤_ 3 14
+fourteen = omega arith
+
+twenty-one : _≤_ 3 21
+twenty-one = omega arith
+
+pub reach-late : (f : Forwarding) → Late (firstOf (reachChecks f))
+unfolding leavingBasicCheck rangeCheck
+reach-late f =
+    let o = leavingBasicCheck f ∷ rangeCheck (f .arriving) (f .area) 9 ∷ [] in
+    subst Late (sym (first-append (beforeChecks (f .arriving) (f .area) 9) o))
+    (late-else (firstOf (beforeChecks (f .arriving) (f .area) 9)) (firstOf o) (before-late (f .arriving) (f .area) 9)
+    (late-first o (
+      late-when (not (basicPasses (f .leaving .basic .on) (f .leaving .basic .sending) (arrivingBasic (f .arriving) (f .area)))) (barred 21 9) twenty-one,
+      (late-when (not (inRange (f .arriving .lowest) (f .arriving .highest) (arrivingLabel (f .arriving) (f .area)))) (barred 14 9) fourteen, tt),
+    )))
 
 -- the test of 16
 abbrev pub numberless : Crossing → Bool
@@ -72,17 +100,17 @@ module _ (f : Forwarding) where
 
     module _ (sound : recordsTest f ≡ true) where
       past : firstOf (forwardChecks f)
-          ≡ orElse (firstOf (arrivalChecks (f .arriving) (f .area) 9))
+          ≡ orElse (firstOf (reachChecks f))
           (firstOf (numberCheck (crossing f) ∷ leavingCheck (crossing f) ∷ spellingCheck (crossing f) (keptOf (f .area)) ∷ []))
       unfolding sizes records
       past =
           rw (sized, le-ltb (f .room) 40 room, sound)
-          (first-append (arrivalChecks (f .arriving) (f .area) 9) (numberCheck (crossing f) ∷ leavingCheck (crossing f) ∷ spellingCheck (crossing f) (keptOf (f .area)) ∷ []))
+          (first-append (reachChecks f) (numberCheck (crossing f) ∷ leavingCheck (crossing f) ∷ spellingCheck (crossing f) (keptOf (f .area)) ∷ []))
 
-      pub forward-arrival : (x : Refusal) → firstOf (arrivalChecks (f .arriving) (f .area) 9) ≡ some x → firstOf (forwardChecks f) ≡ some x
+      pub forward-arrival : (x : Refusal) → firstOf (reachChecks f) ≡ some x → firstOf (forwardChecks f) ≡ some x
       forward-arrival x e = past ∙ rw e
 
-      module _ (arrived : firstOf (arrivalChecks (f .arriving) (f .area) 9) ≡ none) where
+      module _ (arrived : firstOf (reachChecks f) ≡ none) where
         then : firstOf (forwardChecks f) ≡ orElse (firstOf (crossingChecks (crossing f))) (when (noRoom (leavingOption (crossing f)) (keptOf (f .area))) (barred 18 9))
         then = past ∙ rw arrived (crossing-last (crossing f) (keptOf (f .area)))
 
@@ -183,7 +211,9 @@ pub record Passed (f : Forwarding) : Type 0 where
   pub area : badArea (f .area) ≡ false
   pub room : 40 ≤ f .room
   pub sound : recordsTest f ≡ true
+  pub reached : firstOf (reachChecks f) ≡ none
   pub arrived : firstOf (arrivalChecks (f .arriving) (f .area) 9) ≡ none
+  pub sent : leavingBasicCheck f ≡ none
   pub crossed : firstOf (crossingChecks (crossing f)) ≡ none
   pub fits : Fits (leavingOption (crossing f)) (keptOf (f .area))
 
@@ -192,13 +222,20 @@ unfolding sizes records spellingCheck
 forward-passed f e =
     let n = first-none (forwardChecks f) e in
     let a = or-none (badArea (f .area)) (ltb (f .room) 40) (when-none _ (silent 1) (n .0)) in
-    let z = or-none (ltb 120 (length (leavingRuns (crossing f)))) (noRoom (leavingOption (crossing f)) (keptOf (f .area))) (when-none _ (barred 18 9) (n .1 .1 .1 .1 .1 .1 .1 .1 .0)) in
+    -- past 3 to 21 and 14
+    let m = n .1 .1 .1 .1 .1 .1 .1 .1 .1 .1 in
+    let z = or-none (ltb 120 (length (leavingRuns (crossing f)))) (noRoom (leavingOption (crossing f)) (keptOf (f .area))) (when-none _ (barred 18 9) (m .1 .1 .0)) in
+    let r : firstOf (reachChecks f) ≡ none =
+    none-first (reachChecks f)
+    (n .1 .1 .0, (n .1 .1 .1 .0, (n .1 .1 .1 .1 .0, (n .1 .1 .1 .1 .1 .0, (n .1 .1 .1 .1 .1 .1 .0, (n .1 .1 .1 .1 .1 .1 .1 .0, (n .1 .1 .1 .1 .1 .1 .1 .1 .0, (n .1 .1 .1 .1 .1 .1 .1 .1 .1 .0, tt)))))))) in
     record {
       area = a .0;
       room = ltb-false _ _ (a .1);
       sound = not-false-yes (recordsTest f) (when-none _ (silent 2) (n .1 .0));
-      arrived = none-first (arrivalChecks (f .arriving) (f .area) 9) (n .1 .1 .0, (n .1 .1 .1 .0, (n .1 .1 .1 .1 .0, (n .1 .1 .1 .1 .1 .0, tt))));
-      crossed = none-first (crossingChecks (crossing f)) (n .1 .1 .1 .1 .1 .1 .0, (n .1 .1 .1 .1 .1 .1 .1 .0, (rw (z .0), tt)));
+      reached = r;
+      arrived = reach-arrival f r;
+      sent = n .1 .1 .1 .1 .1 .1 .1 .1 .0;
+      crossed = none-first (crossingChecks (crossing f)) (m .0, (m .1 .0, (rw (z .0), tt)));
       fits = room-fits (leavingOption (crossing f)) (keptOf (f .area)) (z .1);
     }
 
@@ -222,11 +259,11 @@ eighteen z = omega arith
 pub forward-real : (f : Forwarding) → Real (firstOf (forwardChecks f))
 unfolding sizes records
 forward-real f =
-    subst Real (sym (first-append (sizes f ∷ records f ∷ []) (arrivalChecks (f .arriving) (f .area) 9 ++ (numberCheck (crossing f) ∷ leavingCheck (crossing f) ∷ spellingCheck (crossing f) (keptOf (f .area)) ∷ []))))
+    subst Real (sym (first-append (sizes f ∷ records f ∷ []) (reachChecks f ++ (numberCheck (crossing f) ∷ leavingCheck (crossing f) ∷ spellingCheck (crossing f) (keptOf (f .area)) ∷ []))))
     (real-else (firstOf (sizes f ∷ records f ∷ [])) _
     (real-first (sizes f ∷ records f ∷ []) (real-when (badArea (f .area) || ltb (f .room) 40) (silent 1) one, (real-when (not (recordsTest f)) (silent 2) two, tt)))
-    (subst Real (sym (first-append (arrivalChecks (f .arriving) (f .area) 9) (numberCheck (crossing f) ∷ leavingCheck (crossing f) ∷ spellingCheck (crossing f) (keptOf (f .area)) ∷ [])))
-    (real-else (firstOf (arrivalChecks (f .arriving) (f .area) 9)) _ (arrival-real (f .arriving) (f .area) 9)
+    (subst Real (sym (first-append (reachChecks f) (numberCheck (crossing f) ∷ leavingCheck (crossing f) ∷ spellingCheck (crossing f) (keptOf (f .area)) ∷ [])))
+    (real-else (firstOf (reachChecks f)) _ (late-real (firstOf (reachChecks f)) (reach-late f))
     (subst Real (sym (crossing-last (crossing f) (keptOf (f .area))))
     (real-else (firstOf (crossingChecks (crossing f))) _ (crossing-real (crossing f)) (real-when (noRoom (leavingOption (crossing f)) (keptOf (f .area))) (barred 18 9) eighteen))))))
 

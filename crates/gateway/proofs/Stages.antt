@@ -1,7 +1,7 @@
 -- The stages of a forwarding decide as its checks do.
 use mathlib.Core.Path.{_≡_, refl, sym, _∙_, ap}
 use mathlib.Core.Bool.{Bool, true, false, cond, not, _&&_, _||_}
-use mathlib.Core.List.{List, [], _∷_}
+use mathlib.Core.List.{List, [], _∷_, _++_}
 use mathlib.Core.Option.{Option, none, some}
 use Prim.Native.Nat.{ℕ, _≤_, _<_}
 use native.Mathlib.Omega.{arith}
@@ -10,7 +10,7 @@ use lib.ListN.{length, take}
 use borrow.Author.Tests.{eq-eqb, ne-eqb, eqb-true, eqb-false, le-leb, lt-leb, leb-true, leb-false, le-ltb, lt-ltb, ltb-true, ltb-false}
 use Rattle.label.specs.declared.Run.{Run}
 use Rattle.label.specs.declared.Label.{Label}
-use Rattle.label.specs.Label.{used, labelOf, wellFormed}
+use Rattle.label.specs.Label.{used, labelOf, wellFormed, inRange}
 use Rattle.label.specs.Keys.{keyRuns, labelFrom}
 use Rattle.label.specs.Range.{setInRange}
 use Rattle.option.specs.Spelling.{spellingOf}
@@ -25,34 +25,52 @@ use Rattle.renumber.specs.declared.Carried.{Carried}
 use Rattle.renumber.specs.Renumber.{imageOf}
 use Rattle.renumber.specs.Carry.{carriedKeys, carryOf}
 use Rattle.arrival.specs.declared.Verdict.{Verdict}
-use Rattle.arrival.specs.Checks.{Refusal, silent, barred, when, firstOf, badArea, arrivingLabel}
+use Rattle.arrival.specs.Checks.{Refusal, silent, barred, when, firstOf, badArea, basicIn, arrivingBasic, missingBasicCheck, basicPasses, arrivingLabel, rangeCheck}
 use Rattle.arrival.specs.Decision.{silenced, done, arrivalChecks}
 use Rattle.arrival.specs.Verdict.{verdictOf, stopped, going, arrivalOf, Arrives, concluded}
-use Rattle.arrival.specs.Stages.{heldBetween}
-use Rattle.arrival.proofs.First.{Late}
-use Rattle.arrival.proofs.Arrival.{Held, arrival-held, arrival-late}
+use Rattle.area.specs.Area.{walkOf, octetsAt}
+use Rattle.basic.specs.declared.BasicReading.{BasicReading}
+use Rattle.basic.specs.declared.Way.{Way}
+use Rattle.basic.specs.Settings.{passesWay}
+use Rattle.arrival.specs.Stages.{heldBetween, beforeRange, basicRead}
+use Rattle.arrival.proofs.First.{first-append, first-one, first-none, Late, Early, early-first, between}
+use Rattle.arrival.proofs.Arrival.{Held, beforeChecks, arrival-early, arrival-held, arrival-late, off-none, on-some}
 use Rattle.arrival.proofs.Verdicts.{held-in-set, concluded-refused, concluded-done}
-use Rattle.gateway.specs.Crossing.{Forwarding, sameDomain, Crossing, crossing, stays, hasNumbers, numberCheck, leavingLevel, leavingRuns, leavingCheck, leavingLabel, leavingOption, noRoom, spellingCheck}
+use Rattle.gateway.specs.Crossing.{Forwarding, sameDomain, leavingBasicCheck, Crossing, crossing, stays, hasNumbers, numberCheck, leavingLevel, leavingRuns, leavingCheck, leavingLabel, leavingOption, noRoom, spellingCheck}
 use Rattle.gateway.specs.Forward.{forwardChecks, forwardOf, outputOf}
-use Rattle.gateway.specs.Stages.{recordedBy, tabledBy, numberedBy, Crosses, heldBy, hasRoomFor, fittedBy, Writes}
+use Rattle.gateway.specs.Stages.{recordedBy, sentBy, tabledBy, numberedBy, Crosses, heldBy, hasRoomFor, fittedBy, Writes}
 use Rattle.gateway.proofs.Crossings.{Over, leavingVerdict, stays-verdict, stays-over, unsound-verdict, numberless-verdict, carried-verdict, carried-over}
-use Rattle.gateway.proofs.Forwards.{recordsTest, forward-area, forward-room, forward-record, forward-arrival, forward-number, forward-range, forward-spelling, forward-none, forward-refused, forward-written, room-is}
+use Rattle.gateway.proofs.Forwards.{reachChecks, reach-arrival, reach-late, recordsTest, forward-area, forward-room, forward-record, forward-arrival, forward-number, forward-range, forward-spelling, forward-none, forward-refused, forward-written, room-is}
+
+-- 21 of the leaving port, by what a second walk found
+abbrev sending : Bool → Bool → Way → BasicReading → Option Refusal
+sending from on way x = when (not (cond from (on && passesWay way (x .level) (x .flags)) (not on))) (barred 21 9)
+
+abbrev barredBy : Bool → Way → Option (List ℕ) → Option Refusal
+barredBy on way o = when (not (basicPasses on way o)) (barred 21 9)
+
+sending-off : (from on : Bool) (way : Way) (x : BasicReading) (o : Option (List ℕ)) → from ≡ false → o ≡ none → sending from on way x ≡ barredBy on way o
+sending-off from on way x o e g = ap (λ (t : Bool). sending t on way x) e ∙ sym (ap (barredBy on way) g)
+
+sending-on : (from on : Bool) (way : Way) (b o : Option (List ℕ)) (x : List ℕ) → from ≡ true → b ≡ some x → o ≡ some x → sending from on way (basicRead b) ≡ barredBy on way o
+sending-on from on way b o x e h g = (λ i. sending (e i) on way (basicRead (h i))) ∙ sym (ap (barredBy on way) g)
 
 -- what each stage answered, of a forwarding
-pub record Ran (f : Forwarding) (own own′ far far′ out out′ : List ℕ) (a r c h v : Verdict) (kept count : ℕ) : Type 0 where
+pub record Ran (f : Forwarding) (own own′ far far′ out out′ : List ℕ) (a r u c h v : Verdict) (kept count : ℕ) : Type 0 where
   pub room : f .room ≡ length out
   pub own-room : 120 ≤ length own
   pub own-kept : 120 ≤ length own′
   pub far-room : 184 ≤ length far
   pub arrives : Arrives (f .arriving) (f .area) 9 own own′ a
   pub ready : r ≡ recordedBy a (f .room) (portSound (f .leaving))
-  pub crosses : Crosses r (f .arriving .domain) (f .leaving .domain) (f .table) (f .levels) own′ far far′ c
+  pub sent : u ≡ sentBy r (f .arriving .basic .on) (f .leaving .basic .on) (f .leaving .basic .sending) (basicRead (octetsAt (basicIn (walkOf true (f .area))) (f .area)))
+  pub crosses : Crosses u (f .arriving .domain) (f .leaving .domain) (f .table) (f .levels) own′ far far′ c
   pub held : h ≡ heldBy c (f .leaving .lowest) (f .leaving .highest) far′
   pub counted : kept ≡ cond (eqb (h .number) 0) (length (keptOf (f .area))) 0
   pub fits : (d : ℕ) → v ≡ fittedBy d h kept far′
   pub writes : Writes v (f .leaving .domain) kept (f .area) far′ out out′ count
 
-module _ (f : Forwarding) (own own′ far far′ out out′ : List ℕ) (a r c h v : Verdict) (kept count : ℕ) (s : Ran f own own′ far far′ out out′ a r c h v kept count) where
+module _ (f : Forwarding) (own own′ far far′ out out′ : List ℕ) (a r u c h v : Verdict) (kept count : ℕ) (s : Ran f own own′ far far′ out out′ a r u c h v kept count) where
   abbrev Answers : Type 0
   Answers = (concluded v (f .leaving .domain) (silenced (f .facts)) count far′ ≡ forwardOf f) × (out′ ≡ outputOf f out)
 
@@ -93,12 +111,33 @@ module _ (f : Forwarding) (own own′ far far′ out out′ : List ℕ) (a r c h
   crossed-refused : (y : Refusal) → c ≡ answer (some y) → (y .number ≡ 0 → ⊥) → firstOf (forwardChecks f) ≡ some y → Answers
   crossed-refused y e z g = last y (fit-refused y (hold-refused y e z) z) z g
 
+  -- 21 of the leaving port, by what the option means
+  abbrev walked : Option (List ℕ)
+  walked = octetsAt (basicIn (walkOf true (f .area))) (f .area)
+
+  abbrev sentCheck : Option Refusal
+  sentCheck = sending (f .arriving .basic .on) (f .leaving .basic .on) (f .leaving .basic .sending) (basicRead walked)
+
+  sent-is : u ≡ beforeRange r sentCheck
+  unfolding sentBy
+  sent-is = s .sent
+
+  -- a refusal before 14 goes on as it is
+  closed : (y : Refusal) → (y .number ≡ 0 → ⊥) → (y .number ≡ 14 → ⊥) → (o : Option Refusal) → beforeRange (answer (some y)) o ≡ answer (some y)
+  closed y z k o = rw (ne-eqb (y .number) 0 z, ne-eqb (y .number) 14 k)
+
+  sent-closed : (y : Refusal) → r ≡ answer (some y) → (y .number ≡ 0 → ⊥) → (y .number ≡ 14 → ⊥) → u ≡ answer (some y)
+  sent-closed y e z k = sent-is ∙ ap (λ (w : Verdict). beforeRange w sentCheck) e ∙ closed y z k sentCheck
+
   -- 1 and 2 before the table
   early : (y : Refusal) → r ≡ answer (some y) → (y .number ≡ 0 → ⊥) → y .number ≤ 2 → c ≡ answer (some y)
   unfolding tabledBy
-  early y e z t = go (eqb (f .arriving .domain) (f .leaving .domain)) refl
+  early y x z t = go (eqb (f .arriving .domain) (f .leaving .domain)) refl
     where
-      n : r .number ≡ 0 → ⊥
+      e : u ≡ answer (some y)
+      e = sent-closed y x z (λ k. omega arith)
+
+      n : u .number ≡ 0 → ⊥
       n q = z (ap (λ (w : Verdict). w .number) (sym e) ∙ q)
 
       go : (b : Bool) → eqb (f .arriving .domain) (f .leaving .domain) ≡ b → c ≡ answer (some y)
@@ -169,21 +208,60 @@ module _ (f : Forwarding) (own own′ far far′ out out′ : List ℕ) (a r c h
         ready-past : r ≡ answer (firstOf (arrivalChecks (f .arriving) (f .area) 9))
         ready-past = ready-is true q ∙ past-is p
 
-        -- 3 to 14, where the records are sound
-        by-arrival : (y : Refusal) → recordsTest f ≡ true → firstOf (arrivalChecks (f .arriving) (f .area) 9) ≡ some y → 3 ≤ y .number → c ≡ answer (some y) → Answers
+        -- with 21 of the leaving port among them
+        abbrev before : List (Option Refusal)
+        before = beforeChecks (f .arriving) (f .area) 9
+
+        reached-of : sentCheck ≡ leavingBasicCheck f → u ≡ answer (firstOf (reachChecks f))
+        unfolding rangeCheck
+        reached-of e =
+            sent-is
+            ∙ (λ i. beforeRange (ready-past i) ((e ∙ sym (first-one (leavingBasicCheck f))) i))
+            ∙ between before (leavingBasicCheck f ∷ []) (not (inRange (f .arriving .lowest) (f .arriving .highest) label)) 9 (label .level) (label .count) (early-first before (arrival-early (f .arriving) (f .area) 9))
+
+        -- where an option 130 is missing, a check before 21 applies
+        stopped-before : (y : Refusal) → firstOf before ≡ some y → Early (some y) → u ≡ answer (firstOf (reachChecks f))
+        stopped-before y e g =
+            let range = rangeCheck (f .arriving) (f .area) 9 ∷ [] in
+            let x : firstOf (before ++ range) ≡ some y = first-append before range ∙ rw e in
+            let z : firstOf (before ++ (leavingBasicCheck f ∷ range)) ≡ some y = first-append before (leavingBasicCheck f ∷ range) ∙ rw e in
+            sent-closed y (ready-past ∙ ap answer x) (g .0) (g .1) ∙ sym (ap answer z)
+
+        missed : f .arriving .basic .on ≡ true → arrivingBasic (f .arriving) (f .area) ≡ none → u ≡ answer (firstOf (reachChecks f))
+        unfolding missingBasicCheck
+        missed on e = go (firstOf before) refl (early-first before (arrival-early (f .arriving) (f .area) 9))
+          where
+            applies : missingBasicCheck (f .arriving) (f .area) ≡ none → ⊥
+            applies n = let k : when true _ ≡ none = rw (e, on) at n in let z : _≡_ {A = ℕ} 0 1 = cc in omega arith
+
+            go : (o : Option Refusal) → firstOf before ≡ o → Early o → u ≡ answer (firstOf (reachChecks f))
+            go none g h = absurd (applies (first-none before g .1 .1 .1 .1 .0))
+            go (some y) g h = stopped-before y g h
+
+        by-basic : (on : Bool) (o : Option (List ℕ)) → f .arriving .basic .on ≡ on → arrivingBasic (f .arriving) (f .area) ≡ o → u ≡ answer (firstOf (reachChecks f))
+        unfolding leavingBasicCheck
+        by-basic false o e g = reached-of (sending-off (f .arriving .basic .on) (f .leaving .basic .on) (f .leaving .basic .sending) (basicRead walked) (arrivingBasic (f .arriving) (f .area)) e (off-none (f .arriving) (f .area) e))
+        by-basic true none e g = missed e g
+        by-basic true (some y) e g = reached-of (sending-on (f .arriving .basic .on) (f .leaving .basic .on) (f .leaving .basic .sending) walked (arrivingBasic (f .arriving) (f .area)) y e (on-some (f .arriving) (f .area) y e g) g)
+
+        reached-past : u ≡ answer (firstOf (reachChecks f))
+        reached-past = by-basic (f .arriving .basic .on) (arrivingBasic (f .arriving) (f .area)) refl refl
+
+        -- 3 to 21 and 14, where the records are sound
+        by-arrival : (y : Refusal) → recordsTest f ≡ true → firstOf (reachChecks f) ≡ some y → 3 ≤ y .number → c ≡ answer (some y) → Answers
         by-arrival y t e n g = crossed-refused y g (λ z. omega arith) (forward-arrival f sized long t y e)
 
-        same-refused : (y : Refusal) → sameDomain f ≡ true → firstOf (arrivalChecks (f .arriving) (f .area) 9) ≡ some y → 3 ≤ y .number → Answers
-        same-refused y d e n = by-arrival y (rw (p, q, d)) e n (s .crosses .same (eqb-true _ _ d) .0 ∙ ready-past ∙ ap answer e)
+        same-refused : (y : Refusal) → sameDomain f ≡ true → firstOf (reachChecks f) ≡ some y → 3 ≤ y .number → Answers
+        same-refused y d e n = by-arrival y (rw (p, q, d)) e n (s .crosses .same (eqb-true _ _ d) .0 ∙ reached-past ∙ ap answer e)
 
-        other-refused : (y : Refusal) → sameDomain f ≡ false → firstOf (arrivalChecks (f .arriving) (f .area) 9) ≡ some y → 3 ≤ y .number → Answers
+        other-refused : (y : Refusal) → sameDomain f ≡ false → firstOf (reachChecks f) ≡ some y → 3 ≤ y .number → Answers
         unfolding tabledBy
         other-refused y d e n = go (tableSound (f .table) (f .levels)) refl
           where
-            ready-some : r ≡ answer (some y)
-            ready-some = ready-past ∙ ap answer e
+            ready-some : u ≡ answer (some y)
+            ready-some = reached-past ∙ ap answer e
 
-            number : r .number ≡ 0 → ⊥
+            number : u .number ≡ 0 → ⊥
             number z = absurd (omega (arith, ap (λ (w : Verdict). w .number) ready-some))
 
             tabled : (b : Bool) → tableSound (f .table) (f .levels) ≡ b → c ≡ cond b (answer (some y)) (stopped 2 0 0 0)
@@ -197,7 +275,7 @@ module _ (f : Forwarding) (own own′ far far′ out out′ : List ℕ) (a r c h
             go false t = crossed-refused (silent 2) (tabled false t) (λ z. omega arith) (forward-record f sized long (rw (p, q, d, t)))
 
         -- past 16
-        module _ (t : recordsTest f ≡ true) (e : firstOf (arrivalChecks (f .arriving) (f .area) 9) ≡ none) (over : Over x far′) (crossed : c ≡ leavingVerdict x) where
+        module _ (t : recordsTest f ≡ true) (e : firstOf (reachChecks f) ≡ none) (over : Over x far′) (crossed : c ≡ leavingVerdict x) where
           abbrev runs : List Run
           runs = leavingRuns x
 
@@ -281,16 +359,16 @@ module _ (f : Forwarding) (own own′ far far′ out out′ : List ℕ) (a r c h
           passed-over = by-set (setInRange (f .leaving .lowest) (f .leaving .highest) (leavingLevel x) runs) refl
 
         -- what arrived, past 14
-        module _ (e : firstOf (arrivalChecks (f .arriving) (f .area) 9) ≡ none) where
+        module _ (e : firstOf (reachChecks f) ≡ none) where
           arrived-held : Held (f .arriving) label
-          arrived-held = arrival-held (f .arriving) (f .area) 9 p e
+          arrived-held = arrival-held (f .arriving) (f .area) 9 p (reach-arrival f e)
 
-          ready-none : r ≡ answer none
-          ready-none = ready-past ∙ ap answer e
+          ready-none : u ≡ answer none
+          ready-none = reached-past ∙ ap answer e
 
           own-stands : keyRuns (take (label .count) own′) ≡ used label
           own-stands =
-              let a-is : a ≡ answer none = past-is p ∙ ap answer e in
+              let a-is : a ≡ answer none = past-is p ∙ ap answer (reach-arrival f e) in
               ap (λ (w : Verdict). keyRuns (take (w .count) own′)) (sym a-is) ∙ s .arrives .stands (ap (λ (w : Verdict). w .number) a-is)
 
           same-passed : sameDomain f ≡ true → Answers
@@ -304,8 +382,8 @@ module _ (f : Forwarding) (own own′ far far′ out out′ : List ℕ) (a r c h
             carried : (g : Carried) × (g ≡ carryOf (used label) (label .level) (f .table) (f .levels) (length far)) × (c ≡ numberedBy g (eqb (f .table .from) (f .arriving .domain)) (eqb (f .table .to) (f .leaving .domain))) × (far′ ≡ carriedKeys g (imageOf (f .table) (used label)) far)
             carried =
                 let k = s .crosses .carried (eqb-false _ _ d) (ap (λ (w : Verdict). w .number) ready-none) in
-                let n : keyRuns (take (r .count) own′) ≡ used label = ap (λ (w : Verdict). keyRuns (take (w .count) own′)) ready-none ∙ own-stands in
-                let l : r .level ≡ label .level = ap (λ (w : Verdict). w .level) ready-none in (
+                let n : keyRuns (take (u .count) own′) ≡ used label = ap (λ (w : Verdict). keyRuns (take (w .count) own′)) ready-none ∙ own-stands in
+                let l : u .level ≡ label .level = ap (λ (w : Verdict). w .level) ready-none in (
                   k .0,
                   k .1 ∙ (λ i. carryOf (n i) (l i) (f .table) (f .levels) (length far)),
                   k .2,
@@ -331,7 +409,7 @@ module _ (f : Forwarding) (own own′ far far′ out out′ : List ℕ) (a r c h
           by-domain true d = same-passed d
           by-domain false d = by-table d (tableSound (f .table) (f .levels)) refl
 
-        by-first : (o : Option Refusal) → firstOf (arrivalChecks (f .arriving) (f .area) 9) ≡ o → Late o → Answers
+        by-first : (o : Option Refusal) → firstOf (reachChecks f) ≡ o → Late o → Answers
         by-first none e n = by-domain e (sameDomain f) refl
         by-first (some y) e n = go (sameDomain f) refl
           where
@@ -342,7 +420,7 @@ module _ (f : Forwarding) (own own′ far far′ out out′ : List ℕ) (a r c h
       by-ports : (b d : Bool) → portSound (f .arriving) ≡ b → portSound (f .leaving) ≡ d → Answers
       by-ports false d p q = by-arriving p
       by-ports true false p q = by-leaving p q
-      by-ports true true p q = by-first p q (firstOf (arrivalChecks (f .arriving) (f .area) 9)) refl (arrival-late (f .arriving) (f .area) 9)
+      by-ports true true p q = by-first p q (firstOf (reachChecks f)) refl (reach-late f)
 
     by-length : (b : Bool) → leb 40 (f .room) ≡ b → Answers
     by-length true e = by-ports (leb-true _ _ e) (portSound (f .arriving)) (portSound (f .leaving)) refl refl

@@ -1,4 +1,4 @@
--- Document 01, "The order of checks, and each number": the checks of a forwarding, 1, 2 and 16 to 18.
+-- Document 01, "The order of checks, and each number": the checks of a forwarding, 1, 2 and 16 to 18. Document 02, Wish 3: 21 at the leaving port.
 use mathlib.Core.Bool.{Bool, true, false, cond, not, _&&_, _||_}
 use mathlib.Core.List.{List}
 use mathlib.Core.Option.{Option}
@@ -19,7 +19,7 @@ use Rattle.table.specs.declared.Partner.{Partner}
 use Rattle.table.specs.Table.{usedRows, tableSound}
 use Rattle.table.specs.Numbers.{partnerOf, known, levelOr0, numbered}
 use Rattle.renumber.specs.Renumber.{imageRuns}
-use Rattle.arrival.specs.Checks.{Refusal, silent, barred, when, badArea, arrivingLabel}
+use Rattle.arrival.specs.Checks.{Refusal, silent, barred, when, badArea, arrivingBasic, basicPasses, arrivingLabel}
 
 -- Forward: two ports, and a table that is read when their domains differ; `room` is the length of the output.
 pub record Forwarding : Type 0 where
@@ -42,6 +42,11 @@ sameDomain f = eqb (f .arriving .domain) (f .leaving .domain)
 unfoldable pub records : Forwarding → Option Refusal
 records f =
     when (not (portSound (f .arriving) && (portSound (f .leaving) && (sameDomain f || tableSound (f .table) (f .levels))))) (silent 2)
+
+-- 21: a 130 toward a port without it, or none toward one with it; level or flags out of the leaving port's range
+unfoldable pub leavingBasicCheck : Forwarding → Option Refusal
+leavingBasicCheck f =
+    when (not (basicPasses (f .leaving .basic .on) (f .leaving .basic .sending) (arrivingBasic (f .arriving) (f .area)))) (barred 21 9)
 
 -- Past check 14: a label, the domain that it arrives from, and what it leaves through.
 pub record Crossing : Type 0 where

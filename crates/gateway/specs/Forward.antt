@@ -6,18 +6,22 @@ use lib.ListN.{length}
 use Rattle.spelling.specs.Spelling.{lengthOf}
 use Rattle.leaving.specs.Kept.{keptOf, roundUp, leavingOf}
 use Rattle.arrival.specs.declared.Decision.{Decision}
-use Rattle.arrival.specs.Checks.{Refusal, firstOf, walkCheck, requiredCheck, optionCheck, rangeCheck}
-use Rattle.gateway.specs.Crossing.{Forwarding, sizes, records, numberCheck, leavingCheck, spellingCheck, crossing, leavingLabel, leavingOption}
+use Rattle.arrival.specs.Checks.{Refusal, firstOf, walkCheck, requiredCheck, optionCheck, badBasicCheck, missingBasicCheck, basicRangeCheck, rangeCheck}
+use Rattle.gateway.specs.Crossing.{Forwarding, sizes, records, leavingBasicCheck, numberCheck, leavingCheck, spellingCheck, crossing, leavingLabel, leavingOption}
 use Rattle.arrival.specs.Decision.{silenced, decided}
 
--- forward: the checks in the order of their numbers
+-- forward: the checks in their order
 abbrev pub forwardChecks : Forwarding → List (Option Refusal)
 forwardChecks f =
     sizes f  -- 1
     ∷ records f  -- 2
-    ∷ walkCheck (f .area)  -- 3, 4, 5
+    ∷ walkCheck (f .arriving) (f .area)  -- 3, 4, 5
     ∷ requiredCheck (f .arriving) (f .area)  -- 6
     ∷ optionCheck (f .arriving) (f .area)  -- 7 to 13
+    ∷ badBasicCheck (f .arriving) (f .area)  -- 19
+    ∷ missingBasicCheck (f .arriving) (f .area)  -- 20
+    ∷ basicRangeCheck (f .arriving) (f .area) 9  -- 21, the arriving port
+    ∷ leavingBasicCheck f  -- 21, the leaving port
     ∷ rangeCheck (f .arriving) (f .area) 9  -- 14
     ∷ numberCheck (crossing f)  -- 16
     ∷ leavingCheck (crossing f)  -- 17

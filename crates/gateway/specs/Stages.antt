@@ -21,7 +21,10 @@ use Rattle.renumber.specs.Carry.{carriedKeys, carryOf}
 use Rattle.arrival.specs.declared.Verdict.{Verdict}
 use Rattle.arrival.specs.Checks.{Refusal, barred, when}
 use Rattle.arrival.specs.Verdict.{stopped, going}
-use Rattle.arrival.specs.Stages.{heldBetween}
+use Rattle.basic.specs.declared.BasicReading.{BasicReading}
+use Rattle.basic.specs.declared.Way.{Way}
+use Rattle.basic.specs.Settings.{passesWay}
+use Rattle.arrival.specs.Stages.{heldBetween, beforeRange}
 use Rattle.gateway.specs.Crossing.{Forwarding, Crossing, numberCheck, leavingCheck, leavingRuns}
 
 -- the inputs of a forwarding
@@ -37,7 +40,11 @@ crossingChecks x = numberCheck x ∷ leavingCheck x ∷ when (ltb 120 (length (l
 unfoldable pub recordedBy : Verdict → ℕ → Bool → Verdict
 recordedBy r room sound = cond (eqb (r .number) 1) r (cond (ltb room 40) (stopped 1 0 0 0) (cond sound r (stopped 2 0 0 0)))
 
--- 2 of the table, before 3 to 14
+-- 21 of the leaving port, before 14: `from` and `on` say whether the arriving and the leaving port read option 130
+unfoldable pub sentBy : Verdict → Bool → Bool → Way → BasicReading → Verdict
+sentBy r from on way x = beforeRange r (when (not (cond from (on && passesWay way (x .level) (x .flags)) (not on))) (barred 21 9))
+
+-- 2 of the table, before 3 to 21
 unfoldable pub tabledBy : Verdict → Table → List (List ℕ) → Verdict
 tabledBy r table levels = cond (leb (r .number) 2 || tableSound table levels) r (stopped 2 0 0 0)
 

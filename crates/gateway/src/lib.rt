@@ -1,11 +1,15 @@
-// Forward (document 01, "The order of checks" and "The leaving area"): the checks in the order of their numbers, and only a forwarding writes.
+// Forward (document 01, "The order of checks" and "The leaving area"; document 02, Wish 3): the checks in their order, and only a forwarding writes.
 use arrival::Decision;
 use arrival::Facts;
 use arrival::Verdict;
 use arrival::arrive;
 use arrival::conclude;
+use arrival::find_basic;
 use arrival::go_on;
+use arrival::is_open;
 use arrival::stop;
+use basic::Way;
+use basic::passes_way;
 use label::Label;
 use label::Look;
 use label::look_between;
@@ -22,13 +26,17 @@ use spelling::write_keys;
 use table::Table;
 use table::table_sound;
 ghost use mathlib.Core.Path.{_≡_};
-ghost use mathlib.Core.Bool.{cond};
+ghost use mathlib.Core.Bool.{true, cond};
 ghost use Prim.Native.Nat.{ℕ, _≤_};
 ghost use lib.ListN.{length};
 ghost use lib.Dec.{eqb};
 ghost use Rattle.leaving.specs.Kept.{keptOf};
 ghost use Rattle.gateway.specs.Forward.{forwardOf, outputOf};
-ghost use Rattle.gateway.specs.Stages.{forwardingOf, recordedBy, tabledBy, numberedBy, Crosses, heldBy, hasRoomFor, fittedBy, Writes};
+ghost use mathlib.Core.Option.{some};
+ghost use Rattle.area.specs.Area.{walkOf, octetsAt};
+ghost use Rattle.arrival.specs.Checks.{barred, basicIn};
+ghost use Rattle.arrival.specs.Stages.{beforeRange, basicRead};
+ghost use Rattle.gateway.specs.Stages.{forwardingOf, recordedBy, sentBy, tabledBy, numberedBy, Crosses, heldBy, hasRoomFor, fittedBy, Writes};
 
 // Decides whether a datagram is forwarded from the arriving to the leaving port, and writes its leaving area.
 pub fn forward(
@@ -49,8 +57,15 @@ pub fn forward(
     let sound = port_sound(leaving);
     let arrived = arrive(arriving, area, 9, &mut own);
     let ready = check_leaving(arrived, out.len(), sound);
-    let crossed = cross(
+    let sent = hold_sending(
         ready,
+        arriving.basic.on,
+        leaving.basic.on,
+        leaving.basic.sending,
+        area,
+    );
+    let crossed = cross(
+        sent,
         arriving.domain,
         leaving.domain,
         table,
@@ -65,7 +80,7 @@ pub fn forward(
     conclude(verdict, leaving.domain, facts, count, &far)
 }
 
-// Check 1 of the output, and 2 of the leaving port: before 3 to 14 of what arrived.
+// Check 1 of the output, and 2 of the leaving port: before 3 to 21 of what arrived.
 fn check_leaving(arrived: Verdict, room: usize, sound: bool) -> Verdict
     ensures { λ r. ⌜ r ≡ recordedBy arrived room sound ⌝ }
 {
@@ -79,6 +94,38 @@ fn check_leaving(arrived: Verdict, room: usize, sound: bool) -> Verdict
         return stop(2, 0, 0, 0);
     }
     arrived
+}
+
+// Check 21 of the leaving port, which comes before 14; `from` and `on` say whether the arriving and the leaving port read option 130.
+fn hold_sending(ready: Verdict, from: bool, on: bool, sending: Way, area: &[u8]) -> Verdict
+    ensures { λ r. ⌜ r ≡ sentBy ready from on sending (basicRead (octetsAt (basicIn (walkOf true (now (area .entry)))) (now (area .entry)))) ⌝ }
+{
+    if !from {
+        if !on {
+            return ready;
+        }
+        return bar_basic(ready);
+    }
+    if !on {
+        return bar_basic(ready);
+    }
+    let read = find_basic(area);
+    // copied here, where both ports read it, and not for every datagram
+    let way = sending;
+    if passes_way(way, read.level, read.flags) {
+        return ready;
+    }
+    bar_basic(ready)
+}
+
+// 21, where no check before it applies.
+fn bar_basic(ready: Verdict) -> Verdict
+    ensures { λ r. ⌜ r ≡ beforeRange ready (some (barred 21 9)) ⌝ }
+{
+    if !is_open(ready.number) {
+        return ready;
+    }
+    stop(21, 3, 9, 0)
 }
 
 // Check 2 of the table, which is read when the domains differ, and 16: the keys of the far domain. With equal domains the keys stay.
@@ -107,7 +154,7 @@ fn cross(
     number_over(carried, table.from == domain, table.to == leaving)
 }
 
-// Check 2 of the table, where another check applies: before 3 to 14.
+// Check 2 of the table, where another check applies: before 3 to 21.
 fn check_table(arrived: Verdict, table: Table, levels: [[u8; 2]; 16]) -> Verdict
     ensures { λ r. ⌜ r ≡ tabledBy arrived table levels ⌝ }
 {

@@ -1,16 +1,19 @@
 -- Laws of sound ports and ranges, for whoever calls with one.
-use mathlib.Core.Path.{_≡_, sym}
-use mathlib.Core.Bool.{true, false, not, _&&_, and-false}
+use mathlib.Core.Path.{_≡_, sym, ap}
+use mathlib.Core.Bool.{Bool, true, false, cond, not, _&&_, and-true, and-false}
 use Prim.Native.Nat.{ℕ}
 use lib.Dec.{eqb}
-use borrow.Author.Tests.{eqb-true, eqb-false, not-true, eq-eqb}
+use borrow.Author.Tests.{eqb-true, eqb-false, not-true, eq-eqb, ne-eqb}
 use Rattle.label.specs.declared.Label.{Label}
 use Rattle.label.specs.Label.{wellFormed, atMost, leq, inRange, isZero}
 use Rattle.label.proofs.Bools.{and-left, and-right}
 use Rattle.label.proofs.Labels.{leq-at-most}
+use lib.ListN.{length}
+use Rattle.basic.specs.Settings.{basicSound}
+use Rattle.basic.proofs.Settings.{off-is}
 use Rattle.port.specs.declared.Port.{Port}
 use Rattle.port.specs.declared.Host.{Host}
-use Rattle.port.specs.Port.{rangeSound, assignedSound, portSound, hostSound}
+use Rattle.port.specs.Port.{plainPort, isPlain, rangeSound, assignedSound, portSound, hostSound}
 
 leq-second : (a b : Label) → leq a b ≡ true → wellFormed b ≡ true
 unfolding leq
@@ -45,13 +48,14 @@ pub host-range : (h : Host) (domain : ℕ) → hostSound h domain ≡ true → R
 unfolding hostSound
 host-range h d e = sound-range (h .lowest) (h .highest) d e
 
--- A sound port, part by part: its range, and the assigned label where none is required.
+-- A sound port, part by part: its range, the assigned label where none is required, and the settings of option 130.
 pub record Sound (p : Port) : Type 0 where
   pub owned : p .domain ≡ 0 → ⊥
   pub range : Range (p .lowest) (p .highest) (p .domain)
   pub assigned : p .required ≡ false → inRange (p .lowest) (p .highest) (p .assigned) ≡ true
   pub assigned-formed : p .required ≡ false → wellFormed (p .assigned) ≡ true
   pub assigned-zero : p .required ≡ true → isZero (p .assigned) ≡ true
+  pub basic : basicSound (p .basic) ≡ true
 
 range-formed : (l h a : Label) → inRange l h a ≡ true → wellFormed a ≡ true
 unfolding inRange
@@ -62,14 +66,35 @@ unfolding portSound assignedSound
 sound p e =
     let e1 = and-right (not (eqb (p .domain) 0)) _ e in
     let e2 = and-right (rangeSound (p .lowest) (p .highest) (p .domain)) _ e1 in
-    let free : p .required ≡ false → inRange (p .lowest) (p .highest) (p .assigned) ≡ true = λ f. rw f at e2 in
+    let e3 = and-left (assignedSound p) _ e2 in
+    let free : p .required ≡ false → inRange (p .lowest) (p .highest) (p .assigned) ≡ true = λ f. rw f at e3 in
     record {
       owned = eqb-false _ _ (not-true _ (and-left (not (eqb (p .domain) 0)) _ e));
       range = sound-range (p .lowest) (p .highest) (p .domain) (and-left (rangeSound (p .lowest) (p .highest) (p .domain)) _ e1);
       assigned = free;
       assigned-formed = λ f. range-formed (p .lowest) (p .highest) (p .assigned) (free f);
-      assigned-zero = λ f. rw f at e2;
+      assigned-zero = λ f. rw f at e3;
+      basic = and-right (assignedSound p) _ e2;
     }
+
+-- The assigned label is the last to be looked at.
+
+pub assigned-last : (p : Port) → (p .domain ≡ 0 → ⊥) → rangeSound (p .lowest) (p .highest) (p .domain) ≡ true → basicSound (p .basic) ≡ true
+    → assignedSound p ≡ portSound p
+unfolding portSound
+assigned-last p d r b = sym (rw (ne-eqb (p .domain) 0 d, r, b) (and-true (assignedSound p)))
+
+pub assigned-required : (p : Port) (b : Bool) → p .required ≡ b → assignedSound p ≡ cond b (isZero (p .assigned)) (inRange (p .lowest) (p .highest) (p .assigned))
+unfolding assignedSound
+assigned-required p b e = ap (λ (q : Bool). cond q (isZero (p .assigned)) (inRange (p .lowest) (p .highest) (p .assigned))) e
+
+-- A port that is as document 01 has it is said by that document's fields.
+pub plain-is : (p : Port) → length (p .basic .receiving .flags) ≡ 256 → length (p .basic .sending .flags) ≡ 256 → isPlain p ≡ true
+    → p ≡ plainPort (p .domain) (p .lowest) (p .highest) (p .required) (p .assigned)
+unfolding isPlain
+plain-is p m n e =
+    let b = off-is (p .basic) m n e in
+    λ i. record { domain = p .domain; lowest = p .lowest; highest = p .highest; required = p .required; assigned = p .assigned; basic = b i }
 
 -- The tests of a range, in the order in which they are made.
 

@@ -2,7 +2,9 @@
 ghost use mathlib.Core.Path.{_≡_};
 ghost use mathlib.Core.Bool.{true};
 ghost use Rattle.label.specs.Label.{wellFormed, inRange};
-ghost use Rattle.port.specs.Port.{plainPort, portSound, hostSound, rangeSound};
+ghost use Rattle.port.specs.Port.{plainPort, isPlain, portSound, hostSound, rangeSound};
+use basic::Basic;
+use basic::basic_sound;
 use label::Label;
 
 pub struct Port {
@@ -11,6 +13,8 @@ pub struct Port {
     pub highest: Label,
     pub required: bool,
     pub assigned: Label,
+    // what passes of option 130 (Wish 3)
+    pub basic: Basic,
 }
 
 pub struct Host {
@@ -35,7 +39,16 @@ impl Port {
             highest: highest,
             required: required,
             assigned: assigned,
+            basic: Basic::off(),
         }
+    }
+
+    // Whether the port is as document 01 has it: its record says it whole.
+    pub fn is_plain(self) -> bool
+        ensures { λ r. ⌜ r ≡ isPlain self ⌝ }
+    {
+        let basic = self.basic;
+        basic.is_off()
     }
 }
 
@@ -49,6 +62,9 @@ pub fn port_sound(port: Port) -> bool
     let lowest = port.lowest;
     let highest = port.highest;
     if !range_sound(lowest, highest, port.domain) {
+        return false;
+    }
+    if !basic_sound(port.basic) {
         return false;
     }
     let assigned = port.assigned;

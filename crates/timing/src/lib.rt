@@ -4,6 +4,7 @@
 use arrival::Decision;
 use arrival::Facts;
 use bitmap::read_bitmap;
+use file::Written;
 use file::read_file;
 use file::write_file;
 use gateway::forward;
@@ -103,7 +104,7 @@ pub extern "C" fn time_write_file(octets: &[u8], out: &mut [u8], times: usize) -
     let mut i: usize = 0;
     while i < times {
         let w = write_file(set, &mut out[..]);
-        total = mix(mix(total, w.number as usize), w.count);
+        total = written_digest(total, w);
         i += 1;
     }
     total
@@ -190,6 +191,16 @@ fn next_place(at: usize, size: usize, last: usize) -> usize
 
 fn mix(total: usize, x: usize) -> usize {
     (total % 65536) * 31 + x % 65536
+}
+
+// The number of the writer, and the count; no number is that of a refusal by name.
+fn written_digest(total: usize, w: Written) -> usize {
+    match w {
+        Written::Done(count) => mix(mix(total, 0), count),
+        Written::Short => mix(mix(total, 1), 0),
+        Written::Unsound => mix(mix(total, 2), 0),
+        Written::Unsaid => mix(mix(total, 3), 0),
+    }
 }
 
 fn reading_digest(r: Reading) -> usize {

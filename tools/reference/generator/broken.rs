@@ -1,13 +1,15 @@
 // Cases that don't parse.
 
+use crate::basic::{Marking, LEVELS, MAX_FLAG_FIELDS};
 use crate::cases::{
-    encode, Case, Encoder, Output, BITMAP, CONTAINS, DELIVER, DELIVER_FACTS, FORWARD, FORWARD_FACTS, MAX_OUTPUT, MAX_ROOM, READ,
-    READ_AND_WRITE, READ_FILE, RENUMBER, REVERSE, SPELL, WITHIN, WRITE_FILE,
+    encode, Case, Encoder, Output, BITMAP, CONTAINS, DELIVER, DELIVER_FACTS, DELIVER_WIDE, FORWARD, FORWARD_FACTS, FORWARD_WIDE,
+    MAX_OUTPUT, MAX_ROOM, READ, READ_AND_WRITE, READ_BASIC, READ_FILE, RENUMBER, REVERSE, SPELL, WITHIN, WRITE_BASIC, WRITE_FILE,
 };
-use crate::entries::Entries;
+use crate::entries::{Entries, BASIC_GROUP, GROUPS};
 use crate::file::SetRecord;
 use crate::label::HeldLabel;
 
+use super::basic::{basic_read, basic_written};
 use super::bitmaps::bitmap_read;
 use super::deliver::delivered;
 use super::drafts::*;
@@ -17,6 +19,7 @@ use super::labels::{contains_yes, renumbered, spelled, within_yes};
 use super::random::Random;
 use super::reading::read_valid;
 use super::reverse::reversed;
+use super::wide::{wide_delivered, wide_forwarded};
 use super::{octets_of, with_facts, Made, Maker};
 
 /// A maker of good cases for each entry.
@@ -33,6 +36,10 @@ const GOOD: &[(u8, Maker)] = &[
     (READ_FILE, file_rule_broken),
     (READ_AND_WRITE, file_written),
     (WRITE_FILE, set_written),
+    (READ_BASIC, basic_read),
+    (WRITE_BASIC, basic_written),
+    (FORWARD_WIDE, wide_forwarded),
+    (DELIVER_WIDE, wide_delivered),
     (REVERSE, reversed),
     (BITMAP, bitmap_read),
 ];
@@ -52,7 +59,72 @@ const LATER_WAYS: &[(u8, Way)] = &[
     (WRITE_FILE, bad_group),
     (WRITE_FILE, stored_set),
     (REVERSE, long_room),
+    (WRITE_BASIC, long_basic_output),
+    (FORWARD_WIDE, bad_wide_forward),
+    (DELIVER_WIDE, bad_wide_deliver),
 ];
+
+/// An output over its limit, and one that is cut off.
+fn long_basic_output(_random: &mut Random, round: usize) -> Vec<u8> {
+    let length = [MAX_OUTPUT + 1, 65_535][round % 2];
+    encode(&Case::WriteBasic(Marking { level: LEVELS[0], flags: 0 }, Output { length, fill: 0 }), 0)
+}
+
+/// The octets of a port's group 1 in which one field does not parse: `on`, or one of the two `stored`.
+fn bad_basic_group(round: usize) -> Vec<u8> {
+    let over = |way: usize| if round % 3 == way { MAX_FLAG_FIELDS + 1 + round / 3 % 2 } else { 0 };
+    let mut octets = vec![BASIC_GROUP, if round % 3 == 0 { [2, 255, 128][round / 3 % 3] } else { 0 }];
+    for stored in [over(1), over(2)] {
+        octets.extend([0, 0, 0, 0]);
+        octets.extend((stored as u16).to_be_bytes());
+        octets.extend(vec![0; 2 * stored]);
+    }
+    octets
+}
+
+/// A port's groups in a case that is good otherwise: bad ones, or a group that is not built.
+fn spoil_groups(octets: &mut Vec<u8>, groups_at: usize, round: usize) {
+    if round % 4 == 3 {
+        let groups = [2, 4, 8, 16, 32, 64, 128, 255];
+        octets[groups_at] = groups.iter().copied().cycle().skip(round / 4).find(|groups| groups & !GROUPS != 0).unwrap_or(255);
+    } else {
+        octets.splice(groups_at..groups_at + 1, bad_basic_group(round / 4 * 3 + round % 4));
+    }
+}
+
+/// The arriving or the leaving port of a forward has bad groups, or a fact is bad.
+fn bad_wide_forward(random: &mut Random, round: usize) -> Vec<u8> {
+    let case = forward_draft(random, &ANY).finish(random);
+    let mut before = Encoder { octets: vec![FORWARD_WIDE], spare: 0 };
+    before.wide_port(&case.arriving);
+    if round % 2 == 1 {
+        before.wide_port(&case.leaving);
+    }
+    let after = 1 + case.area.len() + 3;
+    let mut octets = encode(&Case::ForwardWide(Box::new(case)), 0);
+    if round % 6 == 5 {
+        let fact = octets.len() - after - 1 - round / 6 % 5;
+        octets[fact] = [2, 255, 3, 128][round / 6 % 4];
+    } else {
+        spoil_groups(&mut octets, before.octets.len() - 1, round / 2);
+    }
+    octets
+}
+
+fn bad_wide_deliver(random: &mut Random, round: usize) -> Vec<u8> {
+    let case = deliver_draft(random, &ANY).finish(random);
+    let mut before = Encoder { octets: vec![DELIVER_WIDE], spare: 0 };
+    before.wide_port(&case.port);
+    let after = 1 + case.area.len();
+    let mut octets = encode(&Case::DeliverWide(Box::new(case)), 0);
+    if round % 6 == 5 {
+        let fact = octets.len() - after - 1 - round / 6 % 5;
+        octets[fact] = [2, 255, 3, 128][round / 6 % 4];
+    } else {
+        spoil_groups(&mut octets, before.octets.len() - 1, round);
+    }
+    octets
+}
 
 /// One of the five facts is neither 0 nor 1.
 fn bad_fact_forward(random: &mut Random, round: usize) -> Vec<u8> {
@@ -73,7 +145,7 @@ fn bad_fact_deliver(random: &mut Random, round: usize) -> Vec<u8> {
     octets
 }
 
-/// Groups of port fields that are not there yet, in the first or the last port.
+/// Bad groups of port fields, and those that are not there yet, in the first or the last port.
 fn bad_group(random: &mut Random, round: usize) -> Vec<u8> {
     let mut set = rich_set(random);
     (set.table_count, set.tables) = (0, SetRecord::empty().tables);
@@ -86,7 +158,7 @@ fn bad_group(random: &mut Random, round: usize) -> Vec<u8> {
     } else {
         octets.len() - 6
     };
-    octets[group] = [1, 2, 4, 8, 15, 16, 255][round % 7];
+    spoil_groups(&mut octets, group, round / 2);
     octets
 }
 

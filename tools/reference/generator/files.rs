@@ -5,6 +5,7 @@ use crate::file::{file_of, SetRecord, MAX_FILE, MAX_PORTS, MAX_TABLES, VERSION, 
 use crate::label::{HeldLabel, Run, HIGHEST_CATEGORY, MAX_RUNS};
 use crate::records::{PortRecord, Row, TableRecord, MAX_LEVEL_PAIRS, MAX_ROWS};
 
+use super::basic::*;
 use super::drafts::*;
 use super::random::Random;
 use super::ranges::*;
@@ -53,7 +54,7 @@ fn port_of_most_runs(random: &mut Random) -> PortRecord {
     let highest = held(domain, higher, &runs(random.between(1, 2) as u16));
     let required = random.chance(1, 8);
     let assigned = if required { HeldLabel::ALL_ZERO } else { held(domain, higher, &runs(1)) };
-    PortRecord { domain, lowest, highest, required, assigned }
+    PortRecord { domain, lowest, highest, required, assigned, ..PortRecord::PLAIN }
 }
 
 /// A table with 16 level pairs and 64 rows.
@@ -505,7 +506,7 @@ pub fn set_unsound(random: &mut Random, turn: usize, _number: u8) -> Made {
     let output = if turn % 5 == 0 { short_output(random, turn, 60) } else { Output { length: 600, fill: random.octet() } };
     let (ports, tables) = (set.port_count as usize, set.table_count as usize);
     let (port, table) = (random.below(ports), random.below(tables));
-    let (way, round) = (turn % 16, turn / 16);
+    let (way, round) = (turn % 18, turn / 18);
     match way {
         // Every place that there is holds a sound record.
         0 if round % 2 == 0 => {
@@ -545,7 +546,28 @@ pub fn set_unsound(random: &mut Random, turn: usize, _number: u8) -> Made {
         // Counts that the short form of a table cannot have.
         10 => set.tables[table].level_count = random.pick(&[256, 257, 258, 272, 65_535]),
         11..=13 => break_port(random, &mut set.ports[port], round * 3 + way - 11),
-        _ => break_table(random, &mut set.tables[table], round * 2 + way - 14),
+        // 2 comes before the refusal by name.
+        14 => {
+            break_basic(random, &mut set.ports[port], round * 5 + turn / 90);
+            if round % 2 == 0 && ports > 1 {
+                let (receiving, sending) = (any_way(random), any_way(random));
+                switch_on(&mut set.ports[(port + 1) % ports], receiving, sending);
+            }
+        }
+        15 => break_basic(random, &mut set.ports[ports], BASIC_CLAUSES - 2 - round % 10),
+        _ => break_table(random, &mut set.tables[table], round * 2 + way - 16),
     }
+    Made::Case(Case::WriteFile(Box::new(set), output))
+}
+
+/// Sound sets that version 1 cannot say. The refusal by name comes before 1.
+pub fn set_named(random: &mut Random, turn: usize, _number: u8) -> Made {
+    let mut set = rich_set(random);
+    let ports = set.port_count as usize;
+    for port in [turn % ports, random.below(ports)] {
+        let (receiving, sending) = (any_way(random), any_way(random));
+        switch_on(&mut set.ports[port], receiving, sending);
+    }
+    let output = if turn % 3 == 0 { short_output(random, turn, 60) } else { Output { length: 600, fill: random.octet() } };
     Made::Case(Case::WriteFile(Box::new(set), output))
 }

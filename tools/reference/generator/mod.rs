@@ -4,11 +4,12 @@
 // the reference gives that answer. So every number of every entry is hit often, whatever the seed. Slots for unsound records and
 // ill-formed labels take the clauses in turn.
 //
-//   labels, reading, bitmaps, files, reverse, forward, deliver, broken     cases of one kind each
-//   sets, spellings, ranges, tables, drafts     good parts of cases
+//   labels, reading, bitmaps, files, reverse, forward, deliver, wide, broken     cases of one kind each
+//   sets, spellings, ranges, tables, drafts, basic     good parts of cases
 //   unsound, faults                             ways to spoil them
 //   sample_records                              records for the sample program
 
+mod basic;
 mod bitmaps;
 mod broken;
 mod deliver;
@@ -27,17 +28,19 @@ mod sets;
 mod spellings;
 mod tables;
 mod unsound;
+mod wide;
 
 use std::collections::BTreeMap;
 use std::io::{self, Write};
 
 use crate::cases::{
-    encode, line_of, Case, BITMAP, BROKEN, CONTAINS, DELIVER, DELIVER_FACTS, FORWARD, FORWARD_FACTS, READ, READ_AND_WRITE, READ_FILE,
-    RENUMBER, REVERSE, SPELL, WITHIN, WRITE_FILE,
+    encode, line_of, Case, BITMAP, BROKEN, CONTAINS, DELIVER, DELIVER_FACTS, DELIVER_WIDE, FORWARD, FORWARD_FACTS, FORWARD_WIDE, READ,
+    READ_AND_WRITE, READ_BASIC, READ_FILE, RENUMBER, REVERSE, SPELL, WITHIN, WRITE_BASIC, WRITE_FILE,
 };
 use crate::decision::Facts;
 use crate::entries::Entries;
 
+use basic::*;
 use bitmaps::*;
 use broken::*;
 use deliver::*;
@@ -46,6 +49,7 @@ use forward::*;
 use labels::*;
 use reading::*;
 use reverse::*;
+use wide::*;
 
 pub use files::{agree, break_range, largest_set, rich_set, sound_set, Layout, RULED};
 pub use labels::random_label_and_table;
@@ -61,6 +65,10 @@ pub const TRIES: usize = 20_000;
 /// The numbers that each entry can give.
 const FORWARD_ANSWERS: &[&str] = &["0", "1", "2", "3", "4", "5", "6", "7", "8", "9", "10", "11", "12", "13", "14", "16", "17", "18"];
 const DELIVER_ANSWERS: &[&str] = &["0", "1", "2", "3", "4", "5", "6", "7", "8", "9", "10", "11", "12", "13", "14", "15"];
+const WIDE_FORWARD_ANSWERS: &[&str] =
+    &["0", "1", "2", "3", "4", "5", "6", "7", "8", "9", "10", "11", "12", "13", "14", "16", "17", "18", "19", "20", "21"];
+const WIDE_DELIVER_ANSWERS: &[&str] =
+    &["0", "1", "2", "3", "4", "5", "6", "7", "8", "9", "10", "11", "12", "13", "14", "15", "19", "20", "21"];
 const ANSWERS: &[(u8, &str, &[&str])] = &[
     (CONTAINS, "contains", &["YES", "NO"]),
     (WITHIN, "within", &["YES", "NO"]),
@@ -73,7 +81,11 @@ const ANSWERS: &[(u8, &str, &[&str])] = &[
     (DELIVER_FACTS, "deliver", DELIVER_ANSWERS),
     (READ_FILE, "read a file", &["ACCEPTED", "REFUSED", "VERSION"]),
     (READ_AND_WRITE, "read and write", &["0", "1", "REFUSED", "VERSION"]),
-    (WRITE_FILE, "write a file", &["0", "1", "2"]),
+    (WRITE_FILE, "write a file", &["0", "1", "2", "NAMED"]),
+    (READ_BASIC, "read 130", &["0", "19"]),
+    (WRITE_BASIC, "write 130", &["0", "1", "19"]),
+    (FORWARD_WIDE, "forward", WIDE_FORWARD_ANSWERS),
+    (DELIVER_WIDE, "deliver", WIDE_DELIVER_ANSWERS),
     (REVERSE, "reverse", &["0", "2", "24"]),
     (BITMAP, "bitmap", &["0", "10"]),
 ];
@@ -238,11 +250,63 @@ fn all_slots() -> Vec<Slot> {
         slot(WRITE_FILE, 1, "0", set_written),
         slot(WRITE_FILE, 1, "1", set_written_short),
         slot(WRITE_FILE, 3, "2", set_unsound),
+        slot(WRITE_FILE, 1, "NAMED", set_named),
         slot(REVERSE, 2, "0", reversed),
         slot(REVERSE, 2, "2", reverse_unsound),
         slot(REVERSE, 1, "24", reverse_short_room),
         slot(BITMAP, 3, "0", bitmap_read),
         slot(BITMAP, 1, "10", bitmap_long),
+        slot(READ_BASIC, 2, "0", basic_read),
+        slot(READ_BASIC, 2, "19", basic_bad),
+        free_slot(READ_BASIC, 1, basic_changed),
+        slot(WRITE_BASIC, 2, "0", basic_written),
+        slot(WRITE_BASIC, 1, "1", basic_written_short),
+        slot(WRITE_BASIC, 1, "19", basic_not_written),
+        slot(FORWARD_WIDE, 3, "0", wide_forwarded),
+        slot(FORWARD_WIDE, 1, "0", wide_forward_full),
+        slot(FORWARD_WIDE, 1, "18", wide_forward_over_full),
+        slot(FORWARD_WIDE, 1, "1", wide_forward_wrong_size),
+        slot(FORWARD_WIDE, 3, "2", wide_forward_unsound),
+        slot(FORWARD_WIDE, 1, "3", wide_forward_broken),
+        slot(FORWARD_WIDE, 1, "4", wide_forward_broken),
+        slot(FORWARD_WIDE, 1, "5", wide_forward_broken),
+        slot(FORWARD_WIDE, 1, "6", wide_forward_broken),
+        slot(FORWARD_WIDE, 1, "7", wide_forward_broken),
+        slot(FORWARD_WIDE, 1, "8", wide_forward_broken),
+        slot(FORWARD_WIDE, 1, "9", wide_forward_broken),
+        slot(FORWARD_WIDE, 1, "10", wide_forward_broken),
+        slot(FORWARD_WIDE, 1, "11", wide_forward_broken),
+        slot(FORWARD_WIDE, 1, "12", wide_forward_broken),
+        slot(FORWARD_WIDE, 1, "13", wide_forward_broken),
+        slot(FORWARD_WIDE, 2, "19", wide_forward_broken),
+        slot(FORWARD_WIDE, 1, "20", wide_forward_broken),
+        slot(FORWARD_WIDE, 4, "21", wide_forward_broken),
+        slot(FORWARD_WIDE, 1, "14", wide_forward_broken),
+        slot(FORWARD_WIDE, 1, "16", wide_forward_broken),
+        slot(FORWARD_WIDE, 1, "17", wide_forward_broken),
+        free_slot(FORWARD_WIDE, 2, wide_forward_changed),
+        free_slot(FORWARD_WIDE, 3, wide_forward_several),
+        slot(DELIVER_WIDE, 2, "0", wide_delivered),
+        slot(DELIVER_WIDE, 1, "1", wide_deliver_wrong_size),
+        slot(DELIVER_WIDE, 2, "2", wide_deliver_unsound),
+        slot(DELIVER_WIDE, 1, "3", wide_deliver_broken),
+        slot(DELIVER_WIDE, 1, "4", wide_deliver_broken),
+        slot(DELIVER_WIDE, 1, "5", wide_deliver_broken),
+        slot(DELIVER_WIDE, 1, "6", wide_deliver_broken),
+        slot(DELIVER_WIDE, 1, "7", wide_deliver_broken),
+        slot(DELIVER_WIDE, 1, "8", wide_deliver_broken),
+        slot(DELIVER_WIDE, 1, "9", wide_deliver_broken),
+        slot(DELIVER_WIDE, 1, "10", wide_deliver_broken),
+        slot(DELIVER_WIDE, 1, "11", wide_deliver_broken),
+        slot(DELIVER_WIDE, 1, "12", wide_deliver_broken),
+        slot(DELIVER_WIDE, 1, "13", wide_deliver_broken),
+        slot(DELIVER_WIDE, 2, "19", wide_deliver_broken),
+        slot(DELIVER_WIDE, 1, "20", wide_deliver_broken),
+        slot(DELIVER_WIDE, 2, "21", wide_deliver_broken),
+        slot(DELIVER_WIDE, 1, "14", wide_deliver_broken),
+        slot(DELIVER_WIDE, 1, "15", wide_deliver_broken),
+        free_slot(DELIVER_WIDE, 1, wide_deliver_changed),
+        free_slot(DELIVER_WIDE, 1, wide_deliver_several),
     ]
 }
 
@@ -263,6 +327,14 @@ fn with_facts(made: Made, entry: Option<u8>, random: &mut Random, turn: usize) -
         (Made::Case(Case::Deliver(mut case)), Some(DELIVER_FACTS)) => {
             case.facts = facts(random);
             Made::Case(Case::DeliverFacts(case))
+        }
+        (Made::Case(Case::Forward(mut case)), Some(FORWARD_WIDE)) => {
+            case.facts = facts(random);
+            Made::Case(Case::ForwardWide(case))
+        }
+        (Made::Case(Case::Deliver(mut case)), Some(DELIVER_WIDE)) => {
+            case.facts = facts(random);
+            Made::Case(Case::DeliverWide(case))
         }
         (made, _) => made,
     }
@@ -309,7 +381,7 @@ impl Generator {
                 return (octets, line);
             }
         }
-        panic!("slot {} does not reach its answer at turn {}", index, turn);
+        panic!("slot {} ({:?} {:?}) does not reach its answer at turn {}", index, slot.entry, slot.wanted, turn);
     }
 }
 

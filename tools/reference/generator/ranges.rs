@@ -48,7 +48,7 @@ pub fn port_around(random: &mut Random, label: &HeldLabel, rich: bool, unlabelle
     } else {
         random.pick(&[lowest.clone(), highest.clone(), label.clone()])
     };
-    PortRecord { domain: label.domain, lowest, highest, required, assigned }
+    PortRecord { domain: label.domain, lowest, highest, required, assigned, ..PortRecord::PLAIN }
 }
 
 pub fn host_around(random: &mut Random, label: &HeldLabel, rich: bool) -> HostRecord {

@@ -2,7 +2,7 @@
 
 use crate::cases::{hex, line_of};
 use crate::entries::Entries;
-use crate::file::{file_of, read, write, Refusal, SetRecord, MAX_FILE};
+use crate::file::{file_of, read, write, Refusal, SetRecord, Unwritten, MAX_FILE};
 use crate::generator::{agree, break_range, largest_set, rich_set, sound_set, Layout, Random, RULED};
 use crate::records::{PortRecord, TableRecord};
 use crate::sample;
@@ -87,7 +87,7 @@ fn vectors(tally: &mut Tally) {
     tally.equal("entry 12, a place past the count", unused, "2 0 eeeeeeeeee".to_string());
     tally.equal(
         "entry 12, a group",
-        write_line(&format!("0c 00 01 {}01 00 00 0005 ee", &zero_port[..zero_port.len() - 2])),
+        write_line(&format!("0c 00 01 {}10 00 00 0005 ee", &zero_port[..zero_port.len() - 2])),
         "BROKEN".to_string(),
     );
     let table = write_line("0c 00 00 01 01 00000005 00000009 0000 0000 0001 0000 0018 ee");
@@ -108,10 +108,11 @@ fn written_and_read(tally: &mut Tally, set: &SetRecord) {
     tally.equal("laid out by fields", Layout::of(set).octets == file, true);
     for room in [file.len() - 1, file.len(), file.len() + 7] {
         let mut output = vec![FILL; room];
-        let expected = if room < file.len() { (1, 0) } else { (0, file.len()) };
+        let expected = if room < file.len() { Err(Unwritten::Short) } else { Ok(file.len()) };
         tally.equal("writer", write(set, &mut output), expected);
-        let (written, rest) = output.split_at(expected.1);
-        tally.equal("written", (written == &file[..expected.1], rest.iter().all(|octet| *octet == FILL)), (true, true));
+        let count = expected.unwrap_or(0);
+        let (written, rest) = output.split_at(count);
+        tally.equal("written", (written == &file[..count], rest.iter().all(|octet| *octet == FILL)), (true, true));
     }
     tally.equal("read back", read(&file).ok().as_ref() == Some(set), true);
 }
@@ -194,7 +195,7 @@ pub fn files(tally: &mut Tally) {
         changed_octets(tally, &set);
     }
     let unused = SetRecord { table_count: 0, ..SetRecord::of(&[], &[sample::table()]) };
-    tally.equal("a table past the count", write(&unused, &mut [0; 500]), (2, 0));
+    tally.equal("a table past the count", write(&unused, &mut [0; 500]), Err(Unwritten::Unsound));
     let zero = SetRecord::of(&[PortRecord::ALL_ZERO], &[TableRecord::ALL_ZERO]);
-    tally.equal("all-zero places within the count", write(&zero, &mut [0; 500]), (2, 0));
+    tally.equal("all-zero places within the count", write(&zero, &mut [0; 500]), Err(Unwritten::Unsound));
 }

@@ -1,5 +1,6 @@
 // Checks of the reference itself: document 01's "Numbers to try", its sample lines, and the points that are easy to misread.
 
+mod basic;
 mod files;
 mod renumbering;
 
@@ -172,7 +173,7 @@ fn sample_files(tally: &mut Tally) {
 fn open_port(domain: u32, assigned: HeldLabel) -> PortRecord {
     let mut highest = HeldLabel { count: 1, ..HeldLabel::empty(domain, 255) };
     highest.places[0] = Run { low: 0, high: HIGHEST_CATEGORY };
-    PortRecord { domain, lowest: HeldLabel::empty(domain, 0), highest, required: false, assigned }
+    PortRecord { domain, lowest: HeldLabel::empty(domain, 0), highest, required: false, assigned, ..PortRecord::PLAIN }
 }
 
 /// One kept option of `length` octets, padded with type 0.
@@ -399,6 +400,7 @@ pub fn run() -> bool {
     silences(&mut tally);
     bitmaps(&mut tally);
     files::files(&mut tally);
+    basic::basic(&mut tally);
     renumbering::renumbering(&mut tally);
     walks(&mut tally);
     parsing(&mut tally);

@@ -7,11 +7,10 @@ use mathlib.Core.Bool.{true, false, _||_}
 use lib.Dec.{ltb}
 use lib.ListN.{length}
 use Rattle.area.specs.declared.Walk.the-variants.{Sound, Refused}
-use Rattle.area.specs.Area.{walkOf}
 use Rattle.area.proofs.Laws.{area-refused, sound-placed}
 use Rattle.port.specs.Port.{portSound}
-use Rattle.arrival.specs.Checks.{badArea}
-use Rattle.arrival.proofs.Arrival.{area-short, port-sized, port-unsound, port-walked, port-placed}
+use Rattle.arrival.specs.Checks.{badArea, walkAt}
+use Rattle.arrival.proofs.Arrival.{area-short, port-sized, port-unsound, port-walked, port-on, port-off}
 use Rattle.arrival.proofs.arrive.Statement.{statement}
 use Rattle.arrival.proofs.arrive.Tie as tie
 
@@ -64,12 +63,16 @@ enum-known-number : tie.Need-enum-known-number
 enum-known-number c = search needs
 
 -- the walk refused the area
-walked : (c : tie.After-number) → walkOf (c .before .before .before .before .before .before .before .before .before .before .args .area .now) ≡ Refused (c .number .given .0 .0) (c .number .given .0 .1 .0)
+walked : (c : tie.After-number) →
+    let s = c .before .before .before .before .before .before .before .before .before .before in
+    walkAt (s .args .port) (s .args .area .now) ≡ Refused (c .number .given .0 .0) (c .number .given .0 .1 .0)
 walked c = sym (c .before .before .walk-area .ensures) ∙ c .number .given .1
 
 -- or found it sound
-found : (c : tie.After-place) → walkOf (c .before .before .before .before .before .before .before .before .before .before .args .area .now) ≡ Sound (c .place .given .0 .0)
-found c = sym (c .before .before .walk-area .ensures) ∙ c .place .given .1
+found : (c : tie.After-label) →
+    let s = c .before .before .before .before .before .before .before .before .before .before in
+    walkAt (s .args .port) (s .args .area .now) ≡ Sound (c .label .given .0 .0) (c .label .given .0 .1 .0)
+found c = sym (c .before .before .walk-area .ensures) ∙ c .label .given .1
 
 -- the port is sound
 ported : (c : tie.Else3) → portSound (c .before .before .before .before .before .before .before .args .port) ≡ true
@@ -79,46 +82,68 @@ add-stop : tie.Need-add-stop
 add-stop c =
     let n = c .before in
     let e = n .before .before .before .before .before in
-    omega (arith, area-refused _ _ _ (walked n) .1, area-short (e .before .before .before .before .before .args .area .now) (small e))
+    let s = e .before .before .before .before .before in
+    omega (arith, area-refused (s .args .port .basic .on) _ _ _ (walked n) .2, area-short (s .args .area .now) (small e))
 
 cast-stop : tie.Need-cast-stop
 cast-stop c =
     let n = c .before in
     let e = n .before .before .before .before .before in
-    omega (arith, area-refused _ _ _ (walked n) .1, area-short (e .before .before .before .before .before .args .area .now) (small e))
+    let s = e .before .before .before .before .before in
+    omega (arith, area-refused (s .args .port .basic .on) _ _ _ (walked n) .2, area-short (s .args .area .now) (small e))
 
 stop-requires-4 : tie.Need-stop-requires-4
 stop-requires-4 c κs = search needs
 
-enum-known-place : tie.Need-enum-known-place
-enum-known-place c = search needs
+enum-known-label : tie.Need-enum-known-label
+enum-known-label c = search needs
 
 arrive-at-requires : tie.Need-arrive-at-requires
 arrive-at-requires c κs =
     let p = c .before .before in
     let t = p .before .before .before in
     let e = t .before .before in
-    (area-short (e .before .before .before .before .before .args .area .now) (small e), (sound-placed _ _ (found p), (ported t, e .if2 .left)))
+    let s = e .before .before .before .before .before in
+    (area-short (s .args .area .now) (small e), (sound-placed (s .args .port .basic .on) _ _ _ (found p) .0, (ported t, e .if2 .left)))
+
+same-length : tie.Need-same-length
+same-length c = search needs
 
 returns-4 : tie.Need-returns-4
 returns-4 c =
+    let a = c .before .before .before in
+    let p = a .before .before .before in
+    let t = p .before .before .before in
+    let e = t .before .before in
+    let s = e .before .before .before .before .before in
+    port-off (s .args .port) (s .args .area .now) (s .args .keys .now) (s .args .code) (sized e) (ported t) (p .label .given .0 .0) (p .label .given .0 .1 .0) _ _ (found p) (not-true _ (c .if4 .taken)) (a .arrive-at .ensures)
+
+check-basic-requires : tie.Need-check-basic-requires
+check-basic-requires c κs =
+    let p = c .before .before .before .before .before .before in
+    let e = p .before .before .before .before .before in
+    let s = e .before .before .before .before .before in
+    (area-short (s .args .area .now) (small e), sound-placed (s .args .port .basic .on) _ _ _ (found p) .1)
+
+returns-5 : tie.Need-returns-5
+returns-5 c =
     let n = c .before .before in
     let t = n .before .before .before in
     let e = t .before .before in
     let s = e .before .before .before .before .before in
     rw (c .stop4 .ensures) (port-walked (s .args .port) (s .args .area .now) (s .args .keys .now) (s .args .code) (sized e) (ported t) _ _ (walked n))
 
-same-length : tie.Need-same-length
-same-length c = search needs
+same-length-2 : tie.Need-same-length-2
+same-length-2 c = search needs
 
-returns-5 : tie.Need-returns-5
-returns-5 c =
-    let a = c .before .before in
+returns-6 : tie.Need-returns-6
+returns-6 c =
+    let a = c .before .before .before .before in
     let p = a .before .before .before in
     let t = p .before .before .before in
     let e = t .before .before in
     let s = e .before .before .before .before .before in
-    port-placed (s .args .port) (s .args .area .now) (s .args .keys .now) (s .args .code) (sized e) (ported t) (p .place .given .0 .0) _ _ (found p) (a .arrive-at .ensures)
+    port-on (s .args .port) (s .args .area .now) (s .args .keys .now) (s .args .code) (sized e) (ported t) (p .label .given .0 .0) (p .label .given .0 .1 .0) _ (a .arrive-at .result) _ (found p) (not-false _ (c .before .if4 .left)) (a .arrive-at .ensures) (c .check-basic .ensures)
 
 pub arrive-spec : {M : Type 1} → statement M
 arrive-spec =
@@ -137,8 +162,11 @@ arrive-spec =
     add-stop
     cast-stop
     stop-requires-4
-    enum-known-place
+    enum-known-label
     arrive-at-requires
-    returns-4
     same-length
-    returns-5)
+    returns-4
+    check-basic-requires
+    returns-5
+    same-length-2
+    returns-6)

@@ -7,8 +7,11 @@ use Rattle.fileset.proofs.empty_port.Tie as tie
 empty-requires : tie.Need-empty-requires
 empty-requires c κs = search needs
 
+off-requires : tie.Need-off-requires
+off-requires c κs = search needs
+
 returns : tie.Need-returns
-returns c = rw (c .empty .ensures) refl
+returns c = rw (c .before .empty .ensures, c .off .ensures) refl
 
 pub empty-port-spec : {M : Type 1} → statement M
-empty-port-spec = tie.close (tie.spec empty-requires returns)
+empty-port-spec = tie.close (tie.spec empty-requires off-requires returns)

@@ -14,10 +14,15 @@ is-zero-requires-2 c κs = search needs
 is-zero-requires-3 : tie.Need-is-zero-requires-3
 is-zero-requires-3 c κs = search needs
 
+is-off-requires : tie.Need-is-off-requires
+is-off-requires c κs = search needs
+
 returns : tie.Need-returns
 unfolding zeroPort
-returns c = rw (c .before .before .before .before .is-zero .ensures, c .before .before .before .is-zero2 .ensures, c .before .before .is-zero3 .ensures) refl
+returns c =
+    let given = c .before .before .before .before in
+    rw (given .before .before .is-zero .ensures, given .before .is-zero2 .ensures, given .is-zero3 .ensures, c .before .before .is-off .ensures) refl
 
 pub port-zero-spec : {M : Type 1} → statement M
 port-zero-spec =
-    tie.close (tie.spec is-zero-requires is-zero-requires-2 is-zero-requires-3 returns)
+    tie.close (tie.spec is-zero-requires is-zero-requires-2 is-zero-requires-3 is-off-requires returns)

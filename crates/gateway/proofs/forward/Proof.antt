@@ -21,6 +21,9 @@ arrive-requires c κs = search needs
 check-leaving-requires : tie.Need-check-leaving-requires
 check-leaving-requires c κs = search needs
 
+hold-sending-requires : tie.Need-hold-sending-requires
+hold-sending-requires c κs = search needs
+
 slice-aggregate-cross : tie.Need-slice-aggregate-cross
 slice-aggregate-cross c = search needs
 
@@ -69,13 +72,14 @@ returns c =
     let k = t .before .before in
     let h = k .before in
     let x = h .before .before .before in
-    let r = x .before .before .before in
+    let u = x .before .before .before in
+    let r = u .before in
     let a = r .before .before in
     let p = a .before .before in
     let s = p .before .before .before in
     let q =
     forwarded (forwardingOf (s .args .arriving) (s .args .leaving) (s .args .table) (s .args .levels) (s .args .facts) (s .args .area .now) (length (s .args .out .now)))
-    _ _ _ _ (s .args .out .now) _ (a .arrive .result) (r .check-leaving .result) (x .cross .result) (h .hold-leaving .result) (t .fit .result) (k .kept-by .result) (w .write-area .result)
+    _ _ _ _ (s .args .out .now) _ (a .arrive .result) (r .check-leaving .result) (u .hold-sending .result) (x .cross .result) (h .hold-leaving .result) (t .fit .result) (k .kept-by .result) (w .write-area .result)
     (record {
       room = refl;
       own-room = omega arith;
@@ -83,6 +87,7 @@ returns c =
       far-room = omega arith;
       arrives = a .arrive .ensures;
       ready = r .check-leaving .ensures ∙ ap (recordedBy (a .arrive .result) (length (s .args .out .now))) (p .port-sound .ensures);
+      sent = u .hold-sending .ensures;
       crosses = x .cross .ensures;
       held = h .hold-leaving .ensures;
       counted = k .kept-by .ensures;
@@ -99,6 +104,7 @@ forward-spec =
     slice-aggregate-arrive
     arrive-requires
     check-leaving-requires
+    hold-sending-requires
     slice-aggregate-cross
     slice-aggregate-cross-2
     cross-requires

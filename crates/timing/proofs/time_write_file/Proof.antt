@@ -21,14 +21,8 @@ loop-holds c = search needs
 write-file-requires : tie.Need-write-file-requires Inv-loop μ-loop
 write-file-requires c κs = search needs
 
-cast-mix : tie.Need-cast-mix Inv-loop μ-loop
-cast-mix c = search needs
-
-mix-requires : tie.Need-mix-requires Inv-loop μ-loop
-mix-requires c κs = search needs
-
-mix-requires-2 : tie.Need-mix-requires-2 Inv-loop μ-loop
-mix-requires-2 c κs = search needs
+written-digest-requires : tie.Need-written-digest-requires Inv-loop μ-loop
+written-digest-requires c κs = search needs
 
 add-i : tie.Need-add-i Inv-loop μ-loop
 add-i c = search needs
@@ -54,9 +48,7 @@ time-write-file-spec =
     read-file-requires
     loop-holds
     write-file-requires
-    cast-mix
-    mix-requires
-    mix-requires-2
+    written-digest-requires
     add-i
     loop-less
     loop-again

@@ -1,0 +1,5 @@
+pub mod Levels
+pub mod Form
+pub mod Writing
+pub mod Settings
+pub mod Theorems

@@ -1,0 +1,13 @@
+-- `port::Port::plain` meets its contract.
+use borrow.Author.Needs.{needs}
+use Rattle.port.proofs.Port.plain.Statement.{statement}
+use Rattle.port.proofs.Port.plain.Tie as tie
+
+off-requires : tie.Need-off-requires
+off-requires c κs = search needs
+
+returns : tie.Need-returns
+returns c = rw (c .off .ensures)
+
+pub plain-spec : {M : Type 1} → statement M
+plain-spec = tie.close (tie.spec off-requires returns)
