@@ -82,13 +82,7 @@ pub fn take_port(case: &[u8], at: usize) -> TakenPort {
     let a = lowest.label;
     let b = highest.label;
     let c = assigned.label;
-    let port = Port {
-        domain: domain.value,
-        lowest: a,
-        highest: b,
-        required: required.value,
-        assigned: c,
-    };
+    let port = Port::plain(domain.value, a, b, required.value, c);
     TakenPort {
         port: port,
         next: assigned.next,

@@ -9,6 +9,7 @@ use Rattle.label.specs.declared.Label.{Label}
 use Rattle.label.specs.Runs.{run}
 use Rattle.option.specs.Table.{everyOther}
 use Rattle.port.specs.declared.Port.{Port}
+use Rattle.port.specs.Port.{plainPort}
 use Rattle.port.specs.declared.Host.{Host}
 use Rattle.table.specs.declared.Table.{Table}
 use Rattle.arrival.specs.declared.Decision.{Decision}
@@ -30,37 +31,31 @@ nothing = record { domain = 0; level = 0; count = 0; runs = replicate 120 (run 0
 
 -- Ports: one that requires a label; one that gives it; one that gives a label with no spelling, 240, 242, .. 270.
 abbrev pub requires : Port
-requires = record { domain = 5; lowest = bare 1; highest = one 5 0 300; required = true; assigned = nothing }
+requires = plainPort 5 (bare 1) (one 5 0 300) true nothing
 
 abbrev pub assigns : Port
-assigns = record { domain = 5; lowest = bare 1; highest = one 5 0 300; required = false; assigned = bare 3 }
+assigns = plainPort 5 (bare 1) (one 5 0 300) false (bare 3)
 
 abbrev pub unspelled : Port
 unspelled =
-    record {
-      domain = 5;
-      lowest = bare 1;
-      highest = one 5 0 300;
-      required = false;
-      assigned = record { domain = 5; level = 3; count = 16; runs = everyOther 240 16 ++ replicate 104 (run 0 0) };
-    }
+    plainPort 5 (bare 1) (one 5 0 300) false (record { domain = 5; level = 3; count = 16; runs = everyOther 240 16 ++ replicate 104 (run 0 0) })
 
 -- unsound: of domain 0; lowest above highest; an assigned label beside a required one, or out of range
 abbrev pub ownerless : Port
-ownerless = record { domain = 0; lowest = bare 1; highest = bare 5; required = true; assigned = nothing }
+ownerless = plainPort 0 (bare 1) (bare 5) true nothing
 
 abbrev pub upside : Port
-upside = record { domain = 5; lowest = bare 5; highest = bare 1; required = true; assigned = nothing }
+upside = plainPort 5 (bare 5) (bare 1) true nothing
 
 abbrev pub needless : Port
-needless = record { domain = 5; lowest = bare 1; highest = bare 5; required = true; assigned = bare 3 }
+needless = plainPort 5 (bare 1) (bare 5) true (bare 3)
 
 abbrev pub misgiving : Port
-misgiving = record { domain = 5; lowest = bare 1; highest = bare 5; required = false; assigned = bare 6 }
+misgiving = plainPort 5 (bare 1) (bare 5) false (bare 6)
 
 -- the port it leaves by, and the host
 abbrev pub beyond : Port
-beyond = record { domain = 5; lowest = bare 2; highest = one 255 0 65534; required = true; assigned = nothing }
+beyond = plainPort 5 (bare 2) (one 255 0 65534) true nothing
 
 abbrev pub behind : Host
 behind = record { lowest = bare 2; highest = one 255 0 65534 }

@@ -5,6 +5,7 @@ use Prim.Native.Nat.{ℕ}
 use Rattle.label.specs.declared.Label.{Label}
 use Rattle.label.specs.Label.{leq, inRange}
 use Rattle.port.specs.declared.Port.{Port}
+use Rattle.port.specs.Port.{plainPort}
 use Rattle.format.specs.Format.{Format, four, number, flag, _then_, _such_, fields}
 use Rattle.fileport.specs.LabelFormat.{labelFormat}
 
@@ -17,6 +18,6 @@ portFormat =
     then λ lowest. labelFormat domain such (λ highest. leq lowest highest)
     then λ highest. flag
     then λ required. labelFormat (cond required 0 domain) such (λ assigned. cond required true (inRange lowest highest assigned)))
-    (λ p. record { domain = p .0; lowest = p .1 .0; highest = p .1 .1 .0; required = p .1 .1 .1 .0; assigned = p .1 .1 .1 .1 })
+    (λ p. plainPort (p .0) (p .1 .0) (p .1 .1 .0) (p .1 .1 .1 .0) (p .1 .1 .1 .1))
     (λ p. (p .domain, (p .lowest, (p .highest, (p .required, p .assigned)))))
     (λ p. refl)

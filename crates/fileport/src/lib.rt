@@ -209,13 +209,7 @@ pub fn read_port(octets: &[u8], ok: bool, at: usize) -> PortRead
     PortRead {
         ok: kept.ok,
         at: kept.at,
-        port: Port {
-            domain: domain.value,
-            lowest: low,
-            highest: high,
-            required: required,
-            assigned: given,
-        },
+        port: Port::plain(domain.value, low, high, required, given),
     }
 }
 

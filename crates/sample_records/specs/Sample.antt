@@ -6,16 +6,17 @@ use lib.ListN.{replicate}
 use Rattle.label.specs.Runs.{run}
 use Rattle.label.specs.Label.{labelOf, zeroLabel}
 use Rattle.port.specs.declared.Port.{Port}
+use Rattle.port.specs.Port.{plainPort}
 use Rattle.table.specs.declared.Row.{Row}
 use Rattle.table.specs.declared.Table.{Table}
 
 -- "both ports require labels. Arriving: domain 5, level 1 with no categories to level 5 with 0..300. Leaving: domain 9, level 0 with none to
 -- level 255 with all."
 abbrev pub arriving : Port
-arriving = record { domain = 5; lowest = labelOf 5 1 []; highest = labelOf 5 5 (run 0 300 ∷ []); required = true; assigned = zeroLabel }
+arriving = plainPort 5 (labelOf 5 1 []) (labelOf 5 5 (run 0 300 ∷ [])) true zeroLabel
 
 abbrev pub leaving : Port
-leaving = record { domain = 9; lowest = labelOf 9 0 []; highest = labelOf 9 255 (run 0 65534 ∷ []); required = true; assigned = zeroLabel }
+leaving = plainPort 9 (labelOf 9 0 []) (labelOf 9 255 (run 0 65534 ∷ [])) true zeroLabel
 
 abbrev pub row : ℕ → ℕ → ℕ → Row
 row l h t = record { low = l; high = h; target = t }

@@ -32,26 +32,26 @@ pub fn up_to(domain: u32, level: u8, highest: u16) -> Label
 pub fn arriving() -> Port
     ensures { λ r. ⌜ r ≡ sample.arriving ⌝ }
 {
-    Port {
-        domain: 5,
-        lowest: Label::empty(5, 1),
-        highest: up_to(5, 5, 300),
-        required: true,
-        assigned: Label::empty(0, 0),
-    }
+    Port::plain(
+        5,
+        Label::empty(5, 1),
+        up_to(5, 5, 300),
+        true,
+        Label::empty(0, 0),
+    )
 }
 
 // The port through which they leave.
 pub fn leaving() -> Port
     ensures { λ r. ⌜ r ≡ sample.leaving ⌝ }
 {
-    Port {
-        domain: 9,
-        lowest: Label::empty(9, 0),
-        highest: up_to(9, 255, Label::MAX_CATEGORY),
-        required: true,
-        assigned: Label::empty(0, 0),
-    }
+    Port::plain(
+        9,
+        Label::empty(9, 0),
+        up_to(9, 255, Label::MAX_CATEGORY),
+        true,
+        Label::empty(0, 0),
+    )
 }
 
 // The table, without its level pairs.

@@ -238,13 +238,13 @@ fn read_labels(octets: &[u8], size: usize) -> [Label; 8] {
 
 // A port of domain 5 that requires labels.
 fn port_of(lower: u8, upper: u8, high: u16) -> Port {
-    Port {
-        domain: 5,
-        lowest: Label::empty(5, lower),
-        highest: up_to(5, upper, high),
-        required: true,
-        assigned: Label::empty(0, 0),
-    }
+    Port::plain(
+        5,
+        Label::empty(5, lower),
+        up_to(5, upper, high),
+        true,
+        Label::empty(0, 0),
+    )
 }
 
 // The sample's table with other rows.

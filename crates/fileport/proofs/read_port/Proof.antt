@@ -1,6 +1,6 @@
 -- `fileport::read_port` meets its contract.
 use borrow.Author.Needs.{needs}
-use mathlib.Core.Path.{refl}
+use mathlib.Core.Path.{refl, sym}
 use Rattle.format.proofs.Told.{then-told, such-told, flag-told, fields-told}
 use Rattle.fileport.specs.PortFormat.{portFormat}
 use Rattle.fileport.proofs.read_port.Statement.{statement}
@@ -36,16 +36,19 @@ assigned-fits-requires c κs = search needs
 judge-requires-2 : tie.Need-judge-requires-2
 judge-requires-2 c κs = search needs
 
+plain-requires : tie.Need-plain-requires
+plain-requires c κs = search needs
+
 returns : tie.Need-returns
 unfolding portFormat
 returns c =
     fields-told
-    (then-told (c .before .before .before .before .before .before .before .before .before .before .before .before .before .read-four .ensures .0)
-    (then-told (c .before .before .before .before .before .before .before .before .before .before .before .before .read-label .ensures)
-    (then-told (such-told (c .before .before .before .before .before .before .before .before .before .before .before .read-label2 .ensures) (c .before .before .before .before .before .before .before .judge .ensures) (c .before .before .before .before .before .before .before .before .within .ensures))
-    (then-told (flag-told (c .before .before .before .before .before .before .read-octet .ensures .0) refl)
-    (such-told (rw (c .before .before .before .before .assigned-domain .ensures) at (c .before .before .before .read-label3 .ensures)) (c .judge2 .ensures) (c .before .assigned-fits .ensures))))))
-    refl
+    (then-told (c .before .before .before .before .before .before .before .before .before .before .before .before .before .before .read-four .ensures .0)
+    (then-told (c .before .before .before .before .before .before .before .before .before .before .before .before .before .read-label .ensures)
+    (then-told (such-told (c .before .before .before .before .before .before .before .before .before .before .before .before .read-label2 .ensures) (c .before .before .before .before .before .before .before .before .judge .ensures) (c .before .before .before .before .before .before .before .before .before .within .ensures))
+    (then-told (flag-told (c .before .before .before .before .before .before .before .read-octet .ensures .0) refl)
+    (such-told (rw (c .before .before .before .before .before .assigned-domain .ensures) at (c .before .before .before .before .read-label3 .ensures)) (c .before .judge2 .ensures) (c .before .before .assigned-fits .ensures))))))
+    (sym (c .plain .ensures))
 
 pub read-port-spec : {M : Type 1} → statement M
 read-port-spec =
@@ -61,4 +64,5 @@ read-port-spec =
     read-label-requires-3
     assigned-fits-requires
     judge-requires-2
+    plain-requires
     returns)

@@ -12,8 +12,11 @@ up-to-requires c κs = search needs
 empty-requires-2 : tie.Need-empty-requires-2
 empty-requires-2 c κs = search needs
 
+plain-requires : tie.Need-plain-requires
+plain-requires c κs = search needs
+
 returns : tie.Need-returns
-returns c = cc (c .empty2 .ensures, c .before .up-to .ensures, c .before .before .empty .ensures)
+returns c = cc (c .plain .ensures, c .before .empty2 .ensures, c .before .before .up-to .ensures, c .before .before .before .empty .ensures)
 
 pub arriving-spec : {M : Type 1} → statement M
-arriving-spec = tie.close (tie.spec empty-requires up-to-requires empty-requires-2 returns)
+arriving-spec = tie.close (tie.spec empty-requires up-to-requires empty-requires-2 plain-requires returns)
