@@ -10,4 +10,4 @@ pub mod Table
 pub mod Bridge
 pub mod Bad
 pub mod Only
-pub mod Spellings
+pub mod OneSpelling
