@@ -11,3 +11,4 @@ pub mod Bridge
 pub mod Bad
 pub mod Only
 pub mod OneSpelling
+pub mod Sets

@@ -13,6 +13,9 @@ use Rattle.option.specs.Option.{tagOf, bodyOf, numbersIn, Means}
 abbrev pub usual : Spellings
 usual = record { shortest = true; ten = false; numbers = true; pairs = true }
 
+abbrev pub isUsual : Spellings → Bool
+isUsual p = p .shortest && (not (p .ten) && (p .numbers && p .pairs))
+
 -- the set is not empty
 abbrev pub someOf : Spellings → Bool
 someOf p = p .shortest || (p .ten || (p .numbers || p .pairs))

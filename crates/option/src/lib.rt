@@ -1,6 +1,6 @@
 // The CIPSO option (document 01, "Option and tags"; the draft, section 3): what a valid option is and means is said in specs/.
 ghost use mathlib.Core.Path.{_≡_};
-ghost use Rattle.option.specs.Permitted.{usual, someOf};
+ghost use Rattle.option.specs.Permitted.{usual, isUsual, someOf};
 
 // The places of its fields, counted from its first octet.
 
@@ -45,6 +45,13 @@ impl Spellings {
             numbers: true,
             pairs: true,
         }
+    }
+
+    // Whether they are document 01's.
+    pub fn is_usual(self) -> bool
+        ensures { λ r. ⌜ r ≡ isUsual self ⌝ }
+    {
+        self.shortest && (!self.ten && (self.numbers && self.pairs))
     }
 
     // Whether any is permitted.
