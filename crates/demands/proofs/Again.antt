@@ -8,10 +8,11 @@ use lib.ListN.{length, getD, take, drop, replicate, length-append, length-replic
 use lib.Seq.{take-at}
 use Rattle.label.specs.declared.Label.{Label}
 use Rattle.label.proofs.Bools.{and-left, and-right}
+use Rattle.option.specs.declared.Spellings.{Spellings}
 use Rattle.option.specs.Spelling.{spelledOf}
 use Rattle.option.specs.Theorems.{Spells}
 use Rattle.option.proofs.Meaning.{parts}
-use Rattle.option.proofs.Spellings.{one-spelling}
+use Rattle.option.proofs.OneSpelling.{one-spelling}
 use Rattle.area.specs.declared.Kind.the-variants.{Cipso}
 use Rattle.area.specs.declared.Place.{Place}
 use Rattle.area.specs.declared.Place.the-variants.{At}
@@ -72,25 +73,25 @@ unfolding walkCheck
 passed-walk p area code e = sound-walk (walkOf area) (first-none (arrivalChecks p area code) e .0)
 
 -- Read again: an option that spells the label, what another area kept, and zeros.
-module _ (s kept : List ℕ) (l : Label) (h : length s + length kept ≤ 40) (sp : Spells s l) (a : Again kept) where
+module _ (s kept : List ℕ) (l : Label) (h : length s + length kept ≤ 40) (set : Spellings) (sp : Spells set s l) (a : Again kept) where
   starts : Starts s Cipso
   starts =
-      let p = parts s (sp .means .good) in
+      let p = parts s (sp .permitted .means .good) in
       record { kind = ap kindOf (p .kind); size = p .size; least = omega (arith, p .long) }
 
   option-is : optionAt 0 (laid s kept) ≡ s
   option-is =
-      let p = parts s (sp .means .good) in
+      let p = parts s (sp .permitted .means .good) in
       let g : getD (laid s kept) 1 0 ≡ length s = List·getD-append s _ 0 1 (omega (arith, p .long)) ∙ p .size in
       rw g (take-at s _ (length s) refl)
 
   walked : walkOf (laid s kept) ≡ Sound (At 0)
-  walked = front-walk s kept (padding s kept) starts (parts s (sp .means .good) .kind) a
+  walked = front-walk s kept (padding s kept) starts (parts s (sp .permitted .means .good) .kind) a
 
   labelled : (p : Port) → p .domain ≡ l .domain → LabelOf p (laid s kept) l
-  labelled p d = own 0 walked (rw option-is (sp .means)) (sym d)
+  labelled p d = own 0 walked (rw option-is (sp .permitted .means)) (sym d)
 
-  pub read-again : (domain : ℕ) → l .domain ≡ domain → Reads (laid s kept) domain l kept
+  pub read-again : (domain : ℕ) → l .domain ≡ domain → Reads (laid s kept) domain set l kept
   read-again domain d =
       let c = counts (length s) (length kept) h in
       let n = laid-length s kept h in
@@ -101,7 +102,7 @@ module _ (s kept : List ℕ) (l : Label) (h : length s + length kept ≤ 40) (sp
         required = λ p e. label-reads p (laid s kept) l (labelled p (e ∙ sym d)) .required;
         option = λ p e. label-reads p (laid s kept) l (labelled p (e ∙ sym d)) .option;
         label = λ p e. label-reads p (laid s kept) l (labelled p (e ∙ sym d)) .label;
-        kept = front-kept s kept (padding s kept) starts (parts s (sp .means .good) .kind) a;
+        kept = front-kept s kept (padding s kept) starts (parts s (sp .permitted .means .good) .kind) a;
         counted = rw (option-is, n) c;
       }
 
@@ -128,11 +129,11 @@ module _ (f : Forwarding) (e : forwardOf f .number ≡ 0) where
   pub label-is : forwardOf f .label ≡ m
   label-is = ap (λ (d : Decision). d .label) (is-done [] .0)
 
-  pub spelled : spelledOf m ≡ some s
+  pub spelled : spelledOf (f .leaving .spellings) m ≡ some s
   spelled = leaving-spelled (crossing f) ∙ p .fits .spelled
 
-  spells : Spells s m
-  spells = one-spelling .spells m s (passed-formed f p) .0 spelled
+  spells : Spells (f .leaving .spellings) s m
+  spells = one-spelling .spells (f .leaving .spellings) m s (passed-formed f p) .0 spelled
 
   pub area-is : (out : List ℕ) → leavingArea f out ≡ laid s (keptOf (f .area))
   area-is out = rw count-is (ap (take (roundUp (length s + length (keptOf (f .area))))) (is-done out .1) ∙ laid-first s (keptOf (f .area)) (p .fits .room) out)
@@ -140,15 +141,16 @@ module _ (f : Forwarding) (e : forwardOf f .number ≡ 0) where
   again : Again (keptOf (f .area))
   again = let q = passed-walk (f .arriving) (f .area) 9 (p .arrived) in kept-again (f .area) (q .0) (q .1)
 
-  pub counted : (s : List ℕ) × Spells s (forwardOf f .label) × Counts (forwardOf f .count) (length s) (length (keptOf (f .area)))
+  pub counted : (s : List ℕ) × Spells (f .leaving .spellings) s (forwardOf f .label) × Counts (forwardOf f .count) (length s) (length (keptOf (f .area)))
   counted = (s, rw label-is spells, rw count-is (counts (length s) (length (keptOf (f .area))) (p .fits .room)))
 
-  pub reads-again : (out : List ℕ) → Reads (leavingArea f out) (f .leaving .domain) (forwardOf f .label) (keptOf (f .area))
-  reads-again out = rw (area-is out, label-is) (read-again s (keptOf (f .area)) m (p .fits .room) spells again (f .leaving .domain) refl)
+  pub reads-again : (out : List ℕ) → Reads (leavingArea f out) (f .leaving .domain) (f .leaving .spellings) (forwardOf f .label) (keptOf (f .area))
+  reads-again out = rw (area-is out, label-is) (read-again s (keptOf (f .area)) m (p .fits .room) (f .leaving .spellings) spells again (f .leaving .domain) refl)
 
 -- A second forwarding, of what has left, through equal domains.
 module _ (f g : Forwarding) (out out′ : List ℕ) (e : forwardOf f .number ≡ 0) (e′ : forwardOf g .number ≡ 0) (area : g .area ≡ leavingArea f out)
-    (from : g .arriving .domain ≡ f .leaving .domain) (to : g .leaving .domain ≡ f .leaving .domain) where
+    (from : g .arriving .domain ≡ f .leaving .domain) (to : g .leaving .domain ≡ f .leaving .domain)
+    (set : g .leaving .spellings ≡ f .leaving .spellings) where
   same-label : leavingLabel (crossing g) ≡ leavingLabel (crossing f)
   same-label =
       let q = p g e′ in
@@ -164,7 +166,7 @@ module _ (f g : Forwarding) (out out′ : List ℕ) (e : forwardOf f .number ≡
   same-kept = ap keptOf area ∙ reads-again f e out .kept
 
   same-option : p g e′ .fits .octets ≡ p f e .fits .octets
-  same-option = same-some (sym (spelled g e′) ∙ ap spelledOf same-label ∙ spelled f e)
+  same-option = same-some (sym (spelled g e′) ∙ (λ i. spelledOf (set i) (same-label i)) ∙ spelled f e)
 
   pub forwarded-again : (forwardOf g ≡ forwardOf f) × (leavingArea g out′ ≡ leavingArea f out)
   forwarded-again = (

@@ -8,6 +8,7 @@ use lib.ListN.{length, take}
 use Rattle.label.specs.declared.Label.{Label}
 use Rattle.label.specs.Label.{leq}
 use Rattle.option.specs.Option.{Octets}
+use Rattle.option.specs.declared.Spellings.{Spellings}
 use Rattle.option.specs.Theorems.{Spells}
 use Rattle.area.specs.declared.Place.the-variants.{Nowhere, At}
 use Rattle.area.specs.declared.Walk.the-variants.{Sound}
@@ -28,12 +29,12 @@ pub record Counts (n s k : ℕ) : Type 0 where
   pub most : n < s + k + 4
   pub fits : n ≤ 40
 
--- an area that a datagram with this label and these kept options may leave with, in a domain: it passes checks 1, 3 to 5 and, at any port of the
--- domain, 6 to 13; its option 134 is the spelling of the label; its label and kept options are these
-pub record Reads (a : List ℕ) (domain : ℕ) (l : Label) (ks : List ℕ) : Type 0 where
+-- an area that a datagram with this label and these kept options may leave with, in a domain and with permitted spellings: it passes checks 1, 3 to
+-- 5 and, at any port of the domain, 6 to 13; its option 134 is the spelling of the label; its label and kept options are these
+pub record Reads (a : List ℕ) (domain : ℕ) (permitted : Spellings) (l : Label) (ks : List ℕ) : Type 0 where
   pub area : AreaSound a
   pub walk : walkOf a ≡ Sound (At 0)
-  pub spelled : Spells (optionAt 0 a) l
+  pub spelled : Spells permitted (optionAt 0 a) l
   pub required : (p : Port) → p .domain ≡ domain → requiredCheck p a ≡ none
   pub option : (p : Port) → p .domain ≡ domain → optionCheck p a ≡ none
   pub label : (p : Port) → p .domain ≡ domain → arrivingLabel p a ≡ l
@@ -71,17 +72,18 @@ pub record PointsInto (area : List ℕ) (d : Decision) : Type 0 where
 
 pub record Guards : Type 0 where
   pub count : (f : Forwarding) → forwardOf f .number ≡ 0
-      → (s : List ℕ) × Spells s (forwardOf f .label) × Counts (forwardOf f .count) (length s) (length (keptOf (f .area)))
+      → (s : List ℕ) × Spells (f .leaving .spellings) s (forwardOf f .label) × Counts (forwardOf f .count) (length s) (length (keptOf (f .area)))
   -- the leaving area, read again at a port of the leaving domain
   pub again : (f : Forwarding) (out : List ℕ) → forwardOf f .number ≡ 0
-      → Reads (leavingArea f out) (f .leaving .domain) (forwardOf f .label) (keptOf (f .area))
-  -- forwarded again through equal domains, nothing changes
+      → Reads (leavingArea f out) (f .leaving .domain) (f .leaving .spellings) (forwardOf f .label) (keptOf (f .area))
+  -- forwarded again through equal domains with the same permitted spellings, nothing changes
   pub same : (f g : Forwarding) (out out′ : List ℕ)
       → forwardOf f .number ≡ 0
       → forwardOf g .number ≡ 0
       → g .area ≡ leavingArea f out
       → g .arriving .domain ≡ f .leaving .domain
       → g .leaving .domain ≡ f .leaving .domain
+      → g .leaving .spellings ≡ f .leaving .spellings
       → (forwardOf g ≡ forwardOf f) × (leavingArea g out′ ≡ leavingArea f out)
   -- pointers
   pub forward : (f : Forwarding) → forwardOf f .kind ≡ 12 → forwardOf f .code ≡ 0 → PointsInto (f .area) (forwardOf f)

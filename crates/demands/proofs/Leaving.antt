@@ -1,0 +1,20 @@
+-- The worked decisions by the leaving port hold of the definitions.
+use mathlib.Core.Path.{refl}
+use Rattle.label.specs.Runs.{allBelow, subset}
+use Rattle.label.specs.Label.{wellFormed, labelTyped, atMost, leq, inRange, isZero}
+use Rattle.option.specs.Reading.{pieces}
+use Rattle.option.specs.Spelling.{leastForm, formFor, bodyFor, spelledBy, spellingOf}
+use Rattle.reading.specs.Reading.{readingFor, readingBy, tagChecks, labelIn}
+use Rattle.area.specs.Area.{metFrom, metOf, walkOf}
+use Rattle.leaving.specs.Kept.{keptOf}
+use Rattle.port.specs.Port.{rangeSound, assignedSound, portSound, hostSound}
+use Rattle.label.specs.Range.{setInRange}
+use Rattle.arrival.specs.Checks.{walkCheck, requiredCheck, optionCheck, arrivingLabel, rangeCheck, deliverySizes, deliveryRecords, hostCheck}
+use Rattle.arrival.specs.Decision.{silenced, deliverOf}
+use Rattle.gateway.specs.Crossing.{sizes, records, numberCheck, leavingLevel, leavingRuns, leavingCheck, spellingCheck}
+use Rattle.gateway.specs.Forward.{forwardOf, outputOf}
+use Rattle.demands.specs.Leaving.{LeavingDecisions}
+
+pub leaving-decisions : LeavingDecisions
+unfolding subset allBelow wellFormed labelTyped atMost leq inRange isZero pieces leastForm formFor bodyFor spelledBy spellingOf readingFor readingBy tagChecks labelIn metFrom metOf walkOf keptOf rangeSound assignedSound portSound hostSound setInRange walkCheck requiredCheck optionCheck arrivingLabel rangeCheck deliverySizes deliveryRecords hostCheck silenced deliverOf sizes records numberCheck leavingLevel leavingRuns leavingCheck spellingCheck forwardOf outputOf
+leaving-decisions = refl
