@@ -7,8 +7,9 @@ use native.Mathlib.Nat.{add-zero}
 use native.Mathlib.Omega.{arith}
 use borrow.Author.Tests.{ltb-false, leb-true, eqb-true}
 use lib.ListN.{length, getD, take, drop, length-drop, drop-of-length-le}
-use lib.Seq.{take-all, getD-drop}
+use lib.Seq.{getD-drop}
 use lib.Dec.{ltb, leb, eqb}
+use Rattle.lists.proofs.Laws.{tail-is}
 use Rattle.area.specs.declared.Kind.{Kind}
 use Rattle.area.specs.declared.Kind.the-variants.{End, NoOperation, Basic, Extended, Cipso, Other}
 use Rattle.area.specs.declared.Size.{Size}
@@ -106,10 +107,6 @@ pub walk-turn : (on : Bool) (l : List ℕ) (at : ℕ) (label basic : Place) → 
     → judged on (metFrom l 0 at) label basic ≡ afterTurn on l at (turnOf on (kindOf (getD l 0 0)) (sizeOf l) at label basic)
 walk-turn on l at label basic h =
     ap (λ (ms : List Met). judged on ms label basic) (met-turn l at h) ∙ judged-front on l at (kindOf (getD l 0 0)) (sizeOf l) label basic
-
--- the part `&l[a..]`
-pub tail-is : (l : List ℕ) (a : ℕ) → take (length l - a) (drop a l) ≡ drop a l
-tail-is l a = take-all (length l - a) (drop a l) (simp length-drop (omega arith))
 
 -- a turn that goes on passes over the whole option
 turn-on : (on : Bool) (k : Kind) (z : Size) (at : ℕ) (label basic : Place) (n : ℕ) (l b : Place) → turnOf on k z at label basic ≡ On n l b → spanOf k z ≡ Whole n

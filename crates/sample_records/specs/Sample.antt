@@ -7,8 +7,8 @@ use Rattle.label.specs.Runs.{run}
 use Rattle.label.specs.Label.{labelOf, zeroLabel}
 use Rattle.port.specs.declared.Port.{Port}
 use Rattle.port.specs.Port.{plainPort}
-use Rattle.table.specs.declared.Row.{Row}
 use Rattle.table.specs.declared.Table.{Table}
+use Rattle.table.specs.Table.{row}
 
 -- "both ports require labels. Arriving: domain 5, level 1 with no categories to level 5 with 0..300. Leaving: domain 9, level 0 with none to
 -- level 255 with all."
@@ -17,9 +17,6 @@ arriving = plainPort 5 (labelOf 5 1 []) (labelOf 5 5 (run 0 300 ∷ [])) true ze
 
 abbrev pub leaving : Port
 leaving = plainPort 9 (labelOf 9 0 []) (labelOf 9 255 (run 0 65534 ∷ [])) true zeroLabel
-
-abbrev pub row : ℕ → ℕ → ℕ → Row
-row l h t = record { low = l; high = h; target = t }
 
 -- "Table: levels 1→2, 3→4, 5→6; rows 0..99→1000, 100..300→0."
 abbrev pub table : Table
