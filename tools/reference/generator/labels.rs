@@ -33,6 +33,24 @@ pub fn spelled_permitted(random: &mut Random, turn: usize, _number: u8) -> Made 
     Made::Case(Case::SpellPermitted(label, permitted, random_output(random)))
 }
 
+/// Labels for which two or three forms have equal lengths, under sets that permit them: the ten-octet form with tag 2, with tag 5 and with
+/// both, and tag 2 with tag 5.
+pub fn spelled_tie(random: &mut Random, turn: usize, _number: u8) -> Made {
+    let pairs_apart = |first: u16, step: u16| Run { low: first, high: first + step };
+    let step = random.between(0, 3) as u16;
+    let (runs, sets): (Vec<Run>, &[u8]) = match turn % 4 {
+        // Five categories that are not neighbours.
+        0 => (singles((0..5).map(|place| 1 + step + 9 * place)), &[6, 14]),
+        // Three runs with category 0, of more than five categories.
+        1 => (vec![pairs_apart(0, 3 + step), pairs_apart(20, 2), pairs_apart(40 + step, 8)], &[10, 14]),
+        // Five categories in three runs with category 0.
+        2 => (vec![pairs_apart(0, 0), pairs_apart(2 + step, 1), pairs_apart(10, 1)], &[6, 10, 12, 14]),
+        _ => (vec![pairs_apart(1 + step, 1), pairs_apart(90, 1)], &[12, 14]),
+    };
+    let label = held(random_domain(random), random_level(random), &runs);
+    Made::Case(Case::SpellPermitted(label, sets[turn / 4 % sets.len()], random_output(random)))
+}
+
 /// Every set of permitted spellings, the empty one too, and labels that none of it means.
 pub fn spell_not_permitted(random: &mut Random, turn: usize, _number: u8) -> Made {
     let label = if random.chance(1, 6) {

@@ -272,6 +272,7 @@ fn all_slots() -> Vec<Slot> {
         slot(SPELL_PERMITTED, 1, "1", spell_permitted_short),
         slot(SPELL_PERMITTED, 1, "2", spell_permitted_ill_formed),
         slot(SPELL_PERMITTED, 3, "18", spell_not_permitted),
+        slot(SPELL_PERMITTED, 2, "0", spelled_tie),
         slot(FORWARD_WIDE, 1, "1", wide_forward_wrong_size),
         slot(FORWARD_WIDE, 3, "2", wide_forward_unsound),
         slot(FORWARD_WIDE, 1, "3", wide_forward_broken),
