@@ -9,10 +9,11 @@ use lib.ListN.{length, getD, take, drop, replicate, length-append, length-replic
 use lib.Seq.{take-at}
 use Rattle.label.specs.declared.Label.{Label}
 use Rattle.label.proofs.Bools.{and-left, and-right}
+use Rattle.option.specs.declared.Spellings.{Spellings}
 use Rattle.option.specs.Spelling.{spelledOf}
 use Rattle.option.specs.Theorems.{Spells}
 use Rattle.option.proofs.Meaning.{parts}
-use Rattle.option.proofs.Spellings.{one-spelling}
+use Rattle.option.proofs.OneSpelling.{one-spelling}
 use Rattle.area.specs.declared.Kind.the-variants.{Cipso}
 use Rattle.area.specs.declared.Place.{Place}
 use Rattle.area.specs.declared.Place.the-variants.{At}
@@ -64,26 +65,26 @@ module _ (s kept : List ℕ) (h : length s + length kept ≤ 40) where
       ap (take n) e ∙ take-at (laid s kept) (replicate (40 - n) 0 ++ drop 40 out) n laid-length
 
 -- Read again: an option that spells the label, what another area kept, with the octets of its option 130, and zeros.
-module _ (on : Bool) (s kept : List ℕ) (c : Option (List ℕ)) (l : Label) (h : length s + length kept ≤ 40) (sp : Spells s l) (a : Again on kept c) where
+module _ (on : Bool) (s kept : List ℕ) (c : Option (List ℕ)) (l : Label) (h : length s + length kept ≤ 40) (set : Spellings) (sp : Spells set s l) (a : Again on kept c) where
   starts : Starts s Cipso
   starts =
-      let p = parts s (sp .means .good) in
+      let p = parts s (sp .permitted .means .good) in
       record { kind = ap kindOf (p .kind); size = p .size; least = omega (arith, p .long) }
 
   option-is : optionAt 0 (laid s kept) ≡ s
   option-is =
-      let p = parts s (sp .means .good) in
+      let p = parts s (sp .permitted .means .good) in
       let g : getD (laid s kept) 1 0 ≡ length s = List·getD-append s _ 0 1 (omega (arith, p .long)) ∙ p .size in
       rw g (take-at s _ (length s) refl)
 
   walked : (b : Place) × (walkOf on (laid s kept) ≡ Sound (At 0) b)
-  walked = front-walk on s kept c (padding s kept) starts (parts s (sp .means .good) .kind) a
+  walked = front-walk on s kept c (padding s kept) starts (parts s (sp .permitted .means .good) .kind) a
 
   walked-at : (p : Port) → p .basic .on ≡ on → walkAt p (laid s kept) ≡ Sound (At 0) (walked .0)
   walked-at p e = ap (λ (t : Bool). walkOf t (laid s kept)) e ∙ walked .1
 
   kept-is : keptOf (laid s kept) ≡ kept
-  kept-is = front-kept on s kept c (padding s kept) starts (parts s (sp .means .good) .kind) a
+  kept-is = front-kept on s kept c (padding s kept) starts (parts s (sp .permitted .means .good) .kind) a
 
   basic-is : (p : Port) → p .basic .on ≡ on → arrivingBasic p (laid s kept) ≡ c
   basic-is p e =
@@ -92,9 +93,9 @@ module _ (on : Bool) (s kept : List ℕ) (c : Option (List ℕ)) (l : Label) (h 
       ∙ a .found kept 0 0 (sym (append-nil kept))
 
   labelled : (p : Port) → p .basic .on ≡ on → p .domain ≡ l .domain → LabelOf p (laid s kept) l
-  labelled p e d = own 0 (walked .0) (walked-at p e) (rw option-is (sp .means)) (sym d)
+  labelled p e d = own 0 (walked .0) (walked-at p e) (rw option-is (sp .permitted .means)) (sym d)
 
-  pub read-again : (domain : ℕ) → l .domain ≡ domain → Reads (laid s kept) on domain l c kept
+  pub read-again : (domain : ℕ) → l .domain ≡ domain → Reads (laid s kept) on domain set l c kept
   read-again domain d =
       let k = counts (length s) (length kept) h in
       let n = laid-length s kept h in
@@ -133,11 +134,11 @@ module _ (f : Forwarding) (e : forwardOf f .number ≡ 0) where
   pub label-is : forwardOf f .label ≡ m
   label-is = ap (λ (d : Decision). d .label) (is-done [] .0)
 
-  pub spelled : spelledOf m ≡ some s
+  pub spelled : spelledOf (f .leaving .spellings) m ≡ some s
   spelled = leaving-spelled (crossing f) ∙ p .fits .spelled
 
-  spells : Spells s m
-  spells = one-spelling .spells m s (passed-formed f p) .0 spelled
+  spells : Spells (f .leaving .spellings) s m
+  spells = one-spelling .spells (f .leaving .spellings) m s (passed-formed f p) .0 spelled
 
   pub area-is : (out : List ℕ) → leavingArea f out ≡ laid s (keptOf (f .area))
   area-is out = rw count-is (ap (take (roundUp (length s + length (keptOf (f .area))))) (is-done out .1) ∙ laid-first s (keptOf (f .area)) (p .fits .room) out)
@@ -149,18 +150,19 @@ module _ (f : Forwarding) (e : forwardOf f .number ≡ 0) where
       let c : octetsAt (q .1) (f .area) ≡ octetsAt (basicIn (walkAt (f .arriving) (f .area))) (f .area) = ap (λ (w : Walk). octetsAt (basicIn w) (f .area)) (sym (q .2)) in
       transport (λ i. Again (same-switch f p i) (keptOf (f .area)) (c i)) (kept-again (f .arriving .basic .on) (f .area) (q .0) (q .1) (q .2))
 
-  pub counted : (s : List ℕ) × Spells s (forwardOf f .label) × Counts (forwardOf f .count) (length s) (length (keptOf (f .area)))
+  pub counted : (s : List ℕ) × Spells (f .leaving .spellings) s (forwardOf f .label) × Counts (forwardOf f .count) (length s) (length (keptOf (f .area)))
   counted = (s, rw label-is spells, rw count-is (counts (length s) (length (keptOf (f .area))) (p .fits .room)))
 
   pub reads-again : (out : List ℕ)
-      → Reads (leavingArea f out) (f .leaving .basic .on) (f .leaving .domain) (forwardOf f .label) (arrivingBasic (f .arriving) (f .area)) (keptOf (f .area))
+      → Reads (leavingArea f out) (f .leaving .basic .on) (f .leaving .domain) (f .leaving .spellings) (forwardOf f .label) (arrivingBasic (f .arriving) (f .area)) (keptOf (f .area))
   reads-again out =
       rw (area-is out, label-is)
-      (read-again (f .leaving .basic .on) s (keptOf (f .area)) (arrivingBasic (f .arriving) (f .area)) m (p .fits .room) spells again (f .leaving .domain) refl)
+      (read-again (f .leaving .basic .on) s (keptOf (f .area)) (arrivingBasic (f .arriving) (f .area)) m (p .fits .room) (f .leaving .spellings) spells again (f .leaving .domain) refl)
 
 -- A second forwarding, of what has left, through equal domains.
 module _ (f g : Forwarding) (out out′ : List ℕ) (e : forwardOf f .number ≡ 0) (e′ : forwardOf g .number ≡ 0) (area : g .area ≡ leavingArea f out)
-    (from : g .arriving .domain ≡ f .leaving .domain) (to : g .leaving .domain ≡ f .leaving .domain) where
+    (from : g .arriving .domain ≡ f .leaving .domain) (to : g .leaving .domain ≡ f .leaving .domain)
+    (set : g .leaving .spellings ≡ f .leaving .spellings) where
   same-kept : keptOf (g .area) ≡ keptOf (f .area)
   same-kept = ap keptOf area ∙ reads-again f e out .kept
 
@@ -186,7 +188,7 @@ module _ (f g : Forwarding) (out out′ : List ℕ) (e : forwardOf f .number ≡
       ∙ label-is f e
 
   same-option : p g e′ .fits .octets ≡ p f e .fits .octets
-  same-option = same-some (sym (spelled g e′) ∙ ap spelledOf same-label ∙ spelled f e)
+  same-option = same-some (sym (spelled g e′) ∙ (λ i. spelledOf (set i) (same-label i)) ∙ spelled f e)
 
   pub forwarded-again : (forwardOf g ≡ forwardOf f) × (leavingArea g out′ ≡ leavingArea f out)
   forwarded-again = (

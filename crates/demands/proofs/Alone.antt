@@ -11,6 +11,7 @@ use Rattle.label.specs.declared.Run.{Run}
 use Rattle.label.specs.declared.Label.{Label}
 use Rattle.label.specs.Label.{used, labelOf, zeroLabel, emptyOf, wellFormed, member, atMost, leq}
 use Rattle.option.specs.Option.{domainOf}
+use Rattle.option.specs.declared.Spellings.{Spellings}
 use Rattle.option.specs.Spelling.{spelledOf}
 use Rattle.reading.specs.declared.Reading.{Reading}
 use Rattle.reading.specs.Reading.{Check, check, notRead, checkedReading, framed, tagChecks, labelIn, readingBy, readingOf}
@@ -55,9 +56,9 @@ reads o c f = go (framed o) refl ∙ first-is (readChecks o) c (labelIn o) f
     go false e = refl
 
 -- Spelling.
-number-is : (l : Label) (n : ℕ) → spellingNumber l n ≡ checkedReading (spellChecks l n) zeroLabel .number
+number-is : (p : Spellings) (l : Label) (n : ℕ) → spellingNumber p l n ≡ checkedReading (spellChecks p l n) zeroLabel .number
 unfolding spellingNumber
-number-is l n = go (ltb n 40) (wellFormed l) (lacking (spelledOf l))
+number-is p l n = go (ltb n 40) (wellFormed l) (lacking (spelledOf p l))
   where
     go : (a b c : Bool) → cond a 1 (cond (not b) 2 (cond c 18 0)) ≡ checkedReading (check a 1 0 ∷ check (not b) 2 0 ∷ check c 18 0 ∷ []) zeroLabel .number
     go true b c = refl
@@ -65,13 +66,13 @@ number-is l n = go (ltb n 40) (wellFormed l) (lacking (spelledOf l))
     go false true true = refl
     go false true false = refl
 
-spells : (l : Label) (out : List ℕ) (c : Check) → FirstCheck (spellChecks l (length out)) c
-    → (spellingAnswer l (length out) ≡ record { number = c .number; count = 0 }) × (spellingOut l out ≡ out)
-spells l out c f =
-    let r = real-is (spellChecks l (length out)) c f (λ z. omega arith, (λ z. omega arith, (λ z. omega arith, tt))) in
-    let e : spellingNumber l (length out) ≡ c .number =
-    number-is l (length out) ∙ ap (λ (x : Reading). x .number) (first-is (spellChecks l (length out)) c zeroLabel f) in
-    (answer-refused l (length out) (c .number) r e, out-refused l out (c .number) r e)
+spells : (p : Spellings) (l : Label) (out : List ℕ) (c : Check) → FirstCheck (spellChecks p l (length out)) c
+    → (spellingAnswer p l (length out) ≡ record { number = c .number; count = 0 }) × (spellingOut p l out ≡ out)
+spells p l out c f =
+    let r = real-is (spellChecks p l (length out)) c f (λ z. omega arith, (λ z. omega arith, (λ z. omega arith, tt))) in
+    let e : spellingNumber p l (length out) ≡ c .number =
+    number-is p l (length out) ∙ ap (λ (x : Reading). x .number) (first-is (spellChecks p l (length out)) c zeroLabel f) in
+    (answer-refused p l (length out) (c .number) r e, out-refused p l out (c .number) r e)
 
 -- Renumbering.
 renumbered-by : (s d : Bool) (q : Partner) (b k : Bool) (to : ℕ) (img : List Run) (n : ℕ) → (n ≡ 0 → ⊥)

@@ -4,6 +4,7 @@ pub mod Second
 pub mod Third
 pub mod Demands
 pub mod Worked
+pub mod Leaving
 pub mod Sample
 pub mod Again
 pub mod Pointers

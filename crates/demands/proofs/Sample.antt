@@ -14,8 +14,9 @@ use Rattle.label.specs.Label.{labelOf, wellFormed, labelTyped, member, atMost, 
 use Rattle.label.proofs.Bools.{and-left, and-right, or-cases, never}
 use Rattle.option.specs.Option.{Means}
 use Rattle.option.specs.Reading.{pieces}
-use Rattle.option.specs.Spelling.{tagFor, bodyFor, spelledBy, spellingOf, spelledOf}
-use Rattle.option.proofs.Spellings.{one-spelling}
+use Rattle.option.specs.Permitted.{usual}
+use Rattle.option.specs.Spelling.{leastForm, formFor, bodyFor, spelledBy, spellingOf, spelledOf}
+use Rattle.option.proofs.OneSpelling.{one-spelling}
 use Rattle.reading.specs.Reading.{readingOf, readingFor, readingBy, tagChecks, labelIn}
 use Rattle.reading.proofs.Theorems.{reads}
 use Rattle.area.specs.Area.{metFrom, metOf, walkOf}
@@ -95,8 +96,8 @@ means = reads .alone .means first (omega arith) refl
 abbrev spelling : List ℕ
 spelling = 134 ∷ 12 ∷ 0 ∷ 0 ∷ 0 ∷ 9 ∷ 2 ∷ 6 ∷ 0 ∷ 4 ∷ 3 ∷ 232 ∷ []
 
-is-spelled : spelledOf far ≡ some spelling
-unfolding tagFor bodyFor spelledBy spellingOf
+is-spelled : spelledOf usual far ≡ some spelling
+unfolding leastForm formFor bodyFor spelledBy spellingOf
 is-spelled = refl
 
 apart : (_≡_ {A = ℕ} 5 9) → ⊥
@@ -119,7 +120,7 @@ conditions =
       to = λ d. refl;
       numbered = λ d. carried;
       leaves = refl;
-      spelled = one-spelling .spells far spelling formed-far .0 is-spelled;
+      spelled = one-spelling .spells usual far spelling formed-far .0 is-spelled;
       fits = omega arith;
     }
 

@@ -15,7 +15,7 @@ use Rattle.label.proofs.Bools.{and-left, and-right, and-both, or-none}
 use Rattle.option.specs.Option.{Octets, Means}
 use Rattle.option.specs.Spelling.{spelledOf}
 use Rattle.option.specs.Theorems.{Spells}
-use Rattle.option.proofs.Spellings.{one-spelling}
+use Rattle.option.proofs.OneSpelling.{one-spelling}
 use Rattle.reading.specs.declared.Reading.{Reading}
 use Rattle.reading.specs.Reading.{found, readingFor}
 use Rattle.reading.proofs.Theorems.{reads}
@@ -169,7 +169,7 @@ module _ (f : Forwarding) (p : Passed f) where
         to = λ h. over h .to;
         numbered = λ h. crossed-carried x formed domain leaving-sound (table-sound h) (over h) .far;
         leaves = leaves;
-        spelled = one-spelling .spells (leavingLabel x) (p .fits .octets) (passed-formed f p) .0 (leaving-spelled x ∙ p .fits .spelled);
+        spelled = one-spelling .spells (f .leaving .spellings) (leavingLabel x) (p .fits .octets) (passed-formed f p) .0 (leaving-spelled x ∙ p .fits .spelled);
         fits = p .fits .room;
       }
 
@@ -225,10 +225,10 @@ module _ (f : Forwarding) (l m : Label) (s : List ℕ) (h : Forwards f l m s) wh
           record { none = q .0; label = sym (ap (λ (z : Renumbered). z .label) (q .1)) }
 
   m-formed : wellFormed m ≡ true
-  m-formed = h .spelled .means .label
+  m-formed = h .spelled .permitted .means .label
 
   pub option-is : leavingOption y ≡ some s
-  option-is = sym (leaving-spelled y) ∙ ap spelledOf (crosses .label) ∙ one-spelling .spells m s m-formed .1 (h .spelled)
+  option-is = sym (leaving-spelled y) ∙ ap (spelledOf (f .leaving .spellings)) (crosses .label) ∙ one-spelling .spells (f .leaving .spellings) m s m-formed .1 (h .spelled)
 
   reaches : firstOf (reachChecks f) ≡ none
   reaches =

@@ -1,5 +1,5 @@
 -- Demand 3: one label, one spelling.
-use mathlib.Core.Path.{_≡_, refl, sym, _∙_, ap}
+use mathlib.Core.Path.{_≡_, refl, sym, _∙_, ap, subst}
 use mathlib.Core.Bool.{Bool, true, false, not, true≢false}
 use mathlib.Core.List.{List, [], _∷_, _++_, append-assoc}
 use mathlib.Core.Logic.{_⊎_, inl, inr, ⊎-elim, _↔_}
@@ -11,9 +11,11 @@ use lib.Seq.{take-append-seam, take-at}
 use Rattle.label.specs.declared.Label.{Label}
 use Rattle.label.specs.Label.{wellFormed, inRange}
 use Rattle.option.specs.Option.{Octets, Means}
+use Rattle.option.specs.declared.Spellings.{Spellings}
+use Rattle.option.specs.Permitted.{usual, Permitted}
 use Rattle.option.specs.Spelling.{padded, spelledOf}
-use Rattle.option.specs.Theorems.{Spells}
-use Rattle.option.proofs.Spellings.{one-spelling, spelled-or-none}
+use Rattle.option.specs.Theorems.{Spells, Shortest}
+use Rattle.option.proofs.OneSpelling.{one-spelling, usual-spelling, spelled-or-none}
 use Rattle.reading.specs.Reading.{found, readingFor}
 use Rattle.reading.proofs.Theorems.{reads}
 use Rattle.spelling.specs.Spelling.{lacking, lengthOf, spellingAnswer, spellingOut}
@@ -39,27 +41,27 @@ lacks : (o : Option (List ℕ)) → lacking o ≡ false → (s : List ℕ) × (o
 lacks none e = absurd (true≢false e)
 lacks (some s) e = (s, refl)
 
-module _ (l : Label) (out : List ℕ) (w : wellFormed l ≡ true) (long : 40 ≤ length out) where
-  pub spelled-when : spellingAnswer l (length out) .number ≡ 0 → (s : List ℕ) × (spelledOf l ≡ some s)
-  spelled-when e = lacks (spelledOf l) (spelling-alone .done l out w long .0 e)
+module _ (set : Spellings) (l : Label) (out : List ℕ) (w : wellFormed l ≡ true) (long : 40 ≤ length out) where
+  pub spelled-when : spellingAnswer set l (length out) .number ≡ 0 → (s : List ℕ) × (spelledOf set l ≡ some s)
+  spelled-when e = lacks (spelledOf set l) (spelling-alone .done set l out w long .0 e)
 
-  when-spelled : (s : List ℕ) → spelledOf l ≡ some s → spellingAnswer l (length out) .number ≡ 0
-  when-spelled s e = spelling-alone .done l out w long .1 (ap lacking e)
+  when-spelled : (s : List ℕ) → spelledOf set l ≡ some s → spellingAnswer set l (length out) .number ≡ 0
+  when-spelled s e = spelling-alone .done set l out w long .1 (ap lacking e)
 
-  pub refused-exactly : (spellingAnswer l (length out) .number ≡ 0 → ⊥) ↔ ((o : List ℕ) → Means o l → ⊥)
+  pub refused-exactly : (spellingAnswer set l (length out) .number ≡ 0 → ⊥) ↔ ((o : List ℕ) → Permitted set o l → ⊥)
   refused-exactly = (
-    λ h. one-spelling .refused l w .0 (⊎-elim (λ e. e) (λ p. absurd (h (when-spelled (p .0) (p .1)))) (spelled-or-none l w)),
-    λ n e. (let p = spelled-when e in n (p .0) (one-spelling .spells l (p .0) w .0 (p .1) .means)),
+    λ h. one-spelling .refused set l w .0 (⊎-elim (λ e. e) (λ p. absurd (h (when-spelled (p .0) (p .1)))) (spelled-or-none l w set)),
+    λ n e. (let p = spelled-when e in n (p .0) (one-spelling .spells set l (p .0) w .0 (p .1) .permitted)),
   )
 
-  pub spelled-alone : spellingAnswer l (length out) .number ≡ 0
-      → (s : List ℕ) × Spells s l × (spellingAnswer l (length out) .count ≡ length s) × (take 40 (spellingOut l out) ≡ padded s)
+  pub spelled-alone : spellingAnswer set l (length out) .number ≡ 0
+      → (s : List ℕ) × Spells set s l × (spellingAnswer set l (length out) .count ≡ length s) × (take 40 (spellingOut set l out) ≡ padded s)
   spelled-alone e =
       let p = spelled-when e in
-      (p .0, one-spelling .spells l (p .0) w .0 (p .1), spelling-alone .counted l out (p .0) w long (p .1), spelling-alone .written l out (p .0) w long (p .1))
+      (p .0, one-spelling .spells set l (p .0) w .0 (p .1), spelling-alone .counted set l out (p .0) w long (p .1), spelling-alone .written set l out (p .0) w long (p .1))
 
 pub spelled-in-area : (f : Forwarding) (out : List ℕ) → Octets (f .area) → forwardOf f .number ≡ 0
-    → (s : List ℕ) × Spells s (forwardOf f .label) × (take (length s) (outputOf f out) ≡ s)
+    → (s : List ℕ) × Spells (f .leaving .spellings) s (forwardOf f .label) × (take (length s) (outputOf f out) ≡ s)
 spelled-in-area f out oct e =
     let c = demand2 .only f oct e in
     let q = demand2 .always f (c .0) (c .1) (c .2) out (c .3) in (
@@ -68,14 +70,36 @@ spelled-in-area f out oct e =
       ap (take (length (c .2))) (q .1) ∙ take-append-seam (c .2) _,
     )
 
-pub told-apart : (a b : Label) (out out′ : List ℕ) → wellFormed a ≡ true → wellFormed b ≡ true → 40 ≤ length out → 40 ≤ length out′
-    → spellingAnswer a (length out) .number ≡ 0 → spellingAnswer b (length out′) .number ≡ 0
-    → (take 40 (spellingOut a out) ≡ take 40 (spellingOut b out′)) ↔ (a ≡ b)
-told-apart a b out out′ wa wb ha hb ea eb =
-    let p = spelled-alone a out wa ha ea in
-    let q = spelled-alone b out′ wb hb eb in
-    let t = one-spelling .told a b (p .0) (q .0) wa wb (one-spelling .spells a (p .0) wa .1 (p .1)) (one-spelling .spells b (q .0) wb .1 (q .1)) in
+pub told-apart : (set : Spellings) (a b : Label) (out out′ : List ℕ) → wellFormed a ≡ true → wellFormed b ≡ true → 40 ≤ length out → 40 ≤ length out′
+    → spellingAnswer set a (length out) .number ≡ 0 → spellingAnswer set b (length out′) .number ≡ 0
+    → (take 40 (spellingOut set a out) ≡ take 40 (spellingOut set b out′)) ↔ (a ≡ b)
+told-apart set a b out out′ wa wb ha hb ea eb =
+    let p = spelled-alone set a out wa ha ea in
+    let q = spelled-alone set b out′ wb hb eb in
+    let t = one-spelling .told set a b (p .0) (q .0) wa wb (one-spelling .spells set a (p .0) wa .1 (p .1)) (one-spelling .spells set b (q .0) wb .1 (q .1)) in
     (λ e. t .0 (sym (p .3) ∙ e ∙ q .3), λ e. p .3 ∙ t .1 e ∙ sym (q .3))
+
+-- With tags 1, 2 and 5 permitted: the spelling is the shortest of all valid options, and where there is none no valid option means the label.
+
+usual-shortest : (l : Label) (s : List ℕ) → wellFormed l ≡ true → Spells usual s l → Shortest s l
+usual-shortest l s w q = usual-spelling .spells l s w .0 (one-spelling .spells usual l s w .1 q)
+
+refused-usual : (l : Label) (out : List ℕ) → wellFormed l ≡ true → 40 ≤ length out → (spellingAnswer usual l (length out) .number ≡ 0 → ⊥) ↔ ((o : List ℕ) → Means o l → ⊥)
+refused-usual l out w long = (
+  λ h. usual-spelling .refused l w .0 (one-spelling .refused usual l w .1 (refused-exactly usual l out w long .0 h)),
+  λ n. refused-exactly usual l out w long .1 (λ o q. n o (q .means)),
+)
+
+alone-usual : (l : Label) (out : List ℕ) → wellFormed l ≡ true → 40 ≤ length out → spellingAnswer usual l (length out) .number ≡ 0
+    → (s : List ℕ) × Shortest s l × (spellingAnswer usual l (length out) .count ≡ length s) × (take 40 (spellingOut usual l out) ≡ padded s)
+alone-usual l out w long e = let p = spelled-alone usual l out w long e in (p .0, usual-shortest l (p .0) w (p .1), p .2, p .3)
+
+leaving-usual : (f : Forwarding) (out : List ℕ) → Octets (f .area) → f .leaving .spellings ≡ usual → forwardOf f .number ≡ 0
+    → (s : List ℕ) × Shortest s (forwardOf f .label) × (take (length s) (outputOf f out) ≡ s)
+leaving-usual f out oct u e =
+    let p = spelled-in-area f out oct e in
+    let q : Spells usual (p .0) (forwardOf f .label) = subst (λ (x : Spellings). Spells x (p .0) (forwardOf f .label)) u (p .1) in
+    (p .0, usual-shortest (forwardOf f .label) (p .0) (q .permitted .means .label) q, p .2)
 
 -- Equal decisions.
 
@@ -194,6 +218,9 @@ demand3 =
       refused = refused-exactly;
       alone = spelled-alone;
       leaving = spelled-in-area;
+      usual-refused = refused-usual;
+      usual-alone = alone-usual;
+      usual-leaving = leaving-usual;
       back = reads .alone .back;
       told = told-apart;
       decided = λ f g l a. decided-alike f g l a;

@@ -3,7 +3,7 @@ use mathlib.Core.Path.{refl}
 use Rattle.label.specs.Runs.{allBelow, subset}
 use Rattle.label.specs.Label.{wellFormed, labelTyped, atMost, leq, inRange, isZero}
 use Rattle.option.specs.Reading.{pieces}
-use Rattle.option.specs.Spelling.{tagFor, bodyFor, spelledBy, spellingOf}
+use Rattle.option.specs.Spelling.{leastForm, formFor, bodyFor, spelledBy, spellingOf}
 use Rattle.reading.specs.Reading.{readingFor, readingBy, tagChecks, labelIn}
 use Rattle.area.specs.Area.{metFrom, metOf, walkOf}
 use Rattle.leaving.specs.Kept.{keptOf}
@@ -21,5 +21,5 @@ use Rattle.gateway.specs.Forward.{forwardOf, outputOf}
 use Rattle.demands.specs.Worked.{WorkedDecisions}
 
 pub worked-decisions : WorkedDecisions
-unfolding subset allBelow wellFormed labelTyped atMost leq inRange isZero pieces tagFor bodyFor spelledBy spellingOf readingFor readingBy tagChecks labelIn metFrom metOf walkOf keptOf isLevel rankOf basicValid basicReading settings.atMost waySound wayZero basicSound passesWay rangeSound assignedSound portSound hostSound setInRange walkCheck requiredCheck optionCheck badBasicCheck arrivingBasic missingBasicCheck basicRangeCheck leavingBasicCheck arrivingLabel rangeCheck deliverySizes deliveryRecords hostCheck silenced deliverOf sizes records numberCheck leavingLevel leavingRuns leavingCheck spellingCheck forwardOf outputOf
+unfolding subset allBelow wellFormed labelTyped atMost leq inRange isZero pieces leastForm formFor bodyFor spelledBy spellingOf readingFor readingBy tagChecks labelIn metFrom metOf walkOf keptOf isLevel rankOf basicValid basicReading settings.atMost waySound wayZero basicSound passesWay rangeSound assignedSound portSound hostSound setInRange walkCheck requiredCheck optionCheck badBasicCheck arrivingBasic missingBasicCheck basicRangeCheck leavingBasicCheck arrivingLabel rangeCheck deliverySizes deliveryRecords hostCheck silenced deliverOf sizes records numberCheck leavingLevel leavingRuns leavingCheck spellingCheck forwardOf outputOf
 worked-decisions = (refl, refl, refl)

@@ -11,6 +11,7 @@ use Rattle.demands.specs.First.{FirstOf}
 use Rattle.label.specs.declared.Label.{Label}
 use Rattle.label.specs.Label.{used, labelOf, zeroLabel, emptyOf, wellFormed, member, leq}
 use Rattle.option.specs.Option.{domainOf}
+use Rattle.option.specs.declared.Spellings.{Spellings}
 use Rattle.option.specs.Spelling.{spelledOf}
 use Rattle.reading.specs.Reading.{Check, check, framed, tagChecks, readingOf}
 use Rattle.spelling.specs.Spelling.{lacking, spellingAnswer, spellingOut}
@@ -26,8 +27,8 @@ abbrev pub readChecks : List ℕ → List Check
 readChecks o = check (not (framed o)) 3 0 ∷ check (ltb (length o) 10) 7 1 ∷ check (eqb (domainOf o) 0) 8 2 ∷ tagChecks o
 
 -- "Spelling gives 1 for an output under 40, then 2, then 18"
-abbrev pub spellChecks : Label → ℕ → List Check
-spellChecks l n = check (ltb n 40) 1 0 ∷ check (not (wellFormed l)) 2 0 ∷ check (lacking (spelledOf l)) 18 0 ∷ []
+abbrev pub spellChecks : Spellings → Label → ℕ → List Check
+spellChecks p l n = check (ltb n 40) 1 0 ∷ check (not (wellFormed l)) 2 0 ∷ check (lacking (spelledOf p l)) 18 0 ∷ []
 
 -- "Renumbering gives 2 (for an unsound table too), then 16 (also for a foreign domain), then 18 over 120 runs"
 abbrev pub renumberChecks : Label → Table → List (List ℕ) → List Check
@@ -55,8 +56,8 @@ pub record RenumberAlone (l : Label) (t : Table) (ls : List (List ℕ)) : Type 0
 pub record AskedAlone : Type 0 where
   pub read : (o : List ℕ) (c : Check) → FirstCheck (readChecks o) c
       → readingOf o ≡ record { number = c .number; pointer = c .pointer; label = zeroLabel }
-  pub spell : (l : Label) (out : List ℕ) (c : Check) → FirstCheck (spellChecks l (length out)) c
-      → (spellingAnswer l (length out) ≡ record { number = c .number; count = 0 }) × (spellingOut l out ≡ out)
+  pub spell : (p : Spellings) (l : Label) (out : List ℕ) (c : Check) → FirstCheck (spellChecks p l (length out)) c
+      → (spellingAnswer p l (length out) ≡ record { number = c .number; count = 0 }) × (spellingOut p l out ≡ out)
   pub renumber : (l : Label) (t : Table) (ls : List (List ℕ)) (c : Check) → FirstCheck (renumberChecks l t ls) c
       → renumberedOf l t ls ≡ record { number = c .number; label = zeroLabel }
   pub numbers : (l : Label) (t : Table) (ls : List (List ℕ)) → tableSound t ls ≡ true → wellFormed l ≡ true → RenumberAlone l t ls

@@ -11,8 +11,11 @@ use lib.ListN.{length, take, drop}
 use Rattle.label.specs.declared.Label.{Label}
 use Rattle.label.specs.Label.{wellFormed, inRange}
 use Rattle.option.specs.Option.{Octets, Means}
-use Rattle.option.specs.Spelling.{padded, spelledOf}
-use Rattle.option.specs.Theorems.{Spells, OneSpelling}
+use Rattle.option.specs.declared.Spellings.{Spellings}
+use Rattle.option.specs.Permitted as spellings
+use Rattle.option.specs.Permitted.{usual}
+use Rattle.option.specs.Spelling.{padded}
+use Rattle.option.specs.Theorems.{Spells, Shortest}
 use Rattle.reading.specs.Reading.{found, readingOf}
 use Rattle.spelling.specs.Spelling.{spellingAnswer, spellingOut}
 use Rattle.area.specs.declared.Place.{Place}
@@ -99,7 +102,8 @@ pub record Forwards (f : Forwarding) (l m : Label) (s : List ℕ) : Type 0 where
   pub to : (f .arriving .domain ≡ f .leaving .domain → ⊥) → f .table .to ≡ f .leaving .domain
   pub numbered : (f .arriving .domain ≡ f .leaving .domain → ⊥) → Far l (f .table) (f .levels) m
   pub leaves : inRange (f .leaving .lowest) (f .leaving .highest) m ≡ true
-  pub spelled : Spells s m
+  -- a spelling that the leaving port permits (document 02, Wish 5)
+  pub spelled : Spells (f .leaving .spellings) s m
   pub fits : length s + length (keptOf (f .area)) ≤ 40
 
 -- a delivery with label l
@@ -125,7 +129,8 @@ pub record Demand2 : Type 0 where
   pub delivers : (d : Delivery) (l : Label) → Delivers d l → deliverOf d ≡ done l 0
   pub exactly : (d : Delivery) → (deliverOf d .number ≡ 0) ↔ NoneApplies (deliverChecks d)
 
--- Demand 3: "One label, one spelling."
+-- Demand 3: "One label, one spelling." As document 02, Wish 5, has it: "shortest among the permitted ones, ties in the order just listed;
+-- refused a spelling exactly if no permitted one means the label; equal octets exactly for equal labels under the same set".
 
 -- an area past 3 to 5 at the port whose option 134 is valid and means the label
 abbrev pub MeansAt : Port → List ℕ → Label → Type 0
@@ -160,26 +165,35 @@ pub record AlikeDelivered (d e : Delivery) (l : Label) : Type 0 where
   pub domain : l .domain ≡ d .port .domain
 
 pub record Demand3 : Type 0 where
-  -- "Given at least 40 octets to write in, every well-formed label is refused a spelling exactly when no valid option means it."
-  pub refused : (l : Label) (out : List ℕ) → wellFormed l ≡ true → 40 ≤ length out
-      → (spellingAnswer l (length out) .number ≡ 0 → ⊥) ↔ ((o : List ℕ) → Means o l → ⊥)
+  -- given at least 40 octets to write in, every well-formed label is refused a spelling exactly when no permitted option means it
+  pub refused : (p : Spellings) (l : Label) (out : List ℕ) → wellFormed l ≡ true → 40 ≤ length out
+      → (spellingAnswer p l (length out) .number ≡ 0 → ⊥) ↔ ((o : List ℕ) → spellings.Permitted p o l → ⊥)
+  -- whatever label the box spells, alone or in a leaving area, it writes the shortest permitted option that means it
+  pub alone : (p : Spellings) (l : Label) (out : List ℕ) → wellFormed l ≡ true → 40 ≤ length out → spellingAnswer p l (length out) .number ≡ 0
+      → (s : List ℕ) × Spells p s l × (spellingAnswer p l (length out) .count ≡ length s) × (take 40 (spellingOut p l out) ≡ padded s)
+  pub leaving : (f : Forwarding) (out : List ℕ) → Octets (f .area) → forwardOf f .number ≡ 0
+      → (s : List ℕ) × Spells (f .leaving .spellings) s (forwardOf f .label) × (take (length s) (outputOf f out) ≡ s)
+  -- Document 01's words, which hold where tags 1, 2 and 5 are permitted: "Given at least 40 octets to write in, every well-formed label is refused
+  -- a spelling exactly when no valid option means it."
+  pub usual-refused : (l : Label) (out : List ℕ) → wellFormed l ≡ true → 40 ≤ length out
+      → (spellingAnswer usual l (length out) .number ≡ 0 → ⊥) ↔ ((o : List ℕ) → Means o l → ⊥)
   -- "Whatever label the box spells, alone or in a leaving area, it writes the shortest valid option that means it: every other valid option that
   -- means it has at least as many octets, and equal lengths go to tag 1, then 2, then 5."
-  pub alone : (l : Label) (out : List ℕ) → wellFormed l ≡ true → 40 ≤ length out → spellingAnswer l (length out) .number ≡ 0
-      → (s : List ℕ) × Spells s l × (spellingAnswer l (length out) .count ≡ length s) × (take 40 (spellingOut l out) ≡ padded s)
-  pub leaving : (f : Forwarding) (out : List ℕ) → Octets (f .area) → forwardOf f .number ≡ 0
-      → (s : List ℕ) × Spells s (forwardOf f .label) × (take (length s) (outputOf f out) ≡ s)
+  pub usual-alone : (l : Label) (out : List ℕ) → wellFormed l ≡ true → 40 ≤ length out → spellingAnswer usual l (length out) .number ≡ 0
+      → (s : List ℕ) × Shortest s l × (spellingAnswer usual l (length out) .count ≡ length s) × (take 40 (spellingOut usual l out) ≡ padded s)
+  pub usual-leaving : (f : Forwarding) (out : List ℕ) → Octets (f .area) → f .leaving .spellings ≡ usual → forwardOf f .number ≡ 0
+      → (s : List ℕ) × Shortest s (forwardOf f .label) × (take (length s) (outputOf f out) ≡ s)
   -- "The option written, read alone, gives that label back, as does every valid option that means it."
   pub back : (o : List ℕ) (l : Label) → Means o l → readingOf o ≡ found l
-  -- "Any two labels that have spellings, each given at least 40 octets, get equal first 40 octets exactly when they are one label."
-  pub told : (a b : Label) (out out′ : List ℕ)
+  -- "Any two labels that have spellings, each given at least 40 octets, get equal first 40 octets exactly when they are one label", under one set
+  pub told : (p : Spellings) (a b : Label) (out out′ : List ℕ)
       → wellFormed a ≡ true
       → wellFormed b ≡ true
       → 40 ≤ length out
       → 40 ≤ length out′
-      → spellingAnswer a (length out) .number ≡ 0
-      → spellingAnswer b (length out′) .number ≡ 0
-      → (take 40 (spellingOut a out) ≡ take 40 (spellingOut b out′)) ↔ (a ≡ b)
+      → spellingAnswer p a (length out) .number ≡ 0
+      → spellingAnswer p b (length out′) .number ≡ 0
+      → (take 40 (spellingOut p a out) ≡ take 40 (spellingOut p b out′)) ↔ (a ≡ b)
   -- "Take any two areas past checks 1 to 5 [and 19] whose options 134 are valid and mean one label .. they are decided alike: the same number, type, code,
   -- pointer, label and count and, if forwarded, the same first 40 octets of output."
   pub decided : (f g : Forwarding) (l : Label) → Alike f g l → forwardOf f ≡ forwardOf g

@@ -9,6 +9,7 @@ use lib.ListN.{length, take}
 use Rattle.label.specs.declared.Label.{Label}
 use Rattle.label.specs.Label.{leq}
 use Rattle.option.specs.Option.{Octets}
+use Rattle.option.specs.declared.Spellings.{Spellings}
 use Rattle.option.specs.Theorems.{Spells}
 use Rattle.area.specs.declared.Place.{Place}
 use Rattle.area.specs.declared.Place.the-variants.{Nowhere, At}
@@ -31,12 +32,12 @@ pub record Counts (n s k : ℕ) : Type 0 where
   pub fits : n ≤ 40
 
 -- an area that a datagram with this label, this option 130 and these kept options may leave with, toward a port of a domain that reads option 130 or
--- does not (`on`): it passes check 1 and, at any such port, 3 to 13; its option 134 is the spelling of the label; its label, option 130 and kept
--- options are these
-pub record Reads (a : List ℕ) (on : Bool) (domain : ℕ) (l : Label) (c : Option (List ℕ)) (ks : List ℕ) : Type 0 where
+-- does not (`on`), with permitted spellings: it passes check 1 and, at any such port, 3 to 13; its option 134 is the spelling of the label; its label,
+-- option 130 and kept options are these
+pub record Reads (a : List ℕ) (on : Bool) (domain : ℕ) (permitted : Spellings) (l : Label) (c : Option (List ℕ)) (ks : List ℕ) : Type 0 where
   pub area : AreaSound a
   pub walk : (basic : Place) × (walkOf on a ≡ Sound (At 0) basic)
-  pub spelled : Spells (optionAt 0 a) l
+  pub spelled : Spells permitted (optionAt 0 a) l
   pub required : (p : Port) → p .basic .on ≡ on → p .domain ≡ domain → requiredCheck p a ≡ none
   pub option : (p : Port) → p .basic .on ≡ on → p .domain ≡ domain → optionCheck p a ≡ none
   pub label : (p : Port) → p .basic .on ≡ on → p .domain ≡ domain → arrivingLabel p a ≡ l
@@ -78,17 +79,18 @@ pub record PointsInto (area : List ℕ) (d : Decision) : Type 0 where
 
 pub record Guards : Type 0 where
   pub count : (f : Forwarding) → forwardOf f .number ≡ 0
-      → (s : List ℕ) × Spells s (forwardOf f .label) × Counts (forwardOf f .count) (length s) (length (keptOf (f .area)))
+      → (s : List ℕ) × Spells (f .leaving .spellings) s (forwardOf f .label) × Counts (forwardOf f .count) (length s) (length (keptOf (f .area)))
   -- the leaving area, read again at a port of the leaving domain that reads option 130 as the leaving port does
   pub again : (f : Forwarding) (out : List ℕ) → forwardOf f .number ≡ 0
-      → Reads (leavingArea f out) (f .leaving .basic .on) (f .leaving .domain) (forwardOf f .label) (arrivingBasic (f .arriving) (f .area)) (keptOf (f .area))
-  -- forwarded again through equal domains, nothing changes
+      → Reads (leavingArea f out) (f .leaving .basic .on) (f .leaving .domain) (f .leaving .spellings) (forwardOf f .label) (arrivingBasic (f .arriving) (f .area)) (keptOf (f .area))
+  -- forwarded again through equal domains with the same permitted spellings, nothing changes
   pub same : (f g : Forwarding) (out out′ : List ℕ)
       → forwardOf f .number ≡ 0
       → forwardOf g .number ≡ 0
       → g .area ≡ leavingArea f out
       → g .arriving .domain ≡ f .leaving .domain
       → g .leaving .domain ≡ f .leaving .domain
+      → g .leaving .spellings ≡ f .leaving .spellings
       → (forwardOf g ≡ forwardOf f) × (leavingArea g out′ ≡ leavingArea f out)
   -- pointers
   pub forward : (f : Forwarding) → forwardOf f .kind ≡ 12 → forwardOf f .code ≡ 0 → PointsInto (f .area) (forwardOf f)

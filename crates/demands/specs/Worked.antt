@@ -8,6 +8,7 @@ use lib.ListN.{replicate}
 use Rattle.label.specs.declared.Label.{Label}
 use Rattle.label.specs.Runs.{run}
 use Rattle.option.specs.Table.{everyOther}
+use Rattle.option.specs.Permitted.{usual}
 use Rattle.basic.specs.declared.Way.{Way}
 use Rattle.port.specs.declared.Port.{Port}
 use Rattle.port.specs.declared.Host.{Host}
@@ -71,6 +72,7 @@ readsBasic way =
       required = false;
       assigned = bare 3;
       basic = record { on = true; receiving = way; sending = twoFields 150 90 };
+      spellings = usual;
     }
 
 abbrev pub marked : Port
@@ -89,6 +91,7 @@ lesser =
       required = false;
       assigned = bare 3;
       basic = record { on = true; receiving = twoFields 150 90; sending = record { lowest = 150; highest = 150; count = 1; flags = replicate 256 0 } };
+      spellings = usual;
     }
 
 abbrev pub behind : Host

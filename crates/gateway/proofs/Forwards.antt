@@ -15,6 +15,7 @@ use Rattle.label.specs.Label.{used, wellFormed, inRange}
 use Rattle.label.specs.Range.{setInRange}
 use Rattle.label.proofs.Bools.{and-left, and-right, or-none}
 use Rattle.label.proofs.Labels.{used-of}
+use Rattle.option.specs.declared.Spellings.{Spellings}
 use Rattle.option.specs.Spelling.{spellingOf, spelledOf}
 use Rattle.spelling.specs.Spelling.{lacking, lengthOf}
 use Rattle.spelling.specs.Keys.{inFront}
@@ -140,7 +141,7 @@ module _ (f : Forwarding) where
         forward-fits b e g = then ∙ rw (e, g)
 
 -- The label that leaves is spelled as its parts are.
-pub leaving-spelled : (x : Crossing) → spelledOf (leavingLabel x) ≡ leavingOption x
+pub leaving-spelled : (x : Crossing) → spelledOf (x .leaving .spellings) (leavingLabel x) ≡ leavingOption x
 leaving-spelled x = rw (used-of _ _ _)
 
 -- A refusal: what is answered, and that nothing is written.
@@ -192,8 +193,8 @@ unfolding forwardOf outputOf
 forward-done f s out e g = (rw (e, g), rw (e, g))
 
 -- The test of 18, from the length that is measured.
-pub room-is : (d v : ℕ) (rs : List Run) (kept : List ℕ) → hasRoomFor (lengthOf (spellingOf d v rs)) (length kept) ≡ not (noRoom (spellingOf d v rs) kept)
-room-is d v rs kept = go (spellingOf d v rs) refl
+pub room-is : (p : Spellings) (d v : ℕ) (rs : List Run) (kept : List ℕ) → hasRoomFor (lengthOf (spellingOf p d v rs)) (length kept) ≡ not (noRoom (spellingOf p d v rs) kept)
+room-is p d v rs kept = go (spellingOf p d v rs) refl
   where
     within : (n : ℕ) → leb n 40 ≡ not (ltb 40 n)
     within n = by (leb n 40) refl
@@ -202,9 +203,9 @@ room-is d v rs kept = go (spellingOf d v rs) refl
         by true q = rw (le-ltb 40 n (leb-true n 40 q))
         by false q = rw (lt-ltb 40 n (leb-false n 40 q))
 
-    go : (o : Option (List ℕ)) → spellingOf d v rs ≡ o → hasRoomFor (lengthOf o) (length kept) ≡ not (noRoom o kept)
+    go : (o : Option (List ℕ)) → spellingOf p d v rs ≡ o → hasRoomFor (lengthOf o) (length kept) ≡ not (noRoom o kept)
     go none e = refl
-    go (some s) e = rw (ne-eqb (length s) 0 (λ z. omega (arith, spelled-bounds d v rs s e .0))) (within (length s + length kept))
+    go (some s) e = rw (ne-eqb (length s) 0 (λ z. omega (arith, spelled-bounds p d v rs s e .0))) (within (length s + length kept))
 
 -- What is known of a forwarding that passes every check.
 pub record Passed (f : Forwarding) : Type 0 where

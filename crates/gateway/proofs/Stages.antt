@@ -67,8 +67,8 @@ pub record Ran (f : Forwarding) (own own′ far far′ out out′ : List ℕ) (a
   pub crosses : Crosses u (f .arriving .domain) (f .leaving .domain) (f .table) (f .levels) own′ far far′ c
   pub held : h ≡ heldBy c (f .leaving .lowest) (f .leaving .highest) far′
   pub counted : kept ≡ cond (eqb (h .number) 0) (length (keptOf (f .area))) 0
-  pub fits : (d : ℕ) → v ≡ fittedBy d h kept far′
-  pub writes : Writes v (f .leaving .domain) kept (f .area) far′ out out′ count
+  pub fits : (d : ℕ) → v ≡ fittedBy (f .leaving .spellings) d h kept far′
+  pub writes : Writes v (f .leaving .domain) (f .leaving .spellings) kept (f .area) far′ out out′ count
 
 module _ (f : Forwarding) (own own′ far far′ out out′ : List ℕ) (a r u c h v : Verdict) (kept count : ℕ) (s : Ran f own own′ far far′ out out′ a r u c h v kept count) where
   abbrev Answers : Type 0
@@ -88,7 +88,7 @@ module _ (f : Forwarding) (own own′ far far′ out out′ : List ℕ) (a r u c
   unfolding fittedBy
   fit-refused y e z =
       s .fits 0
-      ∙ ap (λ (q : Verdict). cond (eqb (q .number) 0) (cond (leb (q .count) 120 && hasRoomFor (lengthOf (keysSpelled 0 (q .level) (take (q .count) far′))) kept) q (stopped 18 3 9 0)) q) e
+      ∙ ap (λ (q : Verdict). cond (eqb (q .number) 0) (cond (leb (q .count) 120 && hasRoomFor (lengthOf (keysSpelled (f .leaving .spellings) 0 (q .level) (take (q .count) far′))) kept) q (stopped 18 3 9 0)) q) e
       ∙ rw (ne-eqb (y .number) 0 z)
 
   last : (y : Refusal) → v ≡ answer (some y) → (y .number ≡ 0 → ⊥) → firstOf (forwardChecks f) ≡ some y → Answers
@@ -303,20 +303,20 @@ module _ (f : Forwarding) (own own′ far far′ out out′ : List ℕ) (a r u c
             kept-is : kept ≡ length (keptOf (f .area))
             kept-is = s .counted ∙ ap (λ (w : Verdict). cond (eqb (w .number) 0) (length (keptOf (f .area))) 0) h-is
 
-            v-is : v ≡ cond (leb (length runs) 120 && hasRoomFor (lengthOf (keysSpelled (f .leaving .domain) (leavingLevel x) (take (length runs) far′))) (length (keptOf (f .area)))) (leavingVerdict x) (stopped 18 3 9 0)
+            v-is : v ≡ cond (leb (length runs) 120 && hasRoomFor (lengthOf (keysSpelled (f .leaving .spellings) (f .leaving .domain) (leavingLevel x) (take (length runs) far′))) (length (keptOf (f .area)))) (leavingVerdict x) (stopped 18 3 9 0)
             unfolding fittedBy
-            v-is = s .fits (f .leaving .domain) ∙ (λ i. fittedBy (f .leaving .domain) (h-is i) (kept-is i) far′)
+            v-is = s .fits (f .leaving .domain) ∙ (λ i. fittedBy (f .leaving .spellings) (f .leaving .domain) (h-is i) (kept-is i) far′)
 
             by-many : leb (length runs) 120 ≡ false → Answers
             by-many m =
                 last (barred 18 9) (v-is ∙ rw m) (λ z. omega arith) (forward-spelling f sized long t e (over .numbers) g (rw (lt-ltb 120 (length runs) (leb-false _ _ m))))
 
             module _ (few : length runs ≤ 120) where
-              spelled : keysSpelled (f .leaving .domain) (leavingLevel x) (take (length runs) far′) ≡ leavingOption x
-              spelled = keys-spelled (f .leaving .domain) (leavingLevel x) (take (length runs) far′) runs (over .stands) few
+              spelled : keysSpelled (f .leaving .spellings) (f .leaving .domain) (leavingLevel x) (take (length runs) far′) ≡ leavingOption x
+              spelled = keys-spelled (f .leaving .spellings) (f .leaving .domain) (leavingLevel x) (take (length runs) far′) runs (over .stands) few
 
               v-of : v ≡ cond (not (noRoom (leavingOption x) (keptOf (f .area)))) (leavingVerdict x) (stopped 18 3 9 0)
-              v-of = v-is ∙ rw (le-leb (length runs) 120 few, spelled, room-is (f .leaving .domain) (leavingLevel x) runs (keptOf (f .area)))
+              v-of = v-is ∙ rw (le-leb (length runs) 120 few, spelled, room-is (f .leaving .spellings) (f .leaving .domain) (leavingLevel x) runs (keptOf (f .area)))
 
               by-spelling : noRoom (leavingOption x) (keptOf (f .area)) ≡ true → Answers
               by-spelling n =
@@ -328,11 +328,11 @@ module _ (f : Forwarding) (own own′ far far′ out out′ : List ℕ) (a r u c
                   let e-v : v ≡ leavingVerdict x = v-of ∙ rw n in
                   let z : v .number ≡ 0 = ap (λ (w : Verdict). w .number) e-v in
                   let l : labelFrom (f .leaving .domain) (leavingLevel x) (keyRuns (take (length runs) far′)) ≡ leavingLabel x = label-is in
-                  let u = keys-put (f .leaving .domain) (leavingLevel x) (take (length runs) far′) runs out (over .stands) few (omega (arith, s .room)) in
+                  let u = keys-put (f .leaving .spellings) (f .leaving .domain) (leavingLevel x) (take (length runs) far′) runs out (over .stands) few (omega (arith, s .room)) in
                   let w =
                   forward-written f (leavingLabel x) _ kept count out _ out′ (s .room) (forward-none f sized long t e (over .numbers) g (rw (le-ltb 120 (length runs) few, n))) refl (u .0) (u .1) kept-is
-                  (s .writes .counted z ∙ ap (λ (b : Verdict). restCount (keysCount (f .leaving .domain) (b .level) (take (b .count) far′) (length out)) kept (keptOf (f .area)) (length (keysWritten (f .leaving .domain) (b .level) (take (b .count) far′) out))) e-v)
-                  (s .writes .written z ∙ ap (λ (b : Verdict). restOf (keysCount (f .leaving .domain) (b .level) (take (b .count) far′) (length out)) kept (keptOf (f .area)) (keysWritten (f .leaving .domain) (b .level) (take (b .count) far′) out)) e-v) in (
+                  (s .writes .counted z ∙ ap (λ (b : Verdict). restCount (keysCount (f .leaving .spellings) (f .leaving .domain) (b .level) (take (b .count) far′) (length out)) kept (keptOf (f .area)) (length (keysWritten (f .leaving .spellings) (f .leaving .domain) (b .level) (take (b .count) far′) out))) e-v)
+                  (s .writes .written z ∙ ap (λ (b : Verdict). restOf (keysCount (f .leaving .spellings) (f .leaving .domain) (b .level) (take (b .count) far′) (length out)) kept (keptOf (f .area)) (keysWritten (f .leaving .spellings) (f .leaving .domain) (b .level) (take (b .count) far′) out)) e-v) in (
                     ap (λ (b : Verdict). concluded b (f .leaving .domain) (silenced (f .facts)) count far′) e-v
                         ∙ concluded-done (leavingLevel x) (length runs) (f .leaving .domain) count (silenced (f .facts)) far′
                         ∙ ap (λ (b : Label). done b count) l

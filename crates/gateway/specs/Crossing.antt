@@ -100,11 +100,11 @@ leavingCheck x =
 abbrev pub leavingLabel : Crossing → Label
 leavingLabel x = labelOf (x .leaving .domain) (leavingLevel x) (leavingRuns x)
 
--- the option in its one spelling
+-- the option in its one spelling, among those that the leaving port permits (document 02, Wish 5)
 abbrev pub leavingOption : Crossing → Option (List ℕ)
-leavingOption x = spellingOf (x .leaving .domain) (leavingLevel x) (leavingRuns x)
+leavingOption x = spellingOf (x .leaving .spellings) (x .leaving .domain) (leavingLevel x) (leavingRuns x)
 
--- no valid option means the label, or the options exceed 40 octets
+-- no permitted option means the label, or the options exceed 40 octets
 abbrev pub noRoom : Option (List ℕ) → List ℕ → Bool
 noRoom option kept = lacking option || ltb 40 (lengthOf option + length kept)
 

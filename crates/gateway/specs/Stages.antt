@@ -8,6 +8,7 @@ use lib.Dec.{leb, ltb, eqb}
 use lib.ListN.{length, take, drop}
 use Rattle.label.specs.declared.Label.{Label}
 use Rattle.label.specs.Keys.{keyRuns}
+use Rattle.option.specs.declared.Spellings.{Spellings}
 use Rattle.spelling.specs.Spelling.{lengthOf}
 use Rattle.spelling.specs.Keys.{keysSpelled, keysCount, keysWritten}
 use Rattle.leaving.specs.Kept.{keptOf, restCount, restOf}
@@ -71,14 +72,14 @@ heldBy r lowest highest keys = cond (eqb (r .number) 0) (cond (heldBetween lowes
 abbrev pub hasRoomFor : ℕ → ℕ → Bool
 hasRoomFor size kept = not (eqb size 0) && leb (size + kept) 40
 
--- 18, in a domain
-unfoldable pub fittedBy : ℕ → Verdict → ℕ → List ℕ → Verdict
-fittedBy d r kept keys =
+-- 18, with the permitted spellings, in a domain
+unfoldable pub fittedBy : Spellings → ℕ → Verdict → ℕ → List ℕ → Verdict
+fittedBy p d r kept keys =
     cond (eqb (r .number) 0)
-    (cond (leb (r .count) 120 && hasRoomFor (lengthOf (keysSpelled d (r .level) (take (r .count) keys))) kept) r (stopped 18 3 9 0)) r
+    (cond (leb (r .count) 120 && hasRoomFor (lengthOf (keysSpelled p d (r .level) (take (r .count) keys))) kept) r (stopped 18 3 9 0)) r
 
 -- the leaving area, of a forwarding
-pub record Writes (r : Verdict) (domain kept : ℕ) (area keys out out′ : List ℕ) (n : ℕ) : Type 0 where
+pub record Writes (r : Verdict) (domain : ℕ) (p : Spellings) (kept : ℕ) (area keys out out′ : List ℕ) (n : ℕ) : Type 0 where
   pub nothing : (r .number ≡ 0 → ⊥) → out′ ≡ out
-  pub counted : r .number ≡ 0 → n ≡ restCount (keysCount domain (r .level) (take (r .count) keys) (length out)) kept (keptOf area) (length (keysWritten domain (r .level) (take (r .count) keys) out))
-  pub written : r .number ≡ 0 → out′ ≡ restOf (keysCount domain (r .level) (take (r .count) keys) (length out)) kept (keptOf area) (keysWritten domain (r .level) (take (r .count) keys) out)
+  pub counted : r .number ≡ 0 → n ≡ restCount (keysCount p domain (r .level) (take (r .count) keys) (length out)) kept (keptOf area) (length (keysWritten p domain (r .level) (take (r .count) keys) out))
+  pub written : r .number ≡ 0 → out′ ≡ restOf (keysCount p domain (r .level) (take (r .count) keys) (length out)) kept (keptOf area) (keysWritten p domain (r .level) (take (r .count) keys) out)

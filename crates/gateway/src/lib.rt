@@ -17,6 +17,7 @@ use label::runs_between;
 use leaving::count_kept;
 use leaving::write_rest;
 use lists::copy_keys;
+use option::Spellings;
 use port::Port;
 use port::port_sound;
 use renumber::Carried;
@@ -75,8 +76,16 @@ pub fn forward(
     );
     let held = hold_leaving(crossed, leaving.lowest, leaving.highest, &far);
     let kept = kept_by(held, area);
-    let verdict = fit(held, kept, &far);
-    let count = write_area(verdict, leaving.domain, kept, area, &far, &mut out[..]);
+    let verdict = fit(held, leaving.spellings, kept, &far);
+    let count = write_area(
+        verdict,
+        leaving.domain,
+        leaving.spellings,
+        kept,
+        area,
+        &far,
+        &mut out[..],
+    );
     conclude(verdict, leaving.domain, facts, count, &far)
 }
 
@@ -215,10 +224,10 @@ fn kept_by(held: Verdict, area: &[u8]) -> usize
     count_kept(area)
 }
 
-// Check 18: a label holds the set, it has a spelling, and the options have room.
-fn fit(held: Verdict, kept: usize, keys: &[u32]) -> Verdict
+// Check 18: a label holds the set, it has a spelling among the permitted ones, and the options have room.
+fn fit(held: Verdict, permitted: Spellings, kept: usize, keys: &[u32]) -> Verdict
     requires { ⌜ 120 ≤ length (now keys) ⌝ }
-    ensures { λ r. ⌜ ((d : ℕ) → r ≡ fittedBy d held kept (now (keys .entry))) ⌝ }
+    ensures { λ r. ⌜ ((d : ℕ) → r ≡ fittedBy permitted d held kept (now (keys .entry))) ⌝ }
     ensures { λ r. ⌜ (r .number ≡ 0 → r .count ≤ 120) ⌝ }
 {
     if held.number != 0 {
@@ -228,7 +237,7 @@ fn fit(held: Verdict, kept: usize, keys: &[u32]) -> Verdict
     if Label::MAX_RUNS < n {
         return stop(18, 3, 9, 0);
     }
-    let size = keys_length(&keys[..n]);
+    let size = keys_length(&keys[..n], permitted);
     if !has_room(size, kept) {
         return stop(18, 3, 9, 0);
     }
@@ -252,19 +261,20 @@ fn has_room(size: usize, kept: usize) -> bool
 fn write_area(
     verdict: Verdict,
     domain: u32,
+    permitted: Spellings,
     kept: usize,
     area: &[u8],
     keys: &[u32],
     out: &mut [u8],
 ) -> usize
     requires { ⌜ (verdict .number ≡ 0 → verdict .count ≤ length (now keys)) ⌝ }
-    ensures { λ r. ⌜ Writes verdict domain kept (now (area .entry)) (now (keys .entry)) (now (out .entry)) (now (out .exit)) r ⌝ }
+    ensures { λ r. ⌜ Writes verdict domain permitted kept (now (area .entry)) (now (keys .entry)) (now (out .entry)) (now (out .exit)) r ⌝ }
 {
     if verdict.number != 0 {
         return 0;
     }
     let n = verdict.count;
-    let size = write_keys(&keys[..n], domain, verdict.level, &mut out[..]);
+    let size = write_keys(&keys[..n], permitted, domain, verdict.level, &mut out[..]);
     let count = write_rest(area, size, kept, &mut out[..]);
     count
 }

@@ -11,7 +11,9 @@ use Rattle.label.specs.Runs.{covers}
 use Rattle.label.specs.Label.{used, wellFormed}
 use Rattle.label.proofs.Canon.{Canon, Below, spaced-canon, spaced-below}
 use Rattle.label.proofs.Labels.{formed, member-is}
+use Rattle.option.specs.declared.Spellings.{Spellings}
 use Rattle.option.specs.Option.{Octets, domainOf, levelOf, tagOf, valid, has, Means}
+use Rattle.option.specs.Permitted.{permits, Permitted}
 
 pub record MeansRuns (o : List ℕ) (d v : ℕ) (rs : List Run) : Type 0 where
   pub octets : Octets o
@@ -28,11 +30,16 @@ pub record FormedRuns (d v : ℕ) (rs : List Run) : Type 0 where
   pub canon : Canon 0 rs
   pub below : Below 65535 rs
 
--- it means the runs, none that does is shorter, and none as short has an earlier tag
-pub record SpellsRuns (s : List ℕ) (d v : ℕ) (rs : List Run) : Type 0 where
-  pub means : MeansRuns s d v rs
-  pub shortest : (o : List ℕ) → MeansRuns o d v rs → length s ≤ length o
-  pub first : (o : List ℕ) → MeansRuns o d v rs → length o ≡ length s → tagOf s ≤ tagOf o
+-- a permitted spelling that means the runs
+pub record PermittedRuns (p : Spellings) (o : List ℕ) (d v : ℕ) (rs : List Run) : Type 0 where
+  pub means : MeansRuns o d v rs
+  pub permitted : permits p o ≡ true
+
+-- it is one, none that is is shorter, and none as short has an earlier tag
+pub record SpellsRuns (p : Spellings) (s : List ℕ) (d v : ℕ) (rs : List Run) : Type 0 where
+  pub permitted : PermittedRuns p s d v rs
+  pub shortest : (o : List ℕ) → PermittedRuns p o d v rs → length s ≤ length o
+  pub first : (o : List ℕ) → PermittedRuns p o d v rs → length o ≡ length s → tagOf s ≤ tagOf o
 
 pub means-runs : (o : List ℕ) (l : Label) → Means o l → MeansRuns o (l .domain) (l .level) (used l)
 means-runs o l m =
@@ -56,6 +63,12 @@ runs-means o l w m =
       level = m .level;
       members = λ c. m .members c ∙ sym (member-is l w c);
     }
+
+pub permitted-runs : (p : Spellings) (o : List ℕ) (l : Label) → Permitted p o l → PermittedRuns p o (l .domain) (l .level) (used l)
+permitted-runs p o l m = record { means = means-runs o l (m .means); permitted = m .permitted }
+
+pub runs-permitted : (p : Spellings) (o : List ℕ) (l : Label) → wellFormed l ≡ true → PermittedRuns p o (l .domain) (l .level) (used l) → Permitted p o l
+runs-permitted p o l w m = record { means = runs-means o l w (m .means); permitted = m .permitted }
 
 pub formed-runs : (l : Label) → wellFormed l ≡ true → FormedRuns (l .domain) (l .level) (used l)
 formed-runs l w =

@@ -10,4 +10,5 @@ pub mod Table
 pub mod Bridge
 pub mod Bad
 pub mod Only
-pub mod Spellings
+pub mod OneSpelling
+pub mod Sets

@@ -19,15 +19,17 @@ use Rattle.label.proofs.Canon.{Canon, Below}
 use Rattle.option.specs.Bitmap.{bitAt, weight}
 use Rattle.option.specs.Option.{Octets, domainOf, tagOf, levelOf, bodyOf, numbersIn, singles, ascending, pairsIn, falling, isEven, goodBody, bodyHas, valid, has}
 use Rattle.option.proofs.Forms.{MeansRuns}
-use Rattle.option.specs.Spelling.{size5, octetsOut, tagFor, bodyFor, optionOf, spelledBy, spellingOf}
-use Rattle.option.proofs.Forms.{FormedRuns, SpellsRuns}
+use Rattle.option.specs.Spelling.{size5, octetsOut, formFor, bodyFor, optionOf, spelledBy, spellingOf}
+use Rattle.option.specs.declared.Spellings.{Spellings}
+use Rattle.option.specs.declared.Form.{Form}
+use Rattle.option.proofs.Forms.{PermittedRuns, FormedRuns}
 use Rattle.label.proofs.Push.{push-length}
 use Rattle.label.proofs.Canon.{unique}
 use Rattle.label.proofs.Bools.{and-left, and-right}
 use Rattle.option.proofs.Pieces.{Falling, falling-true, joined-good, joined-covers, joined-length}
 use Rattle.option.proofs.Meaning.{Parts, parts, Tagged, one, two, five, tagged, body-length, numbers-length}
 use Rattle.option.proofs.Spelled.{body5-length}
-use Rattle.option.proofs.Theorems.{spelled-none, spelled-some, none-means, spelling-spells}
+use Rattle.option.proofs.Theorems.{Held, spelled-is, spelled-none, spelled-some, none-held, held-shortest, held-first, spelling-permitted, spelling-means}
 use Rattle.option.proofs.Bridge.{turned-snoc, pairs-count}
 
 -- The octets around the body.
@@ -264,30 +266,32 @@ one-option d v rs o o′ k m m′ t l n =
     b : bodyOf o ≡ bodyOf o′
     b = same-body rs k (tagOf o) (bodyOf o) (bodyOf o′) (tagged _ _ g) g g′ (octets-drop 10 o (m .octets)) (octets-drop 10 o′ (m′ .octets)) (m .members) (λ c. ap (λ (x : ℕ). bodyHas x (bodyOf o′) c) t ∙ m′ .members c) (omega (arith, body-length o (m .good), body-length o′ (m′ .good))) n
 
--- Whatever spells the label is the spelling: demand 3 fixes every octet.
-module _ (d v : ℕ) (rs : List Run) (w : FormedRuns d v rs) (s : List ℕ) (p : SpellsRuns s d v rs) where
-  some-tag : 0 < tagFor rs
-  some-tag = elim (decLe 1 (tagFor rs)) [ yes u ↦ u | no u ↦ absurd (none-means d v rs w .0 (spelled-none d v rs (omega arith)) s (p .means)) ]
-
-  made : List ℕ
-  made = spelledBy (tagFor rs) d v rs
-
-  made-is : spellingOf d v rs ≡ some made
-  unfolding made
-  made-is = spelled-some d v rs some-tag
-
-  spells : SpellsRuns made d v rs
-  spells = spelling-spells d v rs w made made-is
-
-  long : length s ≡ length made
-  long = omega (arith, p .shortest made (spells .means), spells .shortest s (p .means))
-
-  tag : tagOf s ≡ tagOf made
-  tag = omega (arith, p .first made (spells .means) (sym long), spells .first s (p .means) long)
-
+-- An option that means what the spelling means, as long as it and in its tag, is the spelling.
+module _ (p : Spellings) (d v : ℕ) (rs : List Run) (w : FormedRuns d v rs) (made : List ℕ) (e : spellingOf p d v rs ≡ some made) where
   made-size : tagOf made ≡ 5 → length (bodyOf made) ≡ size5 rs
-  unfolding made spelledBy
-  made-size e = ap (λ (t : ℕ). length (bodyFor t rs)) e ∙ body5-length rs
+  unfolding spelledBy
+  made-size q =
+      let i = spelled-is p d v rs made e in
+      let t : formFor p rs .tag ≡ 5 = sym (ap tagOf (i .0)) ∙ q in
+      ap (λ (o : List ℕ). length (bodyOf o)) (i .0) ∙ ap (λ (t : ℕ). length (bodyFor t (formFor p rs .size) rs)) t ∙ body5-length (formFor p rs .size) rs
 
-  pub spelling-only : spellingOf d v rs ≡ some s
-  spelling-only = made-is ∙ ap some (sym (one-option d v rs s made (w .canon) (p .means) (spells .means) tag long (λ e. omega (arith, long, body-length s (p .means .good), body-length made (spells .means .good), made-size (sym tag ∙ e)))))
+  pub same-made : (s : List ℕ) → MeansRuns s d v rs → length s ≡ length made → tagOf s ≡ tagOf made → spellingOf p d v rs ≡ some s
+  same-made s m long tag =
+      let n = spelling-means p d v rs w made e in
+      e ∙ ap some (sym (one-option d v rs s made (w .canon) m n tag long (λ q. omega (arith, long, body-length s (m .good), body-length made (n .good), made-size (sym tag ∙ q)))))
+
+-- Whatever is least is the spelling: demand 3 fixes every octet.
+module _ (p : Spellings) (d v : ℕ) (rs : List Run) (w : FormedRuns d v rs) (s : List ℕ) (m : MeansRuns s d v rs) (h : Held p rs (length (bodyOf s)) (tagOf s))
+    (shortest : (o : List ℕ) → PermittedRuns p o d v rs → length s ≤ length o)
+    (first : (o : List ℕ) → PermittedRuns p o d v rs → length o ≡ length s → tagOf s ≤ tagOf o) where
+  some-tag : 0 < formFor p rs .tag
+  some-tag = elim (decLe 1 (formFor p rs .tag)) [ yes u ↦ u | no u ↦ absurd (none-held p d v rs w (spelled-none p d v rs (omega arith)) (length (bodyOf s)) (tagOf s) h) ]
+
+  pub least-only : spellingOf p d v rs ≡ some s
+  least-only =
+      let made : List ℕ = spelledBy (formFor p rs) d v rs in
+      let e : spellingOf p d v rs ≡ some made = spelled-some p d v rs some-tag in
+      let q = spelling-permitted p d v rs w made e in
+      let long : length s ≡ length made = omega (arith, shortest made q, held-shortest p d v rs w made e s m h) in
+      let tag : tagOf s ≡ tagOf made = omega (arith, first made q (sym long), held-first p d v rs w made e s m h long) in
+      same-made p d v rs w made e s m long tag

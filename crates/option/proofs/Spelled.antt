@@ -14,14 +14,18 @@ use Rattle.label.specs.Runs.{run, inRun, covers, countOf, topOf}
 use Rattle.option.specs.Reading.{turned}
 use Rattle.option.specs.Spelling.{fromZero}
 use Rattle.label.proofs.Canon.{Canon, Below}
+use Rattle.option.specs.declared.Spellings.{Spellings}
+use Rattle.option.specs.declared.Form.{Form}
 use Rattle.option.specs.Bitmap.{bitAt}
+use Rattle.option.specs.Permitted.{trimmed, tight}
 use Rattle.option.specs.Spelling.{bitsOf, octetsOf}
 use Rattle.option.specs.Option.{tagOf, bodyOf, Octets, numbersIn, singles, ascending, pairsIn, falling, isEven, goodBody, bodyHas, valid, has}
 use Rattle.option.proofs.Forms.{MeansRuns}
 use Rattle.option.specs.Spelling.{size1, size2, size5, octetsOut, countUp, numbersOf, endsOf, bodyFor, optionOf, spelledBy}
 use Rattle.option.proofs.Forms.{FormedRuns}
 use Rattle.option.proofs.Bits.{octets-length, bits-lt}
-use Rattle.option.proofs.Top.{shortest-bit}
+use Rattle.option.proofs.Top.{bitmap-bit, shortest-trimmed}
+use Rattle.option.proofs.Choice.{Taken, take0, take1, take-ten, take2, take5}
 use Rattle.label.proofs.Bools.{and-left, and-right}
 use Rattle.option.proofs.Pieces.{Falling, Rising, true-falling, turned-covers, turned-falling}
 use Rattle.option.proofs.Meaning.{Parts, parts-valid, tagged, body-most}
@@ -137,62 +141,115 @@ falling-octets top (r ∷ []) h f = go (eqb (r .low) 0)
 falling-octets top (r ∷ s ∷ ds) h f = (omega arith, (omega arith, (omega arith, (omega arith, falling-octets (r .low) (s ∷ ds) (omega arith) (f .2)))))
 
 -- The bodies.
-pub body1-length : (rs : List Run) → length (bodyFor 1 rs) ≡ size1 rs
+pub body1-length : (n : ℕ) (rs : List Run) → length (bodyFor 1 n rs) ≡ n
 unfolding bodyFor
-body1-length rs = octets-length (covers rs) (size1 rs)
+body1-length n rs = octets-length (covers rs) n
 
-pub body2-length : (rs : List Run) → length (bodyFor 2 rs) ≡ size2 rs
+pub body2-length : (n : ℕ) (rs : List Run) → length (bodyFor 2 n rs) ≡ size2 rs
 unfolding bodyFor
-body2-length rs = omega (arith, out-length (numbersOf rs), numbers-count rs)
+body2-length n rs = omega (arith, out-length (numbersOf rs), numbers-count rs)
 
-pub body5-length : (rs : List Run) → length (bodyFor 5 rs) ≡ size5 rs
+pub body5-length : (n : ℕ) (rs : List Run) → length (bodyFor 5 n rs) ≡ size5 rs
 unfolding bodyFor
-body5-length rs = omega (arith, out-length (endsOf (turned [] rs)), ends-length rs)
+body5-length n rs = omega (arith, out-length (endsOf (turned [] rs)), ends-length rs)
+
+-- the octets that the form says
+pub form-size : (p : Spellings) (rs : List Run) (f : Form) → Taken p (size1 rs) (size2 rs) (size5 rs) f → 0 < f .tag → length (bodyFor (f .tag) (f .size) rs) ≡ f .size
+form-size p rs f (take1 e h) q = body1-length (size1 rs) rs
+form-size p rs f (take-ten e h) q = body1-length 10 rs
+form-size p rs f (take2 e h) q = body2-length (size2 rs) rs
+form-size p rs f (take5 e h) q = body5-length (size5 rs) rs
+form-size p rs f take0 q = absurd (omega arith)
+
+-- Runs that keep apart, highest first, are written tight.
+abbrev Apart : List Run → Type 0
+Apart [] = Unit {0}
+Apart (r ∷ []) = Unit {0}
+Apart (r ∷ s ∷ ds) = (s .high + 1 < r .low) × Apart (s ∷ ds)
+
+tight-ends : (ds : List Run) → Apart ds → tight (endsOf ds) ≡ true
+tight-ends [] q = refl
+tight-ends (r ∷ []) q = go (eqb (r .low) 0) refl
+  where
+    go : (z : Bool) → eqb (r .low) 0 ≡ z → tight (cond z (r .high ∷ []) (r .high ∷ r .low ∷ [])) ≡ true
+    go true e = refl
+    go false e = rw e
+tight-ends (r ∷ s ∷ ds) q = go ds (tight-ends (s ∷ ds) (q .1))
+  where
+    go : (xs : List Run) → tight (endsOf (s ∷ xs)) ≡ true → tight (endsOf (r ∷ s ∷ xs)) ≡ true
+    go [] ih = last (eqb (s .low) 0) ih
+      where
+        last : (z : Bool) → tight (cond z (s .high ∷ []) (s .high ∷ s .low ∷ [])) ≡ true → tight (r .high ∷ r .low ∷ cond z (s .high ∷ []) (s .high ∷ s .low ∷ [])) ≡ true
+        last true e = rw (lt-ltb (s .high + 1) (r .low) (q .0))
+        last false e = rw (lt-ltb (s .high + 1) (r .low) (q .0)) e
+    go (t ∷ xs) ih = rw (lt-ltb (s .high + 1) (r .low) (q .0)) ih
+
+-- what is there begins far enough below
+abbrev Starts : ℕ → List Run → Type 0
+Starts lo [] = Unit {0}
+Starts lo (s ∷ acc) = s .high + 2 ≤ lo
+
+turned-apart : (lo : ℕ) (acc rs : List Run) → Canon lo rs → Apart acc → Starts lo acc → Apart (turned acc rs)
+turned-apart lo acc [] k a b = a
+turned-apart lo acc (r ∷ rs) k a b = turned-apart (r .high + 2) (r ∷ acc) rs (k .2) (onto acc a b) (le-refl (r .high + 2))
+  where
+    onto : (acc : List Run) → Apart acc → Starts lo acc → Apart (r ∷ acc)
+    onto [] a b = tt
+    onto (s ∷ acc) a b = (omega (arith, k .0), a)
 
 module _ (rs : List Run) (k : Canon 0 rs) (b : Below 65535 rs) where
   runs-fall : Falling 65535 (turned [] rs)
   runs-fall = turned-falling 0 65535 [] rs tt (canon-rising 0 0 rs zero-le zero-le k b)
 
-  pub octets1 : Octets (bodyFor 1 rs)
+  pub octets1 : (n : ℕ) → Octets (bodyFor 1 n rs)
   unfolding bodyFor
-  octets1 = bitmap-octets (covers rs) (size1 rs)
+  octets1 n = bitmap-octets (covers rs) n
 
-  pub octets2 : Octets (bodyFor 2 rs)
+  pub octets2 : (n : ℕ) → Octets (bodyFor 2 n rs)
   unfolding bodyFor
-  octets2 = rising-octets 0 (numbersOf rs) (numbers-rising 0 rs k b)
+  octets2 n = rising-octets 0 (numbersOf rs) (numbers-rising 0 rs k b)
 
-  pub octets5 : Octets (bodyFor 5 rs)
+  pub octets5 : (n : ℕ) → Octets (bodyFor 5 n rs)
   unfolding bodyFor
-  octets5 = falling-octets 65535 (turned [] rs) (omega arith) runs-fall
+  octets5 n = falling-octets 65535 (turned [] rs) (omega arith) runs-fall
 
-  pub good1 : size1 rs ≤ 30 → goodBody 1 (bodyFor 1 rs) ≡ true
+  pub good1 : (n : ℕ) → n ≤ 30 → goodBody 1 (bodyFor 1 n rs) ≡ true
   unfolding goodBody
-  good1 h = rw (body1-length rs, le-leb (size1 rs) 30 h)
+  good1 n h = rw (body1-length n rs, le-leb n 30 h)
 
-  pub has1 : (c : ℕ) → bodyHas 1 (bodyFor 1 rs) c ≡ covers rs c
+  pub has1 : (n : ℕ) → size1 rs ≤ n → (c : ℕ) → bodyHas 1 (bodyFor 1 n rs) c ≡ covers rs c
   unfolding bodyHas bodyFor
-  has1 c = simp or-false (shortest-bit rs c k)
+  has1 n h c = simp or-false (bitmap-bit rs n c k h)
 
-  pub good2 : size2 rs ≤ 30 → goodBody 2 (bodyFor 2 rs) ≡ true
+  pub good2 : (n : ℕ) → size2 rs ≤ 30 → goodBody 2 (bodyFor 2 n rs) ≡ true
   unfolding goodBody bodyFor
-  good2 h =
+  good2 n h =
       let l : length (octetsOut (numbersOf rs)) ≡ size2 rs = omega (arith, out-length (numbersOf rs), numbers-count rs) in
       rw (l, numbers-back (numbersOf rs), numbers-rising 0 rs k b, le-leb (size2 rs) 30 h, eq-eqb (size2 rs % 2) 0 (omega arith))
 
-  pub has2 : (c : ℕ) → bodyHas 2 (bodyFor 2 rs) c ≡ covers rs c
+  pub has2 : (n c : ℕ) → bodyHas 2 (bodyFor 2 n rs) c ≡ covers rs c
   unfolding bodyHas bodyFor
-  has2 c = rw (numbers-back (numbersOf rs)) (or-false _ ∙ numbers-cover 0 rs c k)
+  has2 n c = rw (numbers-back (numbersOf rs)) (or-false _ ∙ numbers-cover 0 rs c k)
 
-  pub good5 : size5 rs ≤ 28 → goodBody 5 (bodyFor 5 rs) ≡ true
+  pub good5 : (n : ℕ) → size5 rs ≤ 28 → goodBody 5 (bodyFor 5 n rs) ≡ true
   unfolding goodBody bodyFor
-  good5 h =
+  good5 n h =
       let l : length (octetsOut (endsOf (turned [] rs))) ≡ 2 * length (endsOf (turned [] rs)) = out-length (endsOf (turned [] rs)) in
       let f : falling 65535 (turned [] rs) ≡ true = true-falling 65535 (turned [] rs) runs-fall in
       rw (l, numbers-back (endsOf (turned [] rs)), pairs-back (turned [] rs), f, le-leb (2 * length (endsOf (turned [] rs))) 28 (omega (arith, ends-length rs)), eq-eqb (2 * length (endsOf (turned [] rs)) % 2) 0 (omega arith))
 
-  pub has5 : (c : ℕ) → bodyHas 5 (bodyFor 5 rs) c ≡ covers rs c
+  pub has5 : (n c : ℕ) → bodyHas 5 (bodyFor 5 n rs) c ≡ covers rs c
   unfolding bodyHas bodyFor
-  has5 c = rw (numbers-back (endsOf (turned [] rs)), pairs-back (turned [] rs)) (turned-covers [] rs c ∙ or-false (covers rs c))
+  has5 n c = rw (numbers-back (endsOf (turned [] rs)), pairs-back (turned [] rs)) (turned-covers [] rs c ∙ or-false (covers rs c))
+
+  -- each is in the form that it is written in
+  pub trimmed1 : trimmed (bodyFor 1 (size1 rs) rs) ≡ true
+  unfolding bodyFor
+  trimmed1 = shortest-trimmed rs k
+
+  pub tight5 : (n : ℕ) → tight (numbersIn (bodyFor 5 n rs)) ≡ true
+  unfolding bodyFor
+  tight5 n = rw (numbers-back (endsOf (turned [] rs))) (tight-ends (turned [] rs) (turned-apart 0 [] rs k tt tt))
 
 -- An option that is put together is valid and means what its body has.
 pub option-means : (d v t : ℕ) (b : List ℕ) (rs : List Run) → FormedRuns d v rs → t < 256 → Octets b → goodBody t b ≡ true → ((c : ℕ) → bodyHas t b c ≡ covers rs c) → MeansRuns (optionOf d v t b) d v rs

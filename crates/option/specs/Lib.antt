@@ -1,5 +1,6 @@
 pub mod Bitmap
 pub mod Option
+pub mod Permitted
 pub mod Reading
 pub mod Spelling
 pub mod Index

@@ -1,4 +1,5 @@
--- Document 01, "The leaving area"; demand 3: the one spelling of a label, its shortest valid option, equal lengths to tag 1, then 2, then 5.
+-- Document 01, "The leaving area"; demand 3; document 02, Wish 5: the one spelling of a label, the shortest of the permitted ones that mean it,
+-- equal lengths to tag 1 in its shortest form, then tag 1 with ten bitmap octets, then tag 2, then tag 5.
 -- That it is so is proved over the meaning of an option (`Theorems`); here is how it is made.
 use Prim.Native.Nat.{ℕ, zero, suc, _+_, _-_, _*_, _/_, _%_}
 use mathlib.Core.List.{List, [], _∷_, _++_}
@@ -10,6 +11,8 @@ use Rattle.label.specs.declared.Run.{Run}
 use Rattle.label.specs.declared.Label.{Label}
 use Rattle.label.specs.Runs.{covers, countOf, topOf}
 use Rattle.label.specs.Label.{used}
+use Rattle.option.specs.declared.Spellings.{Spellings}
+use Rattle.option.specs.declared.Form.{Form}
 use Rattle.option.specs.Reading.{turned}
 
 -- the lowest run starts at 0
@@ -41,13 +44,25 @@ size2 rs = 2 * countOf rs
 abbrev pub size5 : List Run → ℕ
 size5 rs = 4 * length rs - cond (fromZero rs) 2 0
 
--- the tag of the least of three sizes, equal ones to the first, or 0 where none fits
-abbrev pub leastTag : ℕ → ℕ → ℕ → ℕ
-leastTag a b c = cond (leb a 30 && (leb a b && leb a c)) 1 (cond (leb b 30 && leb b c) 2 (cond (leb c 28) 5 0))
+-- a form that may be taken; else none: tag 0, with more octets than any
+abbrev pub formIf : Bool → ℕ → ℕ → Form
+formIf z t n = cond z (record { tag = t; size = n }) (record { tag = 0; size = 31 })
 
--- the tag of the spelling, or 0 where there is none
-unfoldable pub tagFor : List Run → ℕ
-tagFor rs = leastTag (size1 rs) (size2 rs) (size5 rs)
+-- the shorter of two, equal lengths to the first
+abbrev pub shorter : Form → Form → Form
+shorter f g = cond (leb (f .size) (g .size)) f g
+
+-- of the permitted forms that hold the categories the shortest, by the octets that tags 1, 2 and 5 need: a bitmap has at most 30, tag 2 at
+-- most 15 numbers, tag 5 at most 7 pairs
+unfoldable pub leastForm : Spellings → ℕ → ℕ → ℕ → Form
+leastForm p a b c =
+    shorter (formIf (p .shortest && leb a 30) 1 a)
+    (shorter (formIf (p .ten && leb a 10) 1 10)
+    (shorter (formIf (p .numbers && leb b 30) 2 b) (formIf (p .pairs && leb c 28) 5 c)))
+
+-- the form of the spelling; tag 0 where there is none
+unfoldable pub formFor : Spellings → List Run → Form
+formFor p rs = leastForm p (size1 rs) (size2 rs) (size5 rs)
 
 -- numbers as two octets each
 abbrev pub octetsOut : List ℕ → List ℕ
@@ -70,10 +85,11 @@ endsOf [] = []
 endsOf (r ∷ []) = cond (eqb (r .low) 0) (r .high ∷ []) (r .high ∷ r .low ∷ [])
 endsOf (r ∷ s ∷ rs) = r .high ∷ r .low ∷ endsOf (s ∷ rs)
 
-unfoldable pub bodyFor : ℕ → List Run → List ℕ
-bodyFor t rs =
+-- the categories in tag t; a bitmap of n octets
+unfoldable pub bodyFor : ℕ → ℕ → List Run → List ℕ
+bodyFor t n rs =
     elim (eqb t 1) [
-      | true ↦ octetsOf (covers rs) (size1 rs)
+      | true ↦ octetsOf (covers rs) n
       | false ↦ elim (eqb t 2) [ true ↦ octetsOut (numbersOf rs) | false ↦ octetsOut (endsOf (turned [] rs)) ]
     ]
 
@@ -81,17 +97,17 @@ abbrev pub optionOf : ℕ → ℕ → ℕ → List ℕ → List ℕ
 optionOf d v t b =
     134 ∷ (10 + length b) ∷ d / 256 / 256 / 256 ∷ d / 256 / 256 % 256 ∷ d / 256 % 256 ∷ d % 256 ∷ t ∷ (4 + length b) ∷ 0 ∷ v ∷ b
 
--- the option that tag t spells
-unfoldable pub spelledBy : ℕ → ℕ → ℕ → List Run → List ℕ
-spelledBy t d v rs = optionOf d v t (bodyFor t rs)
+-- the option of a form
+unfoldable pub spelledBy : Form → ℕ → ℕ → List Run → List ℕ
+spelledBy f d v rs = optionOf d v (f .tag) (bodyFor (f .tag) (f .size) rs)
 
-unfoldable pub spellingOf : ℕ → ℕ → List Run → Option (List ℕ)
-spellingOf d v rs = elim (eqb (tagFor rs) 0) [ true ↦ none | false ↦ some (spelledBy (tagFor rs) d v rs) ]
+unfoldable pub spellingOf : Spellings → ℕ → ℕ → List Run → Option (List ℕ)
+spellingOf p d v rs = elim (eqb (formFor p rs .tag) 0) [ true ↦ none | false ↦ some (spelledBy (formFor p rs) d v rs) ]
 
 -- what 40 octets of output hold
 abbrev pub padded : List ℕ → List ℕ
 padded o = o ++ replicate (40 - length o) 0
 
--- the spelling of a label, or none
-abbrev pub spelledOf : Label → Option (List ℕ)
-spelledOf l = spellingOf (l .domain) (l .level) (used l)
+-- the spelling of a label under a set of permitted ones, or none
+abbrev pub spelledOf : Spellings → Label → Option (List ℕ)
+spelledOf p l = spellingOf p (l .domain) (l .level) (used l)

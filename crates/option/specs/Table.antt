@@ -1,12 +1,15 @@
 -- P1 to P11 of document 01: sets of categories, and the tag that each is spelled in, octet by octet.
 use Prim.Native.Nat.{ℕ, zero, suc, _+_}
 use mathlib.Core.Path.{_≡_}
-use mathlib.Core.List.{List, [], _∷_, map}
+use mathlib.Core.Bool.{true, false}
+use mathlib.Core.List.{List, [], _∷_, _++_, map}
 use mathlib.Core.Option.{Option, none, some}
 use lib.ListN.{drop, replicate}
 use Rattle.label.specs.declared.Run.{Run}
 use Rattle.label.specs.Runs.{run}
 use Rattle.option.specs.Reading.{optionRuns}
+use Rattle.option.specs.declared.Spellings.{Spellings}
+use Rattle.option.specs.Permitted.{usual}
 use Rattle.option.specs.Spelling.{spellingOf}
 
 -- n categories from x on, every other one
@@ -51,9 +54,53 @@ table =
     }
     ∷ []
 
--- the tag of the spelling at level 3 in domain 5
-abbrev pub tagAt3 : Row → Option (List ℕ)
-tagAt3 r = elim (spellingOf 5 3 (r .categories)) [ none ↦ none | some o ↦ some (drop 6 o) ]
+-- the tag of the spelling at level 3 in domain 5, under a set of permitted ones
+abbrev pub tagAt3 : Spellings → List Run → Option (List ℕ)
+tagAt3 p rs = elim (spellingOf p 5 3 rs) [ none ↦ none | some o ↦ some (drop 6 o) ]
 
 abbrev pub TableHolds : Type 0
-TableHolds = map tagAt3 table ≡ map (λ (r : Row). r .tag) table
+TableHolds = map (λ (r : Row). tagAt3 usual (r .categories)) table ≡ map (λ (r : Row). r .tag) table
+
+-- Document 02, Wish 5: the same with other sets.
+pub record SetRow : Type 0 where
+  pub permitted : Spellings
+  pub categories : List Run
+  pub tag : Option (List ℕ)
+
+abbrev pub onlyShortest : Spellings
+onlyShortest = record { shortest = true; ten = false; numbers = false; pairs = false }
+
+abbrev pub onlyTen : Spellings
+onlyTen = record { shortest = false; ten = true; numbers = false; pairs = false }
+
+abbrev pub tenAndNumbers : Spellings
+tenAndNumbers = record { shortest = false; ten = true; numbers = true; pairs = false }
+
+abbrev pub allFour : Spellings
+allFour = record { shortest = true; ten = true; numbers = true; pairs = true }
+
+abbrev pub noSpelling : Spellings
+noSpelling = record { shortest = false; ten = false; numbers = false; pairs = false }
+
+abbrev pub setTable : List SetRow
+setTable =
+    -- ten octets, also for no categories
+    record { permitted = onlyTen; categories = []; tag = some (1 ∷ 14 ∷ 0 ∷ 3 ∷ replicate 10 0) }
+    ∷ record { permitted = onlyTen; categories = run 15 15 ∷ []; tag = some (1 ∷ 14 ∷ 0 ∷ 3 ∷ 0 ∷ 1 ∷ replicate 8 0) }
+    -- 79 is the last category of ten octets
+    ∷ record { permitted = onlyTen; categories = run 79 79 ∷ []; tag = some (1 ∷ 14 ∷ 0 ∷ 3 ∷ replicate 9 0 ++ 1 ∷ []) }
+    ∷ record { permitted = onlyTen; categories = run 80 80 ∷ []; tag = none }
+    -- tag 1 alone: 239 is its last category
+    ∷ record { permitted = onlyShortest; categories = run 239 239 ∷ []; tag = some (1 ∷ 34 ∷ 0 ∷ 3 ∷ replicate 29 0 ++ 1 ∷ []) }
+    ∷ record { permitted = onlyShortest; categories = run 0 240 ∷ []; tag = none }
+    -- five numbers and ten octets tie at 14, ten octets; four numbers are shorter
+    ∷ record { permitted = tenAndNumbers; categories = everyOther 8 5; tag = some (1 ∷ 14 ∷ 0 ∷ 3 ∷ 0 ∷ 170 ∷ 128 ∷ replicate 7 0) }
+    ∷ record { permitted = tenAndNumbers; categories = everyOther 8 4; tag = some (2 ∷ 12 ∷ 0 ∷ 3 ∷ 0 ∷ 8 ∷ 0 ∷ 10 ∷ 0 ∷ 12 ∷ 0 ∷ 14 ∷ []) }
+    -- the shortest bitmap is taken where ten octets are permitted too
+    ∷ record { permitted = allFour; categories = run 15 15 ∷ []; tag = some (1 ∷ 6 ∷ 0 ∷ 3 ∷ 0 ∷ 1 ∷ []) }
+    -- nothing is permitted
+    ∷ record { permitted = noSpelling; categories = []; tag = none }
+    ∷ []
+
+abbrev pub SetTableHolds : Type 0
+SetTableHolds = map (λ (r : SetRow). tagAt3 (r .permitted) (r .categories)) setTable ≡ map (λ (r : SetRow). r .tag) setTable

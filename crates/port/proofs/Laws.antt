@@ -9,8 +9,10 @@ use Rattle.label.specs.Label.{wellFormed, atMost, leq, inRange, isZero}
 use Rattle.label.proofs.Bools.{and-left, and-right}
 use Rattle.label.proofs.Labels.{leq-at-most}
 use lib.ListN.{length}
-use Rattle.basic.specs.Settings.{basicSound}
+use Rattle.basic.specs.Settings.{isOff, basicSound}
 use Rattle.basic.proofs.Settings.{off-is}
+use Rattle.option.specs.Permitted.{someOf}
+use Rattle.option.proofs.Sets.{usual-is}
 use Rattle.port.specs.declared.Port.{Port}
 use Rattle.port.specs.declared.Host.{Host}
 use Rattle.port.specs.Port.{plainPort, isPlain, rangeSound, assignedSound, portSound, hostSound}
@@ -48,7 +50,8 @@ pub host-range : (h : Host) (domain : ℕ) → hostSound h domain ≡ true → R
 unfolding hostSound
 host-range h d e = sound-range (h .lowest) (h .highest) d e
 
--- A sound port, part by part: its range, the assigned label where none is required, and the settings of option 130.
+-- A sound port, part by part: its range, the assigned label where none is required, the settings of option 130, and the permitted
+-- spellings.
 pub record Sound (p : Port) : Type 0 where
   pub owned : p .domain ≡ 0 → ⊥
   pub range : Range (p .lowest) (p .highest) (p .domain)
@@ -56,6 +59,7 @@ pub record Sound (p : Port) : Type 0 where
   pub assigned-formed : p .required ≡ false → wellFormed (p .assigned) ≡ true
   pub assigned-zero : p .required ≡ true → isZero (p .assigned) ≡ true
   pub basic : basicSound (p .basic) ≡ true
+  pub permitted : someOf (p .spellings) ≡ true
 
 range-formed : (l h a : Label) → inRange l h a ≡ true → wellFormed a ≡ true
 unfolding inRange
@@ -74,15 +78,16 @@ sound p e =
       assigned = free;
       assigned-formed = λ f. range-formed (p .lowest) (p .highest) (p .assigned) (free f);
       assigned-zero = λ f. rw f at e3;
-      basic = and-right (assignedSound p) _ e2;
+      basic = and-left (basicSound (p .basic)) _ (and-right (assignedSound p) _ e2);
+      permitted = and-right (basicSound (p .basic)) _ (and-right (assignedSound p) _ e2);
     }
 
 -- The assigned label is the last to be looked at.
 
 pub assigned-last : (p : Port) → (p .domain ≡ 0 → ⊥) → rangeSound (p .lowest) (p .highest) (p .domain) ≡ true → basicSound (p .basic) ≡ true
-    → assignedSound p ≡ portSound p
+    → someOf (p .spellings) ≡ true → assignedSound p ≡ portSound p
 unfolding portSound
-assigned-last p d r b = sym (rw (ne-eqb (p .domain) 0 d, r, b) (and-true (assignedSound p)))
+assigned-last p d r b s = sym (rw (ne-eqb (p .domain) 0 d, r, b, s) (and-true (assignedSound p)))
 
 pub assigned-required : (p : Port) (b : Bool) → p .required ≡ b → assignedSound p ≡ cond b (isZero (p .assigned)) (inRange (p .lowest) (p .highest) (p .assigned))
 unfolding assignedSound
@@ -93,8 +98,17 @@ pub plain-is : (p : Port) → length (p .basic .receiving .flags) ≡ 256 → le
     → p ≡ plainPort (p .domain) (p .lowest) (p .highest) (p .required) (p .assigned)
 unfolding isPlain
 plain-is p m n e =
-    let b = off-is (p .basic) m n e in
-    λ i. record { domain = p .domain; lowest = p .lowest; highest = p .highest; required = p .required; assigned = p .assigned; basic = b i }
+    let b = off-is (p .basic) m n (and-left (isOff (p .basic)) _ e) in
+    let s = usual-is (p .spellings) (and-right (isOff (p .basic)) _ e) in
+    λ i. record {
+      domain = p .domain;
+      lowest = p .lowest;
+      highest = p .highest;
+      required = p .required;
+      assigned = p .assigned;
+      basic = b i;
+      spellings = s i;
+    }
 
 -- The tests of a range, in the order in which they are made.
 

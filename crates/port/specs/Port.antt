@@ -5,17 +5,26 @@ use lib.Dec.{eqb}
 use Rattle.label.specs.declared.Label.{Label}
 use Rattle.label.specs.Label.{leq, inRange, isZero}
 use Rattle.basic.specs.Settings.{basicOff, isOff, basicSound}
+use Rattle.option.specs.Permitted.{usual, isUsual, someOf}
 use Rattle.port.specs.declared.Port.{Port}
 use Rattle.port.specs.declared.Host.{Host}
 
 -- a port as document 01 has it: a field that a wish adds has the value that says what was before
 abbrev pub plainPort : ℕ → Label → Label → Bool → Label → Port
 plainPort domain lowest highest required assigned =
-    record { domain = domain; lowest = lowest; highest = highest; required = required; assigned = assigned; basic = basicOff }
+    record {
+      domain = domain;
+      lowest = lowest;
+      highest = highest;
+      required = required;
+      assigned = assigned;
+      basic = basicOff;
+      spellings = usual;
+    }
 
 -- document 01's record says it: every later field has the value that `plainPort` gives
 unfoldable pub isPlain : Port → Bool
-isPlain p = isOff (p .basic)
+isPlain p = isOff (p .basic) && isUsual (p .spellings)
 
 -- both labels are well formed and of the domain, and lowest ≤ highest
 unfoldable pub rangeSound : Label → Label → ℕ → Bool
@@ -26,10 +35,11 @@ rangeSound lowest highest domain =
 unfoldable pub assignedSound : Port → Bool
 assignedSound p = cond (p .required) (isZero (p .assigned)) (inRange (p .lowest) (p .highest) (p .assigned))
 
--- a nonzero domain, a sound range in it, a sound assigned label; sound settings of option 130
+-- a nonzero domain, a sound range in it, a sound assigned label; sound settings of option 130; at least one permitted spelling
 unfoldable pub portSound : Port → Bool
 portSound p =
-    not (eqb (p .domain) 0) && (rangeSound (p .lowest) (p .highest) (p .domain) && (assignedSound p && basicSound (p .basic)))
+    not (eqb (p .domain) 0)
+    && (rangeSound (p .lowest) (p .highest) (p .domain) && (assignedSound p && (basicSound (p .basic) && someOf (p .spellings))))
 
 -- the host's range, in the port's domain. House: that the port's range lies inside the host's is not tested
 unfoldable pub hostSound : Host → ℕ → Bool

@@ -6,6 +6,7 @@ ghost use Rattle.port.specs.Port.{plainPort, isPlain, portSound, hostSou
 use basic::Basic;
 use basic::basic_sound;
 use label::Label;
+use option::Spellings;
 
 pub struct Port {
     pub domain: u32,
@@ -15,6 +16,8 @@ pub struct Port {
     pub assigned: Label,
     // what passes of option 130 (Wish 3)
     pub basic: Basic,
+    // which spellings the far side can read (Wish 5)
+    pub spellings: Spellings,
 }
 
 pub struct Host {
@@ -40,6 +43,7 @@ impl Port {
             required: required,
             assigned: assigned,
             basic: Basic::off(),
+            spellings: Spellings::usual(),
         }
     }
 
@@ -47,6 +51,10 @@ impl Port {
     pub fn is_plain(self) -> bool
         ensures { λ r. ⌜ r ≡ isPlain self ⌝ }
     {
+        let spellings = self.spellings;
+        if !spellings.is_usual() {
+            return false;
+        }
         let basic = self.basic;
         basic.is_off()
     }
@@ -57,6 +65,10 @@ pub fn port_sound(port: Port) -> bool
     ensures { λ r. ⌜ r ≡ portSound port ⌝ }
 {
     if port.domain == 0 {
+        return false;
+    }
+    let spellings = port.spellings;
+    if !spellings.some() {
         return false;
     }
     let lowest = port.lowest;

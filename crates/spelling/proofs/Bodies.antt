@@ -2,57 +2,54 @@
 use Prim.Native.Nat.{ℕ, _-_, _*_, _/_, _≤_, _<_}
 use mathlib.Core.Path.{_≡_, refl, ap, sym, _∙_}
 use mathlib.Core.List.{List}
+use mathlib.Core.Logic.{_⊎_, inl, inr, ⊎-elim}
 use lib.ListN.{length}
 use native.Mathlib.Omega.{arith}
 use Rattle.label.specs.declared.Run.{Run}
 use Rattle.label.specs.Runs.{covers, countOf}
+use Rattle.option.specs.declared.Spellings.{Spellings}
+use Rattle.option.specs.declared.Form.{Form}
 use Rattle.option.specs.Index.{numbersOut, pairNumber}
-use Rattle.option.specs.Spelling.{size1, size2, size5, tagFor, bodyFor, octetsOf, octetsOut, numbersOf}
-use Rattle.option.proofs.Choice.{Choice, take0, take1, take2, take5, choice, size5-even}
-use Rattle.option.proofs.Spelled.{body1-length, body2-length, body5-length}
+use Rattle.option.specs.Spelling.{size1, size2, size5, formFor, bodyFor, octetsOf, octetsOut, numbersOf}
+use Rattle.option.proofs.Choice.{Taken, take0, take1, take-ten, take2, take5, Best, choice, size5-even}
+use Rattle.option.proofs.Spelled.{body2-length, body5-length, form-size}
 use Rattle.option.proofs.Bridge.{pairs-out}
+use Rattle.spelling.specs.Stages.{Written}
 
-module _ (t : ℕ) (rs : List Run) (e : t ≡ tagFor rs) where
-  chosen : Choice (size1 rs) (size2 rs) (size5 rs) t
-  chosen = rw e (choice rs)
+-- the form of a spelling is written in its size, at most 30 octets
+module _ (p : Spellings) (rs : List Run) where
+  taken-written : (f : Form) → Taken p (size1 rs) (size2 rs) (size5 rs) f → 0 < f .tag → Written (f .tag) (f .size) rs
+  taken-written f (take1 e h) q = record { short = h; sized = form-size p rs f (take1 e h) q; known = inl refl }
+  taken-written f (take-ten e h) q = record { short = omega arith; sized = form-size p rs f (take-ten e h) q; known = inl refl }
+  taken-written f (take2 e h) q = record { short = h; sized = form-size p rs f (take2 e h) q; known = inr (inl refl) }
+  taken-written f (take5 e h) q = record { short = omega arith; sized = form-size p rs f (take5 e h) q; known = inr (inr refl) }
+  taken-written f take0 q = absurd (omega arith)
 
-  -- the categories of a spelling fit into 30 octets
-  pub body-short : 0 < t → length (bodyFor t rs) ≤ 30
-  body-short h = go t chosen h
-    where
-      go : (u : ℕ) → Choice (size1 rs) (size2 rs) (size5 rs) u → 0 < u → length (bodyFor u rs) ≤ 30
-      go u (take1 a b c) h = omega (arith, body1-length rs)
-      go u (take2 a b c) h = omega (arith, body2-length rs)
-      go u (take5 a b c) h = omega (arith, body5-length rs)
-      go u (take0 a b c) h = absurd (omega arith)
+  pub form-written : (f : Form) → f ≡ formFor p rs → 0 < f .tag → Written (f .tag) (f .size) rs
+  form-written f e h = taken-written f (rw e (choice p rs .taken)) h
 
+  pub form-short : (f : Form) → f ≡ formFor p rs → 0 < f .tag → f .size ≤ 30
+  form-short f e h = form-written f e h .short
+
+module _ (t n : ℕ) (rs : List Run) (w : Written t n rs) where
   -- the last of the three tags
-  pub five : (t ≡ 1 → ⊥) → (t ≡ 2 → ⊥) → 0 < t → t ≡ 5
-  five n m h = go t chosen n m h
-    where
-      go : (u : ℕ) → Choice (size1 rs) (size2 rs) (size5 rs) u → (u ≡ 1 → ⊥) → (u ≡ 2 → ⊥) → 0 < u → u ≡ 5
-      go u (take1 a b c) n m h = absurd (n refl)
-      go u (take2 a b c) n m h = absurd (m refl)
-      go u (take5 a b c) n m h = refl
-      go u (take0 a b c) n m h = absurd (omega arith)
+  pub five : (t ≡ 1 → ⊥) → (t ≡ 2 → ⊥) → t ≡ 5
+  five a b = ⊎-elim (λ e. absurd (a e)) (λ q. ⊎-elim (λ e. absurd (b e)) (λ e. e) q) (w .known)
 
-module _ (t n : ℕ) (rs : List Run) (len : n ≡ length (bodyFor t rs)) where
-  pub body-one : t ≡ 1 → octetsOf (covers rs) n ≡ bodyFor t rs
+  pub body-one : t ≡ 1 → octetsOf (covers rs) n ≡ bodyFor t n rs
   unfolding bodyFor
-  body-one e =
-      let l : n ≡ size1 rs = len ∙ ap (λ (u : ℕ). length (bodyFor u rs)) e ∙ body1-length rs in
-      rw (e, l)
+  body-one e = rw e
 
-  pub body-two : t ≡ 2 → (octetsOut (numbersOf rs) ≡ bodyFor t rs) × (2 * countOf rs ≡ n)
+  pub body-two : t ≡ 2 → (octetsOut (numbersOf rs) ≡ bodyFor t n rs) × (2 * countOf rs ≡ n)
   unfolding bodyFor
   body-two e =
-      let l : n ≡ size2 rs = len ∙ ap (λ (u : ℕ). length (bodyFor u rs)) e ∙ body2-length rs in
+      let l : n ≡ size2 rs = sym (w .sized) ∙ ap (λ (u : ℕ). length (bodyFor u n rs)) e ∙ body2-length n rs in
       (rw e, sym l)
 
-  pub body-five : t ≡ 5 → (numbersOut (pairNumber rs) (n / 2) ≡ bodyFor t rs) × (2 * (n / 2) ≡ n) × (n / 2 ≤ 2 * length rs)
+  pub body-five : t ≡ 5 → (numbersOut (pairNumber rs) (n / 2) ≡ bodyFor t n rs) × (2 * (n / 2) ≡ n) × (n / 2 ≤ 2 * length rs)
   unfolding bodyFor
   body-five e =
-      let l : n ≡ size5 rs = len ∙ ap (λ (u : ℕ). length (bodyFor u rs)) e ∙ body5-length rs in
+      let l : n ≡ size5 rs = sym (w .sized) ∙ ap (λ (u : ℕ). length (bodyFor u n rs)) e ∙ body5-length n rs in
       let v = size5-even rs in
       let h : 2 * (n / 2) ≡ size5 rs = omega arith in
-      (pairs-out rs (n / 2) h ∙ sym (ap (λ (u : ℕ). bodyFor u rs) e), omega arith, omega arith)
+      (pairs-out rs (n / 2) h ∙ sym (ap (λ (u : ℕ). bodyFor u n rs) e), omega arith, omega arith)

@@ -1,21 +1,24 @@
 -- Laws of the choice: a capped count serves as well, and the sizes by the first and the last run.
-use Prim.Native.Nat.{ℕ, zero, suc, _+_, _-_, _*_, _/_, _≤_, _<_}
+use Prim.Native.Nat.{ℕ, zero, suc, _+_, _-_, _*_, _/_, _%_, _≤_, _<_}
 use mathlib.Core.Path.{_≡_, refl, ap, sym, _∙_}
 use mathlib.Core.List.{List, [], _∷_}
-use mathlib.Core.Bool.{cond}
+use mathlib.Core.Bool.{Bool, true, false, cond, _&&_, and-false, true≢false}
+use mathlib.Core.Logic.{_⊎_, inl, inr}
 use lib.ListN.{length, getD}
-use lib.Dec.{eqb}
+use lib.Dec.{leb, eqb}
 use native.Mathlib.Omega.{arith}
 use native.Mathlib.Decide.{decLe}
-use borrow.Author.Tests.{le-leb, lt-leb}
+use borrow.Author.Tests.{le-leb, lt-leb, leb-true, leb-false}
 use Rattle.label.specs.declared.Run.{Run}
 use Rattle.label.specs.Label.{noRun}
 use Rattle.label.specs.Runs.{countOf, topOf}
-use Rattle.option.specs.Spelling.{size1, size2, size5, tagFor, bodyFor}
-use Rattle.option.proofs.Choice.{Choice, take0, take1, take2, take5, choice}
-use Rattle.option.proofs.Spelled.{body1-length, body2-length, body5-length}
-use Rattle.spelling.specs.declared.Chosen.{Chosen}
-use Rattle.spelling.specs.Stages.{capped, leastOf, choiceOf}
+use Rattle.option.specs.declared.Spellings.{Spellings}
+use Rattle.label.proofs.Bools.{and-left, and-right}
+use Rattle.option.specs.declared.Form.{Form}
+use Rattle.option.specs.Permitted.{usual}
+use Rattle.option.specs.Spelling.{leastForm, formFor}
+use Rattle.option.proofs.Choice.{form, Taken, take0, take1, take-ten, take2, take5, Before, Best, best}
+use Rattle.spelling.specs.Stages.{capped}
 
 -- the count so far is within the cap
 pub capped-low : (n : ℕ) → n ≤ 15 → capped n ≡ n
@@ -28,16 +31,107 @@ pub capped-most : (n : ℕ) → capped n ≤ 16
 capped-most n = elim (decLe n 15) [ yes u ↦ rw (le-leb n 15 u) (omega arith) | no u ↦ rw (lt-leb n 15 (omega arith)) (omega arith) ]
 
 -- a size over 30 is never taken, whatever it is
-over : (a b b′ c : ℕ) → 30 < b → 30 < b′ → Dec (a ≤ 30) → Dec (a ≤ c) → Dec (c ≤ 28) → leastOf a b c ≡ leastOf a b′ c
-unfolding leastOf
-over a b b′ c h h′ (yes p) (yes q) r = simp (le-leb a 30 p, le-leb a b (omega arith), le-leb a b′ (omega arith), le-leb a c q)
-over a b b′ c h h′ (yes p) (no q) (yes r) = simp (le-leb a 30 p, le-leb a b (omega arith), le-leb a b′ (omega arith), lt-leb a c (omega arith), lt-leb b 30 h, lt-leb b′ 30 h′, le-leb c 28 r)
-over a b b′ c h h′ (yes p) (no q) (no r) = simp (le-leb a 30 p, le-leb a b (omega arith), le-leb a b′ (omega arith), lt-leb a c (omega arith), lt-leb b 30 h, lt-leb b′ 30 h′, lt-leb c 28 (omega arith))
-over a b b′ c h h′ (no p) q (yes r) = simp (lt-leb a 30 (omega arith), lt-leb b 30 h, lt-leb b′ 30 h′, le-leb c 28 r)
-over a b b′ c h h′ (no p) q (no r) = simp (lt-leb a 30 (omega arith), lt-leb b 30 h, lt-leb b′ 30 h′, lt-leb c 28 (omega arith))
+over : (p : Spellings) (a b b′ c : ℕ) → 30 < b → 30 < b′ → leastForm p a b c ≡ leastForm p a b′ c
+unfolding leastForm
+over p a b b′ c h h′ = simp (lt-leb b 30 h, lt-leb b′ 30 h′, and-false)
 
-pub least-capped : (a n c : ℕ) → leastOf a (2 * capped n) c ≡ leastOf a (2 * n) c
-least-capped a n c = elim (decLe n 15) [ yes u ↦ ap (λ (k : ℕ). leastOf a (2 * k) c) (capped-low n u) | no u ↦ ap (λ (k : ℕ). leastOf a (2 * k) c) (capped-over n (omega arith)) ∙ over a (2 * 16) (2 * n) c (omega arith) (omega arith) (decLe a 30) (decLe a c) (decLe c 28) ]
+pub least-capped : (p : Spellings) (a n c : ℕ) → leastForm p a (2 * capped n) c ≡ leastForm p a (2 * n) c
+least-capped p a n c = elim (decLe n 15) [ yes u ↦ ap (λ (k : ℕ). leastForm p a (2 * k) c) (capped-low n u) | no u ↦ ap (λ (k : ℕ). leastForm p a (2 * k) c) (capped-over n (omega arith)) ∙ over p a (2 * 16) (2 * n) c (omega arith) (omega arith) ]
+
+-- Tags 1, 2 and 5 alone: the first test that passes decides.
+not-one : (a b c : ℕ) → (leb a 30 && (leb a b && leb a c)) ≡ false → (30 < a) ⊎ ((b < a) ⊎ (c < a))
+not-one a b c e = go (leb a 30) refl (leb a b) refl (leb a c) refl e
+  where
+    go : (x : Bool) → leb a 30 ≡ x → (y : Bool) → leb a b ≡ y → (z : Bool) → leb a c ≡ z → (x && (y && z)) ≡ false → (30 < a) ⊎ ((b < a) ⊎ (c < a))
+    go false p y q z r e = inl (leb-false _ _ p)
+    go true p false q z r e = inr (inl (leb-false _ _ q))
+    go true p true q false r e = inr (inr (leb-false _ _ r))
+    go true p true q true r e = absurd (true≢false e)
+
+not-two : (b c : ℕ) → (leb b 30 && leb b c) ≡ false → (30 < b) ⊎ (c < b)
+not-two b c e = go (leb b 30) refl (leb b c) refl e
+  where
+    go : (x : Bool) → leb b 30 ≡ x → (y : Bool) → leb b c ≡ y → (x && y) ≡ false → (30 < b) ⊎ (c < b)
+    go false p y q e = inl (leb-false _ _ p)
+    go true p false q e = inr (leb-false _ _ q)
+    go true p true q e = absurd (true≢false e)
+
+pub usual-one : (a b c : ℕ) → (leb a 30 && (leb a b && leb a c)) ≡ true → form 1 a ≡ leastForm usual a b c
+usual-one a b c e =
+    let e1 = and-right (leb a 30) _ e in
+    by (leb-true _ _ (and-left (leb a 30) _ e)) (leb-true _ _ (and-left (leb a b) _ e1)) (leb-true _ _ (and-right (leb a b) _ e1)) (leastForm usual a b c) (best usual a b c)
+  where
+    by : a ≤ 30 → a ≤ b → a ≤ c → (f : Form) → Best usual a b c f → form 1 a ≡ f
+    by h i j f q = go f (q .taken) (q .before1 refl h)
+      where
+        go : (f : Form) → Taken usual a b c f → Before f 1 a → form 1 a ≡ f
+        go f (take1 x y) q = refl
+        go f (take-ten x y) q = absurd (true≢false (sym x))
+        go f (take2 x y) q = absurd (omega (arith, q .1 (omega (arith, q .0))))
+        go f (take5 x y) q = absurd (omega (arith, q .1 (omega (arith, q .0))))
+        go f take0 q = absurd (omega (arith, q .0))
+
+pub usual-two : (a b c : ℕ) → (leb a 30 && (leb a b && leb a c)) ≡ false → (leb b 30 && leb b c) ≡ true → form 2 b ≡ leastForm usual a b c
+usual-two a b c n e = by (not-one a b c n) (leb-true _ _ (and-left (leb b 30) _ e)) (leb-true _ _ (and-right (leb b 30) _ e)) (leastForm usual a b c) (best usual a b c)
+  where
+    one : a ≤ 30 → a ≤ b → b ≤ c → (30 < a) ⊎ ((b < a) ⊎ (c < a)) → ⊥
+    one h i j (inl k) = omega arith
+    one h i j (inr (inl k)) = omega arith
+    one h i j (inr (inr k)) = omega arith
+
+    by : (30 < a) ⊎ ((b < a) ⊎ (c < a)) → b ≤ 30 → b ≤ c → (f : Form) → Best usual a b c f → form 2 b ≡ f
+    by n h j f q = go f (q .taken) (q .before2 refl h)
+      where
+        go : (f : Form) → Taken usual a b c f → Before f 2 b → form 2 b ≡ f
+        go f (take1 x y) q = absurd (one y (q .0) j n)
+        go f (take-ten x y) q = absurd (true≢false (sym x))
+        go f (take2 x y) q = refl
+        go f (take5 x y) q = absurd (omega (arith, q .1 (omega (arith, q .0))))
+        go f take0 q = absurd (omega (arith, q .0))
+
+pub usual-five : (a b c : ℕ) → (leb a 30 && (leb a b && leb a c)) ≡ false → (leb b 30 && leb b c) ≡ false → leb c 28 ≡ true → form 5 c ≡ leastForm usual a b c
+usual-five a b c n m e = by (leb-true _ _ e) (leastForm usual a b c) (best usual a b c)
+  where
+    one : a ≤ 30 → a ≤ c → (b ≤ 30 → a ≤ b) → (30 < a) ⊎ ((b < a) ⊎ (c < a)) → ⊥
+    one h i g (inl k) = omega arith
+    one h i g (inr (inl k)) = omega (arith, g (omega arith))
+    one h i g (inr (inr k)) = omega arith
+
+    two : b ≤ 30 → b ≤ c → (30 < b) ⊎ (c < b) → ⊥
+    two h i (inl k) = omega arith
+    two h i (inr k) = omega arith
+
+    by : c ≤ 28 → (f : Form) → Best usual a b c f → form 5 c ≡ f
+    by h f q = go f (q .taken) (q .before5 refl h) (λ g. q .before2 refl g .0)
+      where
+        go : (f : Form) → Taken usual a b c f → Before f 5 c → (b ≤ 30 → f .size ≤ b) → form 5 c ≡ f
+        go f (take1 x y) q g = absurd (one y (q .0) g (not-one a b c n))
+        go f (take-ten x y) q g = absurd (true≢false (sym x))
+        go f (take2 x y) q g = absurd (two y (q .0) (not-two b c m))
+        go f (take5 x y) q g = refl
+        go f take0 q g = absurd (omega (arith, q .0))
+
+pub usual-none : (a b c : ℕ) → c % 2 ≡ 0 → (leb a 30 && (leb a b && leb a c)) ≡ false → (leb b 30 && leb b c) ≡ false → leb c 28 ≡ false → form 0 31 ≡ leastForm usual a b c
+usual-none a b c even n m e = by (leb-false _ _ e) (leastForm usual a b c) (best usual a b c)
+  where
+    one : a ≤ 30 → 28 < c → (b ≤ 30 → a ≤ b) → (30 < a) ⊎ ((b < a) ⊎ (c < a)) → ⊥
+    one h i g (inl k) = omega arith
+    one h i g (inr (inl k)) = omega (arith, g (omega arith))
+    one h i g (inr (inr k)) = omega (arith, even)
+
+    two : b ≤ 30 → 28 < c → (30 < b) ⊎ (c < b) → ⊥
+    two h i (inl k) = omega arith
+    two h i (inr k) = omega (arith, even)
+
+    by : 28 < c → (f : Form) → Best usual a b c f → form 0 31 ≡ f
+    by h f q = go f (q .taken) (λ g. q .before2 refl g .0)
+      where
+        go : (f : Form) → Taken usual a b c f → (b ≤ 30 → f .size ≤ b) → form 0 31 ≡ f
+        go f (take1 x y) g = absurd (one y h g (not-one a b c n))
+        go f (take-ten x y) g = absurd (true≢false (sym x))
+        go f (take2 x y) g = absurd (two y h (not-two b c m))
+        go f (take5 x y) g = absurd (omega arith)
+        go f take0 g = refl
 
 top-last : (rs : List Run) (k : ℕ) → length rs ≡ suc k → topOf rs ≡ getD rs k noRun .high + 1
 top-last [] k e = absurd (omega arith)
@@ -46,32 +140,23 @@ top-last (r ∷ []) (suc k) e = absurd (omega arith)
 top-last (r ∷ s ∷ rs) zero e = absurd (omega arith)
 top-last (r ∷ s ∷ rs) (suc k) e = top-last (s ∷ rs) k (omega arith)
 
-pub choice-none : (rs : List Run) → length rs ≡ 0 → record { tag = 1; size = 0 } ≡ choiceOf rs
-unfolding leastOf choiceOf
-choice-none [] e = refl
-choice-none (r ∷ rs) e = absurd (omega arith)
-
-pub choice-some : (rs : List Run) (n : ℕ) → n ≡ length rs → 0 < n
-    → leastOf ((getD rs (n - 1) noRun .high + 1 + 7) / 8) (2 * capped (countOf rs)) (4 * n - cond (eqb (getD rs 0 noRun .low) 0) 2 0) ≡ choiceOf rs
-unfolding choiceOf
-choice-some [] n e h = absurd (omega arith)
-choice-some (r ∷ rs) n e h =
-    let t : getD (r ∷ rs) (n - 1) noRun .high + 1 ≡ topOf (r ∷ rs) = sym (top-last (r ∷ rs) (n - 1) (omega arith)) in
-    least-capped _ (countOf (r ∷ rs)) _ ∙ (λ i. leastOf ((t i + 7) / 8) (2 * countOf (r ∷ rs)) (4 * e i - cond (eqb (r .low) 0) 2 0))
-
--- what is known of the choice: its tag is that of the spelling, and its size that of the categories in this tag
-pub choice-tag : (rs : List Run) (r : Chosen) → r ≡ choiceOf rs → r .tag ≡ tagFor rs
-unfolding leastOf choiceOf tagFor
-choice-tag rs r e = ap (λ (x : Chosen). x .tag) e
-
-pub choice-size : (rs : List Run) (r : Chosen) → r ≡ choiceOf rs → 0 < r .tag → r .size ≡ length (bodyFor (r .tag) rs)
-unfolding leastOf choiceOf tagFor
-choice-size rs r e h =
-    let t : r .tag ≡ tagFor rs = choice-tag rs r e in
-    ap (λ (x : Chosen). x .size) e ∙ go (tagFor rs) (choice rs) (rw t at h) ∙ sym (ap (λ (u : ℕ). length (bodyFor u rs)) t)
+-- pairs have an even number of octets
+pub pairs-even : (n low : ℕ) → (4 * n - cond (eqb low 0) 2 0) % 2 ≡ 0
+pairs-even n low = go (eqb low 0)
   where
-    go : (t : ℕ) → Choice (size1 rs) (size2 rs) (size5 rs) t → 0 < t → cond (eqb t 1) (size1 rs) (cond (eqb t 2) (size2 rs) (cond (eqb t 5) (size5 rs) 0)) ≡ length (bodyFor t rs)
-    go t (take1 a b c) h = sym (body1-length rs)
-    go t (take2 a b c) h = sym (body2-length rs)
-    go t (take5 a b c) h = sym (body5-length rs)
-    go t (take0 a b c) h = absurd (omega arith)
+    go : (b : Bool) → (4 * n - cond b 2 0) % 2 ≡ 0
+    go true = omega arith
+    go false = omega arith
+
+pub choice-none : (p : Spellings) (rs : List Run) → length rs ≡ 0 → leastForm p 0 0 0 ≡ formFor p rs
+unfolding formFor
+choice-none p [] e = refl
+choice-none p (r ∷ rs) e = absurd (omega arith)
+
+pub choice-some : (p : Spellings) (rs : List Run) (n : ℕ) → n ≡ length rs → 0 < n
+    → leastForm p ((getD rs (n - 1) noRun .high + 1 + 7) / 8) (2 * capped (countOf rs)) (4 * n - cond (eqb (getD rs 0 noRun .low) 0) 2 0) ≡ formFor p rs
+unfolding formFor
+choice-some p [] n e h = absurd (omega arith)
+choice-some p (r ∷ rs) n e h =
+    let t : getD (r ∷ rs) (n - 1) noRun .high + 1 ≡ topOf (r ∷ rs) = sym (top-last (r ∷ rs) (n - 1) (omega arith)) in
+    least-capped p _ (countOf (r ∷ rs)) _ ∙ (λ i. leastForm p ((t i + 7) / 8) (2 * countOf (r ∷ rs)) (4 * e i - cond (eqb (r .low) 0) 2 0))

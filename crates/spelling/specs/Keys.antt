@@ -6,12 +6,13 @@ use mathlib.Core.Option.{Option, none, some}
 use lib.ListN.{length, drop}
 use lib.Dec.{leb, ltb}
 use Rattle.label.specs.Keys.{keyRuns}
+use Rattle.option.specs.declared.Spellings.{Spellings}
 use Rattle.option.specs.Spelling.{spellingOf}
 use Rattle.spelling.specs.Spelling.{lengthOf}
 
--- the spelling of the keys' runs; over 120 are no label's
-unfoldable pub keysSpelled : ℕ → ℕ → List ℕ → Option (List ℕ)
-keysSpelled d v ks = cond (leb (length ks) 120) (spellingOf d v (keyRuns ks)) none
+-- the spelling of the keys' runs under a set of permitted ones; over 120 are no label's
+unfoldable pub keysSpelled : Spellings → ℕ → ℕ → List ℕ → Option (List ℕ)
+keysSpelled p d v ks = cond (leb (length ks) 120) (spellingOf p d v (keyRuns ks)) none
 
 -- at the front of an output, in which the rest stays; where there is none, all stays
 abbrev pub inFront : Option (List ℕ) → List ℕ → List ℕ
@@ -19,8 +20,8 @@ inFront none out = out
 inFront (some s) out = s ++ drop (length s) out
 
 -- an output of under 40 octets is not written
-unfoldable pub keysCount : ℕ → ℕ → List ℕ → ℕ → ℕ
-keysCount d v ks n = cond (ltb n 40) 0 (lengthOf (keysSpelled d v ks))
+unfoldable pub keysCount : Spellings → ℕ → ℕ → List ℕ → ℕ → ℕ
+keysCount p d v ks n = cond (ltb n 40) 0 (lengthOf (keysSpelled p d v ks))
 
-unfoldable pub keysWritten : ℕ → ℕ → List ℕ → List ℕ → List ℕ
-keysWritten d v ks out = cond (ltb (length out) 40) out (inFront (keysSpelled d v ks) out)
+unfoldable pub keysWritten : Spellings → ℕ → ℕ → List ℕ → List ℕ → List ℕ
+keysWritten p d v ks out = cond (ltb (length out) 40) out (inFront (keysSpelled p d v ks) out)

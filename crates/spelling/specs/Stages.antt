@@ -1,31 +1,26 @@
--- What the private functions answer, in the terms of crate `option`: the chosen tag with its size, the octets before the categories,
--- the bits of a run. Nothing here is said by a public contract.
-use Prim.Native.Nat.{ℕ, _+_, _*_, _/_, _%_, _<_}
+-- What the private functions answer, in the terms of crate `option`: a tag with its size, the octets before the categories, the bits of a run.
+-- Nothing here is said by a public contract.
+use Prim.Native.Nat.{ℕ, _+_, _*_, _/_, _%_, _≤_, _<_}
 use mathlib.Core.Path.{_≡_}
 use mathlib.Core.Bool.{cond}
+use mathlib.Core.Logic.{_⊎_}
 use mathlib.Core.List.{List, [], _∷_}
 use lib.Bits.{bitOr}
 use lib.ListN.{length, getD, drop}
-use lib.Dec.{leb, eqb}
+use lib.Dec.{leb}
 use Rattle.label.specs.declared.Run.{Run}
 use Rattle.label.specs.Runs.{inRun}
-use Rattle.option.specs.Spelling.{bitsOf, size1, size2, size5, leastTag}
-use Rattle.spelling.specs.declared.Chosen.{Chosen}
+use Rattle.option.specs.Spelling.{bitsOf, bodyFor}
 
 -- a count of categories, or 16 where it is over 15
 abbrev pub capped : ℕ → ℕ
 capped n = cond (leb n 15) n 16
 
--- the least of three sizes with its tag
-unfoldable pub leastOf : ℕ → ℕ → ℕ → Chosen
-leastOf a b c =
-    record {
-      tag = leastTag a b c;
-      size = cond (eqb (leastTag a b c) 1) a (cond (eqb (leastTag a b c) 2) b (cond (eqb (leastTag a b c) 5) c 0));
-    }
-
-unfoldable pub choiceOf : List Run → Chosen
-choiceOf rs = leastOf (size1 rs) (size2 rs) (size5 rs)
+-- a tag and a size that the categories are written in: at most 30 octets, and tags 2 and 5 have the octets that they need
+pub record Written (t n : ℕ) (rs : List Run) : Type 0 where
+  pub short : n ≤ 30
+  pub sized : length (bodyFor t n rs) ≡ n
+  pub known : (t ≡ 1) ⊎ (t ≡ 2) ⊎ (t ≡ 5)
 
 -- the ten octets before n octets of categories
 abbrev pub headOf : ℕ → ℕ → ℕ → ℕ → List ℕ

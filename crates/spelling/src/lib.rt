@@ -1,4 +1,5 @@
-// Spelling: the one shortest option of a label is chosen and written (document 01, "Option and tags" and "Asked alone").
+// Spelling: the one shortest option of a label among the permitted ones is chosen and written (document 01, "Option and tags" and "Asked
+// alone"; document 02, Wish 5).
 ghost use mathlib.Core.Path.{_≡_};
 ghost use mathlib.Core.Bool.{true, cond, _&&_};
 ghost use mathlib.Core.List.{map, _++_};
@@ -8,32 +9,40 @@ ghost use lib.ListN.{length, take, drop, set};
 ghost use Rattle.label.specs.Runs.{spaced, unused, covers, countOf};
 ghost use Rattle.label.specs.Label.{used, wellFormed};
 ghost use Rattle.label.specs.Keys.{keyRun, keyRuns, runKey};
-ghost use Rattle.option.specs.Spelling.{octetsOf, octetsOut, numbersOf, tagFor, bodyFor};
+ghost use Rattle.option.specs.Permitted.{usual};
+ghost use Rattle.option.specs.Spelling.{octetsOf, octetsOut, numbersOf, formIf, shorter, leastForm, formFor, bodyFor};
 ghost use Rattle.option.specs.Index.{numbersOut, pairNumber};
 ghost use Rattle.spelling.specs.Spelling.{lengthOf, spellingAnswer, spellingOut};
 ghost use Rattle.spelling.specs.Keys.{keysSpelled, keysCount, keysWritten};
-ghost use Rattle.spelling.specs.Stages.{capped, leastOf, choiceOf, headOf, RunAdded};
+ghost use Rattle.spelling.specs.Stages.{capped, Written, headOf, RunAdded};
 use label::Label;
 use label::Run;
 use lists::zero_all;
 use option::ALIGNMENT_AT;
 use option::CATEGORIES_AT;
 use option::DOMAIN_AT;
+use option::Form;
 use option::LENGTH_AT;
 use option::LEVEL_AT;
 use option::OPTION_TYPE;
+use option::Spellings;
 use option::TAG_LENGTH_AT;
 use option::TAG_TYPE_AT;
 
 // The most octets that an option has; spelling asks for so many octets of output.
 pub const OPTION_OCTETS: usize = 40;
 
-// The most octets of categories that a tag 1, a tag 2 and a tag 5 have: 240 bits, 15 numbers, 7 pairs.
+// The most octets of categories that a tag 1, a tag 2 and a tag 5 have: 240 bits, 15 numbers, 7 pairs; and those of the ten-octet form.
 const BITMAP_OCTETS: usize = (Label::BITMAP_CATEGORIES / 8) as usize;
+
+const TEN_OCTETS: usize = 10;
 
 const NUMBERS_OCTETS: usize = 30;
 
 const PAIRS_OCTETS: usize = 28;
+
+// What a form is given that may not be taken: more octets than any has.
+const NO_OCTETS: usize = 31;
 
 // One category more than a tag 2 holds.
 const TOO_MANY_NUMBERS: usize = 16;
@@ -44,15 +53,10 @@ pub struct Spelling {
     pub count: usize,
 }
 
-// A tag, and how many octets of categories it needs; tag 0 where none fits.
-struct Chosen {
-    tag: u8,
-    size: usize,
-}
-
-// Spells the label alone: the option is written, with zeros up to octet 39, or nothing is and the refusal says why.
-pub fn spell_label(label: Label, out: &mut [u8]) -> Spelling
-    ensures { λ r. ⌜ (r ≡ spellingAnswer label (length (now (out .entry)))) × (now (out .exit) ≡ spellingOut label (now (out .entry))) ⌝ }
+// Spells the label alone, under a set of permitted spellings: the option is written, with zeros up to octet 39, or nothing is and the refusal
+// says why.
+pub fn spell_label(label: Label, permitted: Spellings, out: &mut [u8]) -> Spelling
+    ensures { λ r. ⌜ (r ≡ spellingAnswer permitted label (length (now (out .entry)))) × (now (out .exit) ≡ spellingOut permitted label (now (out .entry))) ⌝ }
 {
     if out.len() < OPTION_OCTETS {
         return Spelling {
@@ -68,7 +72,13 @@ pub fn spell_label(label: Label, out: &mut [u8]) -> Spelling
             count: 0,
         };
     }
-    let length = write_keys(&keys[..n], label.domain, label.level, &mut out[..]);
+    let length = write_keys(
+        &keys[..n],
+        permitted,
+        label.domain,
+        label.level,
+        &mut out[..],
+    );
     if length == 0 {
         return Spelling {
             number: 18,
@@ -144,23 +154,29 @@ fn runs_formed(label: Label, keys: &mut [u32]) -> bool
 }
 
 // The length of the spelling of the keys' runs, in any domain at any level, or 0 where they have none.
-pub fn keys_length(keys: &[u32]) -> usize
-    ensures { λ r. ⌜ ((d v : ℕ) → r ≡ lengthOf (keysSpelled d v (now (keys .entry)))) ⌝ }
+pub fn keys_length(keys: &[u32], permitted: Spellings) -> usize
+    ensures { λ r. ⌜ ((d v : ℕ) → r ≡ lengthOf (keysSpelled permitted d v (now (keys .entry)))) ⌝ }
 {
     if Label::MAX_RUNS < keys.len() {
         return 0;
     }
-    let choice = choose(keys);
-    if choice.tag == 0 {
+    let form = choose(keys, permitted);
+    if form.tag == 0 {
         return 0;
     }
-    CATEGORIES_AT + choice.size
+    CATEGORIES_AT + form.size
 }
 
 // Writes the spelling of the keys' runs to the front of the output and returns its length; or writes nothing and returns 0, where they have
 // none or the output has under 40 octets.
-pub fn write_keys(keys: &[u32], domain: u32, level: u8, out: &mut [u8]) -> usize
-    ensures { λ r. ⌜ (r ≡ keysCount domain level (now (keys .entry)) (length (now (out .entry)))) × (now (out .exit) ≡ keysWritten domain level (now (keys .entry)) (now (out .entry))) ⌝ }
+pub fn write_keys(
+    keys: &[u32],
+    permitted: Spellings,
+    domain: u32,
+    level: u8,
+    out: &mut [u8],
+) -> usize
+    ensures { λ r. ⌜ (r ≡ keysCount permitted domain level (now (keys .entry)) (length (now (out .entry)))) × (now (out .exit) ≡ keysWritten permitted domain level (now (keys .entry)) (now (out .entry))) ⌝ }
 {
     if out.len() < OPTION_OCTETS {
         return 0;
@@ -168,9 +184,9 @@ pub fn write_keys(keys: &[u32], domain: u32, level: u8, out: &mut [u8]) -> usize
     if Label::MAX_RUNS < keys.len() {
         return 0;
     }
-    let choice = choose(keys);
-    let tag = choice.tag;
-    let size = choice.size;
+    let form = choose(keys, permitted);
+    let tag = form.tag;
+    let size = form.size;
     if tag == 0 {
         return 0;
     }
@@ -179,21 +195,21 @@ pub fn write_keys(keys: &[u32], domain: u32, level: u8, out: &mut [u8]) -> usize
     CATEGORIES_AT + size
 }
 
-// The tag of the spelling and its size.
-fn choose(keys: &[u32]) -> Chosen
+// The form of the spelling, or tag 0 where there is none.
+fn choose(keys: &[u32], permitted: Spellings) -> Form
     requires { ⌜ length (now keys) ≤ 120 ⌝ }
-    ensures { λ r. ⌜ r ≡ choiceOf (keyRuns (now (keys .entry))) ⌝ }
+    ensures { λ r. ⌜ r ≡ formFor permitted (keyRuns (now (keys .entry))) ⌝ }
 {
     let n = keys.len();
     if n == 0 {
-        return Chosen { tag: 1, size: 0 };
+        return least(permitted, 0, 0, 0);
     }
     let first = keys[0];
     let last = keys[n - 1];
     let one = bitmap_size(last % 65536);
     let two = 2 * count_categories(keys);
     let five = pairs_size(n, first / 65536);
-    least(one, two, five)
+    least(permitted, one, two, five)
 }
 
 // The octets of a bitmap up to the category.
@@ -243,6 +259,38 @@ fn count_categories(keys: &[u32]) -> usize
     n
 }
 
+// A form that is permitted and whose tag holds what is needed, or none.
+fn form_if(permitted: bool, needed: usize, most: usize, tag: u8, size: usize) -> Form
+    ensures { λ r. ⌜ r ≡ formIf (permitted && leb needed most) tag size ⌝ }
+{
+    if !permitted {
+        return Form {
+            tag: 0,
+            size: NO_OCTETS,
+        };
+    }
+    if most < needed {
+        return Form {
+            tag: 0,
+            size: NO_OCTETS,
+        };
+    }
+    Form {
+        tag: tag,
+        size: size,
+    }
+}
+
+// The shorter of two forms, equal lengths to the first.
+fn shorter_of(first: Form, second: Form) -> Form
+    ensures { λ r. ⌜ r ≡ shorter first second ⌝ }
+{
+    if first.size <= second.size {
+        return first;
+    }
+    second
+}
+
 fn takes_one(one: usize, two: usize, five: usize) -> bool
     ensures { λ r. ⌜ r ≡ (leb one 30 && (leb one two && leb one five)) ⌝ }
 {
@@ -261,27 +309,46 @@ fn takes_five(five: usize) -> bool
     five <= PAIRS_OCTETS
 }
 
-// The least of the three sizes that fits, equal ones to tag 1, then 2, then 5.
-fn least(one: usize, two: usize, five: usize) -> Chosen
-    ensures { λ r. ⌜ r ≡ leastOf one two five ⌝ }
+// The same of tags 1, 2 and 5, which most ports permit.
+fn least_usual(one: usize, two: usize, five: usize) -> Form
+    requires { ⌜ five % 2 ≡ 0 ⌝ }
+    ensures { λ r. ⌜ r ≡ leastForm usual one two five ⌝ }
 {
     if takes_one(one, two, five) {
-        return Chosen { tag: 1, size: one };
+        return Form { tag: 1, size: one };
     }
     if takes_two(two, five) {
-        return Chosen { tag: 2, size: two };
+        return Form { tag: 2, size: two };
     }
     if takes_five(five) {
-        return Chosen { tag: 5, size: five };
+        return Form { tag: 5, size: five };
     }
-    Chosen { tag: 0, size: 0 }
+    Form {
+        tag: 0,
+        size: NO_OCTETS,
+    }
+}
+
+// Of the permitted forms that hold the categories the shortest, equal lengths to tag 1, then its ten octets, then tag 2, then tag 5.
+fn least(permitted: Spellings, one: usize, two: usize, five: usize) -> Form
+    requires { ⌜ five % 2 ≡ 0 ⌝ }
+    ensures { λ r. ⌜ r ≡ leastForm permitted one two five ⌝ }
+{
+    if permitted.is_usual() {
+        return least_usual(one, two, five);
+    }
+    let shortest = form_if(permitted.shortest, one, BITMAP_OCTETS, 1, one);
+    let ten = form_if(permitted.ten, one, TEN_OCTETS, 1, TEN_OCTETS);
+    let numbers = form_if(permitted.numbers, two, NUMBERS_OCTETS, 2, two);
+    let pairs = form_if(permitted.pairs, five, PAIRS_OCTETS, 5, five);
+    shorter_of(shortest, shorter_of(ten, shorter_of(numbers, pairs)))
 }
 
 // The categories of the spelling, in its tag.
 fn write_body(keys: &[u32], tag: u8, size: usize, out: &mut [u8])
     requires { ⌜ length (now keys) ≤ 120 ⌝ }
-    requires { ⌜ (tag ≡ tagFor (keyRuns (now keys))) × (0 < tag) × (size ≡ length (bodyFor tag (keyRuns (now keys)))) × (30 ≤ length (now out)) ⌝ }
-    ensures { λ _. ⌜ now (out .exit) ≡ bodyFor tag (keyRuns (now (keys .entry))) ++ drop size (now (out .entry)) ⌝ }
+    requires { ⌜ Written tag size (keyRuns (now keys)) × (30 ≤ length (now out)) ⌝ }
+    ensures { λ _. ⌜ now (out .exit) ≡ bodyFor tag size (keyRuns (now (keys .entry))) ++ drop size (now (out .entry)) ⌝ }
 {
     if tag == 1 {
         write_bitmap(keys, size, out);

@@ -45,7 +45,7 @@ stop-requires-2 c κs = search needs
 -- the room is tested as the definition does
 roomed : (c : tie.After-has-room) (d : ℕ) →
     let s = c .before .before .before .before .before .before .before in
-    hasRoomFor (lengthOf (keysSpelled d (s .args .held .level) (take (s .args .held .count) (s .args .keys .now)))) (s .args .kept) ≡ c .has-room .result
+    hasRoomFor (lengthOf (keysSpelled (s .args .permitted) d (s .args .held .level) (take (s .args .held .count) (s .args .keys .now)))) (s .args .kept) ≡ c .has-room .result
 roomed c d =
     let s = c .before .before .before .before .before .before .before in
     ap (λ (n : ℕ). hasRoomFor n (s .args .kept)) (sym (c .before .keys-length .ensures d (s .args .held .level))) ∙ sym (c .has-room .ensures)

@@ -1,20 +1,25 @@
 -- `spelling::choose` meets its contract.
 use borrow.Author.Needs.{needs}
 use native.Mathlib.Omega.{arith}
-use Prim.Native.Nat.{_*_}
-use mathlib.Core.Path.{_≡_, refl, _∙_}
-use lib.ListN.{length, length-map}
+use Prim.Native.Nat.{ℕ, _*_, _/_, _%_}
+use mathlib.Core.Path.{_≡_, refl, ap, _∙_}
+use lib.ListN.{length, getD, length-map}
 use Rattle.label.specs.Runs.{countOf}
 use Rattle.label.specs.Keys.{keyRun, keyRuns}
-use Rattle.spelling.specs.Stages.{leastOf}
-use Rattle.spelling.proofs.Sizes.{capped-most, choice-none}
+use Rattle.option.specs.Spelling.{leastForm}
+use Rattle.spelling.proofs.Sizes.{capped-most, pairs-even, choice-none}
 use Rattle.spelling.proofs.Keys.{choice-keys}
 use borrow.Author.Needs.{needs}
 use Rattle.spelling.proofs.choose.Statement.{statement}
 use Rattle.spelling.proofs.choose.Tie as tie
 
+least-requires : tie.Need-least-requires
+least-requires c κs = search needs
+
 returns : tie.Need-returns
-returns c = choice-none (keyRuns (c .before .before .args .keys .now)) (length-map (c .before .before .args .keys .now) keyRun ∙ c .if1 .taken)
+returns c =
+    let a = c .before .before .before .args in
+    c .least .ensures ∙ choice-none (a .permitted) (keyRuns (a .keys .now)) (length-map (a .keys .now) keyRun ∙ c .before .if1 .taken)
 
 shared-slice-read-first : tie.Need-shared-slice-read-first
 shared-slice-read-first c = search needs
@@ -40,21 +45,25 @@ mul-two c = omega (arith, c .count-categories .ensures, capped-most (countOf (ke
 pairs-size-requires : tie.Need-pairs-size-requires
 pairs-size-requires c κs = search needs
 
-least-requires : tie.Need-least-requires
-least-requires c κs = search needs
+least-requires-2 : tie.Need-least-requires-2
+least-requires-2 c κs =
+    let ks = c .before .before .before .before .before .before .before .args .keys .now in
+    ap (λ (n : ℕ). n % 2) (c .pairs-size .ensures) ∙ pairs-even (length ks) (getD ks 0 0 / 65536)
 
 returns-2 : tie.Need-returns-2
 returns-2 c =
-    let ks = c .before .before .before .before .before .before .before .before .args .keys .now in
+    let a = c .before .before .before .before .before .before .before .before .args in
+    let ks = a .keys .now in
     let q = c .before .before .before .before .before .before .if1 .left in
-    c .least .ensures
-    ∙ (λ i. leastOf (c .before .before .before .bitmap-size .ensures i) (2 * c .before .before .count-categories .ensures i) (c .before .pairs-size .ensures i))
-    ∙ choice-keys ks (length ks) refl (omega arith)
+    c .least2 .ensures
+    ∙ (λ i. leastForm (a .permitted) (c .before .before .before .bitmap-size .ensures i) (2 * c .before .before .count-categories .ensures i) (c .before .pairs-size .ensures i))
+    ∙ choice-keys (a .permitted) ks (length ks) refl (omega arith)
 
 pub choose-spec : {M : Type 1} → statement M
 choose-spec =
     tie.close
     (tie.spec
+    least-requires
     returns
     shared-slice-read-first
     sub-last
@@ -64,5 +73,5 @@ choose-spec =
     count-categories-requires
     mul-two
     pairs-size-requires
-    least-requires
+    least-requires-2
     returns-2)

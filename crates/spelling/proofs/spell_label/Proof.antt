@@ -11,6 +11,7 @@ use lib.ListN.{length}
 use lib.Seq.{length-take-le}
 use Rattle.label.specs.declared.Label.{Label}
 use Rattle.label.specs.Label.{wellFormed}
+use Rattle.option.specs.declared.Spellings.{Spellings}
 use Rattle.option.specs.Spelling.{spelledOf}
 use Rattle.spelling.specs.Spelling.{lengthOf}
 use Rattle.spelling.specs.Keys.{inFront}
@@ -23,6 +24,9 @@ use Rattle.spelling.proofs.spell_label.Tie as tie
 module _ (c : tie.Else2) where
   abbrev label-of : Label
   label-of = c .before .before .before .before .before .before .args .label
+
+  abbrev set-of : Spellings
+  set-of = c .before .before .before .before .before .before .args .permitted
 
   abbrev out-of : List ℕ
   out-of = c .before .before .before .before .before .before .args .out .now
@@ -38,14 +42,14 @@ module _ (c : tie.Else2) where
 
 -- what writing the keys does
 put : (c : tie.After-write-keys)
-    → (c .write-keys .result ≡ lengthOf (spelledOf (label-of (c .before .before .before))))
-    × (c .write-keys .last .1 .1 .1 .0 ≡ inFront (spelledOf (label-of (c .before .before .before))) (out-of (c .before .before .before)))
+    → (c .write-keys .result ≡ lengthOf (spelledOf (set-of (c .before .before .before)) (label-of (c .before .before .before))))
+    × (c .write-keys .last .1 .1 .1 .1 .0 ≡ inFront (spelledOf (set-of (c .before .before .before)) (label-of (c .before .before .before))) (out-of (c .before .before .before)))
 put c =
     let e = c .before .before .before in
-    label-put (label-of e) (well e) _ (out-of e) _ _ (e .before .before .keys-formed .ensures .1 (not-false _ (e .if2 .left))) (long e) (c .write-keys .ensures)
+    label-put (label-of e) (well e) (set-of e) _ (out-of e) _ _ (e .before .before .keys-formed .ensures .1 (not-false _ (e .if2 .left))) (long e) (c .write-keys .ensures)
 
 returns : tie.Need-returns
-returns c = refused (c .before .before .args .label) (c .before .before .args .out .now) 1 (λ z. omega arith) (number-short _ _ (c .if1 .taken))
+returns c = refused (c .before .before .args .permitted) (c .before .before .args .label) (c .before .before .args .out .now) 1 (λ z. omega arith) (number-short _ _ _ (c .if1 .taken))
 
 slice-aggregate-keys-formed : tie.Need-slice-aggregate-keys-formed
 slice-aggregate-keys-formed c = search needs
@@ -56,8 +60,8 @@ keys-formed-requires c κs = search needs
 returns-2 : tie.Need-returns-2
 returns-2 c =
     let a = c .before .before .before .before .before .before .args in
-    refused (a .label) (a .out .now) 2 (λ z. omega arith)
-    (number-ill _ _ (c .before .before .before .before .if1 .left) (sym (c .before .before .keys-formed .ensures .0) ∙ not-true _ (c .if2 .taken)))
+    refused (a .permitted) (a .label) (a .out .now) 2 (λ z. omega arith)
+    (number-ill _ _ _ (c .before .before .before .before .if1 .left) (sym (c .before .before .keys-formed .ensures .0) ∙ not-true _ (c .if2 .taken)))
 
 array-share-prefix-keys : tie.Need-array-share-prefix-keys
 array-share-prefix-keys c = held c
@@ -75,14 +79,14 @@ returns-3 : tie.Need-returns-3
 returns-3 c =
     let w = c .before .before .before in
     let e = w .before .before .before in
-    unwritten (label-of e) (out-of e) _ _ (well e) (long e) (put w) (c .if3 .taken)
+    unwritten (set-of e) (label-of e) (out-of e) _ _ (well e) (long e) (put w) (c .if3 .taken)
 
 -- the option's length
 short : (c : tie.Else3) → c .before .before .before .write-keys .result ≤ 40
 short c =
     let w = c .before .before .before in
     let e = w .before .before .before in
-    written-short (label-of e) (out-of e) _ _ (well e) (long e) (put w) (c .if3 .left)
+    written-short (set-of e) (label-of e) (out-of e) _ _ (well e) (long e) (put w) (c .if3 .left)
 
 sub-zero-all : tie.Need-sub-zero-all
 sub-zero-all c = omega (arith, short c)
@@ -104,7 +108,7 @@ returns-4 c =
     let z = c .before .before in
     let w = z .before .before .before .before .before in
     let e = w .before .before .before in
-    completed (label-of e) (out-of e) _ _ (well e) (long e) (put w) _ (z .zero-all .ensures) (z .before .before .if3 .left)
+    completed (set-of e) (label-of e) (out-of e) _ _ (well e) (long e) (put w) _ (z .zero-all .ensures) (z .before .before .if3 .left)
 
 pub spell-label-spec : {M : Type 1} → statement M
 spell-label-spec =

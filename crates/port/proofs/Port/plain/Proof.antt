@@ -6,8 +6,11 @@ use Rattle.port.proofs.Port.plain.Tie as tie
 off-requires : tie.Need-off-requires
 off-requires c κs = search needs
 
+usual-requires : tie.Need-usual-requires
+usual-requires c κs = search needs
+
 returns : tie.Need-returns
-returns c = rw (c .off .ensures)
+returns c = rw (c .before .off .ensures, c .usual .ensures)
 
 pub plain-spec : {M : Type 1} → statement M
-plain-spec = tie.close (tie.spec off-requires returns)
+plain-spec = tie.close (tie.spec off-requires usual-requires returns)
