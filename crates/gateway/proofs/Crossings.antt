@@ -18,7 +18,7 @@ use Rattle.label.specs.Range.{setInRange}
 use Rattle.label.proofs.Bools.{and-left, and-right}
 use Rattle.label.proofs.Labels.{formed, used-length, of-used}
 use Rattle.port.specs.declared.Port.{Port}
-use Rattle.port.specs.Port.{portSound}
+use Rattle.port.specs.Port.{portSound, lowestOut, highestOut}
 use Rattle.port.proofs.Laws.{sound}
 use Rattle.table.specs.declared.Table.{Table}
 use Rattle.table.specs.declared.Partner.{Partner}
@@ -56,7 +56,7 @@ crossing-real x =
     real-first (crossingChecks x) (
       real-when (not (stays x || hasNumbers x)) (barred 16 9) sixteen,
       (
-        real-when (not (setInRange (x .leaving .lowest) (x .leaving .highest) (leavingLevel x) (leavingRuns x))) (barred 17 9) seventeen,
+        real-when (not (setInRange (lowestOut (x .leaving)) (highestOut (x .leaving)) (leavingLevel x) (leavingRuns x))) (barred 17 9) seventeen,
         (real-when (ltb 120 (length (leavingRuns x))) (barred 18 9) eighteen, tt),
       ),
     )
@@ -78,24 +78,24 @@ module _ (x : Crossing) (w : wellFormed (x .label) ≡ true) (d : x .label .doma
   unfolding numberCheck
   number-stays = rw test
 
-  range-stays : setInRange (x .leaving .lowest) (x .leaving .highest) (leavingLevel x) (leavingRuns x) ≡ inRange (x .leaving .lowest) (x .leaving .highest) (x .label)
+  range-stays : setInRange (lowestOut (x .leaving)) (highestOut (x .leaving)) (leavingLevel x) (leavingRuns x) ≡ inRange (lowestOut (x .leaving)) (highestOut (x .leaving)) (x .label)
   range-stays =
-      let s = sound (x .leaving) p .range in
+      let s = sound (x .leaving) p .out in
       rw (level-stays, runs-stay)
-      (held-label (x .leaving .lowest) (x .leaving .highest) (x .label) (s .low-formed) (s .high-formed) w
+      (held-label (lowestOut (x .leaving)) (highestOut (x .leaving)) (x .label) (s .low-formed) (s .high-formed) w
       (s .low-domain ∙ sym (d ∙ same)) ((d ∙ same) ∙ sym (s .high-domain)))
 
   few : ltb 120 (length (leavingRuns x)) ≡ false
   few = let f = formed (x .label) w in rw runs-stay (le-ltb 120 (length (used (x .label))) (omega (arith, used-length (x .label) f, f .held)))
 
-  pub stays-outside : inRange (x .leaving .lowest) (x .leaving .highest) (x .label) ≡ false → firstOf (crossingChecks x) ≡ some (barred 17 9)
+  pub stays-outside : inRange (lowestOut (x .leaving)) (highestOut (x .leaving)) (x .label) ≡ false → firstOf (crossingChecks x) ≡ some (barred 17 9)
   unfolding leavingCheck
   stays-outside e = rw (number-stays, range-stays ∙ e)
 
   pub label-stays : leavingLabel x ≡ x .label
   label-stays = (λ i. labelOf (sym (d ∙ same) i) (level-stays i) (runs-stay i)) ∙ sym (of-used (x .label) (formed (x .label) w))
 
-  pub stays-inside : inRange (x .leaving .lowest) (x .leaving .highest) (x .label) ≡ true → firstOf (crossingChecks x) ≡ none
+  pub stays-inside : inRange (lowestOut (x .leaving)) (highestOut (x .leaving)) (x .label) ≡ true → firstOf (crossingChecks x) ≡ none
   unfolding leavingCheck
   stays-inside e = rw (number-stays, range-stays ∙ e, few)
 
@@ -140,7 +140,7 @@ module _ (x : Crossing) (apart : x .domain ≡ x .leaving .domain → ⊥) where
     abbrev all : Bool
     all = numbered (usedRows (x .table)) (used (x .label))
 
-    checks-are : firstOf (crossingChecks x) ≡ firstOf (checksBy (x .leaving .lowest) (x .leaving .highest) (x .leaving .domain) img (partner x) all)
+    checks-are : firstOf (crossingChecks x) ≡ firstOf (checksBy (lowestOut (x .leaving)) (highestOut (x .leaving)) (x .leaving .domain) img (partner x) all)
     unfolding numberCheck leavingCheck leavingLevel leavingRuns
     checks-are = rw (differ, eq-eqb _ _ from, eq-eqb _ _ to)
 
@@ -148,10 +148,10 @@ module _ (x : Crossing) (apart : x .domain ≡ x .leaving .domain → ⊥) where
     unfolding leavingLevel leavingRuns
     label-is = rw differ
 
-    module _ (r : Renumbered) (is : r ≡ carriedOf (x .label) (x .table) (x .levels) (x .leaving .lowest) (x .leaving .highest)) where
-      both : Alike (x .leaving .lowest) (x .leaving .highest) (x .table .to) img (partner x) all r
+    module _ (r : Renumbered) (is : r ≡ carriedOf (x .label) (x .table) (x .levels) (lowestOut (x .leaving)) (highestOut (x .leaving))) where
+      both : Alike (lowestOut (x .leaving)) (highestOut (x .leaving)) (x .table .to) img (partner x) all r
       unfolding carriedOf
-      both = rw is (alike (x .leaving .lowest) (x .leaving .highest) (x .table .to) img (partner x) all)
+      both = rw is (alike (lowestOut (x .leaving)) (highestOut (x .leaving)) (x .table .to) img (partner x) all)
 
       pub crosses-refused : (r .number ≡ 0 → ⊥) → firstOf (crossingChecks x) ≡ some (barred (r .number) 9)
       crosses-refused h = checks-are ∙ both .refused h
@@ -264,7 +264,7 @@ module _ (x : Crossing) (apart : stays x ≡ false) (w : wellFormed (x .label) �
 
 -- what carrying the label over answers
 abbrev carriedBy : Crossing → Renumbered
-carriedBy x = carriedOf (x .label) (x .table) (x .levels) (x .leaving .lowest) (x .leaving .highest)
+carriedBy x = carriedOf (x .label) (x .table) (x .levels) (lowestOut (x .leaving)) (highestOut (x .leaving))
 
 pub numbers : (x : Crossing) → stays x ≡ false → numberCheck x ≡ none → hasNumbers x ≡ true
 unfolding numberCheck
@@ -297,10 +297,10 @@ crossed x s e = go (eqb (carriedBy x .number) 0) refl
 
 -- it is the label in the far domain, and in the range
 pub crossed-carried : (x : Crossing) → wellFormed (x .label) ≡ true → x .label .domain ≡ x .domain → portSound (x .leaving) ≡ true → tableSound (x .table) (x .levels) ≡ true
-    → Crossed x → far.Carried (x .label) (x .table) (x .levels) (x .leaving .lowest) (x .leaving .highest) (leavingLabel x)
+    → Crossed x → far.Carried (x .label) (x .table) (x .levels) (lowestOut (x .leaving)) (highestOut (x .leaving)) (leavingLabel x)
 crossed-carried x w d p ts c =
-    let g = sound (x .leaving) p .range in
-    carrying (x .label) (x .table) (x .levels) (x .leaving .lowest) (x .leaving .highest) (leavingLabel x) w ts (d ∙ sym (c .from)) (g .low-formed) (g .high-formed)
+    let g = sound (x .leaving) p .out in
+    carrying (x .label) (x .table) (x .levels) (lowestOut (x .leaving)) (highestOut (x .leaving)) (leavingLabel x) w ts (d ∙ sym (c .from)) (g .low-formed) (g .high-formed)
     (g .low-domain ∙ sym (c .to)) (g .high-domain ∙ sym (c .to)) (c .carried)
 
 pub crossing-formed : (x : Crossing) → wellFormed (x .label) ≡ true → x .label .domain ≡ x .domain → portSound (x .leaving) ≡ true

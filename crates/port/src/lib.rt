@@ -111,7 +111,8 @@ fn default_sound(unlabelled: bool, label: Label, lowest: Label, highest: Label) 
     if unlabelled {
         return lies_within(label, lowest, highest);
     }
-    label.is_zero()
+    let zero = label.is_zero();
+    zero
 }
 
 // Whether the host's range is sound, for a port of the domain.
