@@ -283,3 +283,15 @@ cipso-octet t e = go (eqb t 0) (eqb t 1) (eqb t 130) (eqb t 133) (eqb t 134) ref
     go false false false true f q e = let z : _≡_ {A = ℕ} 0 1 = cc in absurd (omega arith)
     go false false false false true q e = eqb-true t 134 q
     go false false false false false q e = let z : _≡_ {A = ℕ} 0 1 = cc in absurd (omega arith)
+
+-- type 130
+pub basic-octet : (t : ℕ) → kindOf t ≡ Basic → t ≡ 130
+basic-octet t e = go (eqb t 0) (eqb t 1) (eqb t 130) (eqb t 133) (eqb t 134) refl e
+  where
+    go : (a b c d f : Bool) → eqb t 130 ≡ c → cond a End (cond b NoOperation (cond c Basic (cond d Extended (cond f Cipso Other)))) ≡ Basic → t ≡ 130
+    go true b c d f q e = let z : _≡_ {A = ℕ} 0 1 = cc in absurd (omega arith)
+    go false true c d f q e = let z : _≡_ {A = ℕ} 0 1 = cc in absurd (omega arith)
+    go false false true d f q e = eqb-true t 130 q
+    go false false false true f q e = let z : _≡_ {A = ℕ} 0 1 = cc in absurd (omega arith)
+    go false false false false true q e = let z : _≡_ {A = ℕ} 0 1 = cc in absurd (omega arith)
+    go false false false false false q e = let z : _≡_ {A = ℕ} 0 1 = cc in absurd (omega arith)

@@ -184,22 +184,24 @@ arrival-held p area code s e =
 
 -- The option at its place.
 
-pub record Framed (area : List ℕ) (at : ℕ) : Type 0 where
-  pub inside : at + getD area (at + 1) 0 ≤ length area
-  pub least : 2 ≤ getD area (at + 1) 0
-  pub size : length (optionAt at area) ≡ getD area (at + 1) 0
-  pub framed : framed (optionAt at area) ≡ true
-
 -- an option of a kind that stands in the area: its length octet says how long it is
 pub record Inside (area : List ℕ) (at : ℕ) : Type 0 where
   pub inside : at + getD area (at + 1) 0 ≤ length area
   pub least : 2 ≤ getD area (at + 1) 0
+  pub size : length (optionAt at area) ≡ getD area (at + 1) 0
 
 pub whole-inside : (k : Kind) (area : List ℕ) (at : ℕ) → WholeAt k area at → Inside area at
 whole-inside k area at o =
     let i = whole-in k area at o in
     let n : getD area (at + 1) 0 ≡ o .size = sym (getD-drop at area 1 0) ∙ whole-size (drop at area) (o .size) (o .whole) in
-    record { inside = omega arith; least = omega arith }
+    let h : getD area (at + 1) 0 ≤ length (drop at area) = simp length-drop (omega arith) in
+    record { inside = omega arith; least = omega arith; size = length-take-le (getD area (at + 1) 0) (drop at area) h }
+
+pub record Framed (area : List ℕ) (at : ℕ) : Type 0 where
+  pub inside : at + getD area (at + 1) 0 ≤ length area
+  pub least : 2 ≤ getD area (at + 1) 0
+  pub size : length (optionAt at area) ≡ getD area (at + 1) 0
+  pub framed : framed (optionAt at area) ≡ true
 
 -- its slice
 pub slice-is : (at : ℕ) (area : List ℕ) → take (at + getD area (at + 1) 0 - at) (drop at area) ≡ optionAt at area
@@ -209,17 +211,14 @@ slice-is at area =
 
 pub placed-framed : (area : List ℕ) (at : ℕ) → WholeAt Cipso area at → Framed area at
 placed-framed area at o =
-    let i = whole-in Cipso area at o in
-    let n : getD area (at + 1) 0 ≡ o .size = sym (getD-drop at area 1 0) ∙ whole-size (drop at area) (o .size) (o .whole) in
-    let h : getD area (at + 1) 0 ≤ length (drop at area) = simp length-drop (omega arith) in
-    let s : length (optionAt at area) ≡ getD area (at + 1) 0 = length-take-le (getD area (at + 1) 0) (drop at area) h in
-    let a : getD (optionAt at area) 0 0 ≡ 134 = getD-take (getD area (at + 1) 0) (drop at area) 0 0 (omega arith) ∙ cipso-octet (getD (drop at area) 0 0) (o .kind) in
-    let b : getD (optionAt at area) 1 0 ≡ length (optionAt at area) = getD-take (getD area (at + 1) 0) (drop at area) 1 0 (omega arith) ∙ getD-drop at area 1 0 ∙ sym s in
+    let i = whole-inside Cipso area at o in
+    let a : getD (optionAt at area) 0 0 ≡ 134 = getD-take (getD area (at + 1) 0) (drop at area) 0 0 (omega (arith, i .least)) ∙ cipso-octet (getD (drop at area) 0 0) (o .kind) in
+    let b : getD (optionAt at area) 1 0 ≡ length (optionAt at area) = getD-take (getD area (at + 1) 0) (drop at area) 1 0 (omega (arith, i .least)) ∙ getD-drop at area 1 0 ∙ sym (i .size) in
     record {
-      inside = omega arith;
-      least = omega arith;
-      size = s;
-      framed = simp (le-leb 2 (length (optionAt at area)) (omega arith), eq-eqb _ _ a, eq-eqb _ _ b);
+      inside = i .inside;
+      least = i .least;
+      size = i .size;
+      framed = simp (le-leb 2 (length (optionAt at area)) (omega (arith, i .least, i .size)), eq-eqb _ _ a, eq-eqb _ _ b);
     }
 
 -- the checks of an option, by what was read

@@ -15,7 +15,7 @@ use Rattle.label.proofs.Steps.{next}
 use Rattle.basic.specs.Levels.{isLevel, rankOf}
 use Rattle.basic.specs.declared.Way.{Way}
 use Rattle.basic.specs.declared.Basic.{Basic}
-use Rattle.basic.specs.Settings.{noWay, basicOff, atMost, unused, wayZero, basicSound, isOff, among}
+use Rattle.basic.specs.Settings.{noWay, basicOff, atMost, unused, waySound, wayZero, basicSound, isOff, among}
 use Rattle.basic.proofs.Levels.{level-is}
 
 -- x | y is 0 exactly when both are
@@ -102,3 +102,10 @@ off-is b m n e =
     let r = way-none (b .receiving) m (and-left (wayZero (b .receiving)) _ z) in
     let s = way-none (b .sending) n (and-right (wayZero (b .receiving)) _ z) in
     λ i. record { on = off i; receiving = r i; sending = s i }
+
+-- switched on and sound, both ways are
+pub on-ways : (b : Basic) → b .on ≡ true → basicSound b ≡ true → (waySound (b .receiving) ≡ true) × (waySound (b .sending) ≡ true)
+unfolding basicSound
+on-ways b e s =
+    let z : (waySound (b .receiving) && waySound (b .sending)) ≡ true = rw e at s in
+    (and-left (waySound (b .receiving)) _ z, and-right (waySound (b .receiving)) _ z)

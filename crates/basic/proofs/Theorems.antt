@@ -1,5 +1,5 @@
 -- The theorems of `specs/Theorems.antt`.
-use Prim.Native.Nat.{ℕ, _+_, _*_, _/_, _%_, _≤_, _<_}
+use Prim.Native.Nat.{ℕ, _+_, _*_, _/_, _%_, _≤_, _<_, min}
 use mathlib.Core.Path.{_≡_, refl, sym, ap, subst⁻¹, _∙_}
 use mathlib.Core.Bool.{Bool, true, false}
 use mathlib.Core.List.{List, [], _∷_, _++_}
@@ -260,17 +260,13 @@ at-most-of : (a b : ℕ) → isLevel a ≡ true → isLevel b ≡ true → rankO
 unfolding atMost
 at-most-of a b l m h = and-both l (and-both m (le-leb _ _ h))
 
-module _ (w : Way) (v f : ℕ) (sound : waySound w ≡ true) (places : length (w .flags) ≡ 256) where
+module _ (w : Way) (v f : ℕ) (sound : waySound w ≡ true) where
   range : (isLevel (w .lowest) ≡ true) × (isLevel (w .highest) ≡ true) × (rankOf (w .lowest) ≤ rankOf (w .highest))
   unfolding waySound
   range = at-most-parts (w .lowest) (w .highest) (and-left (atMost (w .lowest) (w .highest)) _ sound)
 
-  counted : w .count ≤ 256
-  unfolding waySound
-  counted = leb-true _ _ (and-left (leb (w .count) 256) _ (and-right (atMost (w .lowest) (w .highest)) _ sound))
-
-  used : length (take (w .count) (w .flags)) ≡ w .count
-  used = simp length-take (omega (arith, counted))
+  used : length (take (w .count) (w .flags)) ≡ min (w .count) (length (w .flags))
+  used = length-take (w .count) (w .flags)
 
   permitted : passesWay w v f ≡ true → Permitted w v f
   unfolding passesWay
@@ -280,19 +276,20 @@ module _ (w : Way) (v f : ℕ) (sound : waySound w ≡ true) (places : length (w
       let h = at-most-parts v (w .highest) (and-left (atMost v (w .highest)) _ r) in
       let m = among-says (take (w .count) (w .flags)) f (and-right (atMost v (w .highest)) _ r) in
       let i : m .0 < w .count = omega (arith, m .1, used) in
-      record { level = l .1; low = l .2; high = h .2; flags = (m .0, i, sym (getD-take (w .count) (w .flags) (m .0) 0 i) ∙ m .2) }
+      let j : m .0 < length (w .flags) = omega (arith, m .1, used) in
+      record { level = l .1; low = l .2; high = h .2; flags = (m .0, i, j, sym (getD-take (w .count) (w .flags) (m .0) 0 i) ∙ m .2) }
 
   passes : Permitted w v f → passesWay w v f ≡ true
   unfolding passesWay
   passes p =
       let k = p .flags .0 in
-      let i : k < length (take (w .count) (w .flags)) = omega (arith, used, p .flags .1) in
+      let i : k < length (take (w .count) (w .flags)) = omega (arith, used, p .flags .1, p .flags .2) in
       and-both (at-most-of (w .lowest) v (range .0) (p .level) (p .low))
       (and-both (at-most-of v (w .highest) (p .level) (range .1) (p .high))
-      (among-said (take (w .count) (w .flags)) f k i (getD-take (w .count) (w .flags) k 0 (p .flags .1) ∙ p .flags .2)))
+      (among-said (take (w .count) (w .flags)) f k i (getD-take (w .count) (w .flags) k 0 (p .flags .1) ∙ p .flags .3)))
 
 pub passes-exactly : PassesExactly
-passes-exactly w v f sound places = (permitted w v f sound places, passes w v f sound places)
+passes-exactly w v f sound = (permitted w v f sound, passes w v f sound)
 
 -- Examples.
 

@@ -73,14 +73,13 @@ pub record WritesBasic : Type 0 where
   pub sized : (v f : ℕ) (out : List ℕ) → length (basicOut v f out) ≡ length out
 
 -- a level and a flag field are permitted one way: the level is one of the four with a rank from that of the lowest to that of the highest, and
--- the flag field stands, whole, in one of the first `count` places
+-- the flag field stands, whole, in one of its first `count` places
 pub record Permitted (w : Way) (v f : ℕ) : Type 0 where
   pub level : isLevel v ≡ true
   pub low : rankOf (w .lowest) ≤ rankOf v
   pub high : rankOf v ≤ rankOf (w .highest)
-  pub flags : (k : ℕ) × (k < w .count) × (getD (w .flags) k 0 ≡ f)
+  pub flags : (k : ℕ) × (k < w .count) × (k < length (w .flags)) × (getD (w .flags) k 0 ≡ f)
 
--- of settings that are sound, with their 256 places
+-- of settings that are sound
 abbrev pub PassesExactly : Type 0
-PassesExactly =
-    (w : Way) (v f : ℕ) → waySound w ≡ true → length (w .flags) ≡ 256 → (passesWay w v f ≡ true) ↔ Permitted w v f
+PassesExactly = (w : Way) (v f : ℕ) → waySound w ≡ true → (passesWay w v f ≡ true) ↔ Permitted w v f

@@ -1,6 +1,7 @@
 -- The leaving area: its count, and what it is when it is read again.
-use mathlib.Core.Path.{_≡_, refl, sym, _∙_, ap}
-use mathlib.Core.List.{List, [], _++_, append-assoc}
+use mathlib.Core.Path.{_≡_, refl, sym, _∙_, ap, transport}
+use mathlib.Core.Bool.{Bool}
+use mathlib.Core.List.{List, [], _++_, append-assoc, append-nil}
 use mathlib.Core.Option.{Option, none, some}
 use Prim.Native.Nat.{ℕ, _+_, _-_, _%_, _≤_}
 use native.Mathlib.Omega.{arith}
@@ -17,16 +18,15 @@ use Rattle.area.specs.declared.Kind.the-variants.{Cipso}
 use Rattle.area.specs.declared.Place.{Place}
 use Rattle.area.specs.declared.Place.the-variants.{At}
 use Rattle.area.specs.declared.Walk.{Walk}
-use Rattle.area.specs.declared.Walk.the-variants.{Sound, Refused}
-use Rattle.area.specs.Area.{kindOf, walkOf}
+use Rattle.area.specs.declared.Walk.the-variants.{Sound}
+use Rattle.area.specs.Area.{kindOf, walkOf, octetsAt}
 use Rattle.leaving.specs.Kept.{keptOf, roundUp, leavingOf}
-use Rattle.leaving.proofs.Again.{Starts, Again, kept-again, front-walk, front-kept}
+use Rattle.leaving.proofs.Again.{Starts, Again, basicFrom, kept-again, front-walk, front-kept}
 use Rattle.port.specs.declared.Port.{Port}
 use Rattle.port.specs.Port.{portSound}
 use Rattle.arrival.specs.declared.Decision.{Decision}
-use Rattle.arrival.specs.Checks.{walkRefusal, walkCheck, optionAt, arrivingLabel, firstOf}
-use Rattle.arrival.specs.Decision.{done, arrivalChecks}
-use Rattle.arrival.proofs.First.{first-none}
+use Rattle.arrival.specs.Checks.{walkAt, basicIn, optionAt, arrivingBasic, arrivingLabel}
+use Rattle.arrival.specs.Decision.{done}
 use Rattle.arrival.proofs.Arrival.{arrival-held}
 use Rattle.gateway.specs.Crossing.{Forwarding, crossing, leavingLabel}
 use Rattle.gateway.specs.Forward.{forwardOf, outputOf}
@@ -34,6 +34,7 @@ use Rattle.gateway.proofs.Crossings.{label-stays}
 use Rattle.gateway.proofs.Forwards.{Passed, forward-passed, passed-formed, forward-done, leaving-spelled}
 use Rattle.demands.specs.Demands.{LabelOf, own}
 use Rattle.demands.specs.Guards.{Counts, Reads, leavingArea}
+use Rattle.demands.proofs.Basic.{basic-kept, there, passed-walk, passed-switch, same-switch}
 use Rattle.demands.proofs.Second as second
 use Rattle.demands.proofs.Second.{label-reads, forwarded-passes}
 
@@ -63,17 +64,8 @@ module _ (s kept : List ℕ) (h : length s + length kept ≤ 40) where
       let e : leavingOf s kept out ≡ laid s kept ++ (replicate (40 - n) 0 ++ drop 40 out) = rw z (simp append-assoc) in
       ap (take n) e ∙ take-at (laid s kept) (replicate (40 - n) 0 ++ drop 40 out) n laid-length
 
--- The walk of an area that has passed.
-sound-walk : (w : Walk) → walkRefusal w ≡ none → (q : Place) × (w ≡ Sound q)
-sound-walk (Sound q) e = (q, refl)
-sound-walk (Refused n at) e = let z : _≡_ {A = ℕ} 0 1 = cc in absurd (omega arith)
-
-passed-walk : (p : Port) (area : List ℕ) (code : ℕ) → firstOf (arrivalChecks p area code) ≡ none → (q : Place) × (walkOf area ≡ Sound q)
-unfolding walkCheck
-passed-walk p area code e = sound-walk (walkOf area) (first-none (arrivalChecks p area code) e .0)
-
--- Read again: an option that spells the label, what another area kept, and zeros.
-module _ (s kept : List ℕ) (l : Label) (h : length s + length kept ≤ 40) (set : Spellings) (sp : Spells set s l) (a : Again kept) where
+-- Read again: an option that spells the label, what another area kept, with the octets of its option 130, and zeros.
+module _ (on : Bool) (s kept : List ℕ) (c : Option (List ℕ)) (l : Label) (h : length s + length kept ≤ 40) (set : Spellings) (sp : Spells set s l) (a : Again on kept c) where
   starts : Starts s Cipso
   starts =
       let p = parts s (sp .permitted .means .good) in
@@ -85,25 +77,38 @@ module _ (s kept : List ℕ) (l : Label) (h : length s + length kept ≤ 40) (se
       let g : getD (laid s kept) 1 0 ≡ length s = List·getD-append s _ 0 1 (omega (arith, p .long)) ∙ p .size in
       rw g (take-at s _ (length s) refl)
 
-  walked : walkOf (laid s kept) ≡ Sound (At 0)
-  walked = front-walk s kept (padding s kept) starts (parts s (sp .permitted .means .good) .kind) a
+  walked : (b : Place) × (walkOf on (laid s kept) ≡ Sound (At 0) b)
+  walked = front-walk on s kept c (padding s kept) starts (parts s (sp .permitted .means .good) .kind) a
 
-  labelled : (p : Port) → p .domain ≡ l .domain → LabelOf p (laid s kept) l
-  labelled p d = own 0 walked (rw option-is (sp .permitted .means)) (sym d)
+  walked-at : (p : Port) → p .basic .on ≡ on → walkAt p (laid s kept) ≡ Sound (At 0) (walked .0)
+  walked-at p e = ap (λ (t : Bool). walkOf t (laid s kept)) e ∙ walked .1
 
-  pub read-again : (domain : ℕ) → l .domain ≡ domain → Reads (laid s kept) domain set l kept
+  kept-is : keptOf (laid s kept) ≡ kept
+  kept-is = front-kept on s kept c (padding s kept) starts (parts s (sp .permitted .means .good) .kind) a
+
+  basic-is : (p : Port) → p .basic .on ≡ on → arrivingBasic p (laid s kept) ≡ c
+  basic-is p e =
+      basic-kept p (laid s kept) (At 0) (walked .0) (walked-at p e)
+      ∙ ap (λ (ks : List ℕ). basicFrom ks 0) kept-is
+      ∙ a .found kept 0 0 (sym (append-nil kept))
+
+  labelled : (p : Port) → p .basic .on ≡ on → p .domain ≡ l .domain → LabelOf p (laid s kept) l
+  labelled p e d = own 0 (walked .0) (walked-at p e) (rw option-is (sp .permitted .means)) (sym d)
+
+  pub read-again : (domain : ℕ) → l .domain ≡ domain → Reads (laid s kept) on domain set l c kept
   read-again domain d =
-      let c = counts (length s) (length kept) h in
+      let k = counts (length s) (length kept) h in
       let n = laid-length s kept h in
       record {
-        area = record { few = omega (arith, c .fits); fourfold = ap (λ (i : ℕ). i % 4) n ∙ c .fourfold };
+        area = record { few = omega (arith, k .fits); fourfold = ap (λ (i : ℕ). i % 4) n ∙ k .fourfold };
         walk = walked;
         spelled = rw option-is sp;
-        required = λ p e. label-reads p (laid s kept) l (labelled p (e ∙ sym d)) .required;
-        option = λ p e. label-reads p (laid s kept) l (labelled p (e ∙ sym d)) .option;
-        label = λ p e. label-reads p (laid s kept) l (labelled p (e ∙ sym d)) .label;
-        kept = front-kept s kept (padding s kept) starts (parts s (sp .permitted .means .good) .kind) a;
-        counted = rw (option-is, n) c;
+        required = λ p o e. label-reads p (laid s kept) l (labelled p o (e ∙ sym d)) .required;
+        option = λ p o e. label-reads p (laid s kept) l (labelled p o (e ∙ sym d)) .option;
+        label = λ p o e. label-reads p (laid s kept) l (labelled p o (e ∙ sym d)) .label;
+        basic = basic-is;
+        kept = kept-is;
+        counted = rw (option-is, n) k;
       }
 
 pub same-some : {a b : List ℕ} → _≡_ {A = Option (List ℕ)} (some a) (some b) → a ≡ b
@@ -138,19 +143,39 @@ module _ (f : Forwarding) (e : forwardOf f .number ≡ 0) where
   pub area-is : (out : List ℕ) → leavingArea f out ≡ laid s (keptOf (f .area))
   area-is out = rw count-is (ap (take (roundUp (length s + length (keptOf (f .area))))) (is-done out .1) ∙ laid-first s (keptOf (f .area)) (p .fits .room) out)
 
-  again : Again (keptOf (f .area))
-  again = let q = passed-walk (f .arriving) (f .area) 9 (p .arrived) in kept-again (f .area) (q .0) (q .1)
+  again : Again (f .leaving .basic .on) (keptOf (f .area)) (arrivingBasic (f .arriving) (f .area))
+  unfolding arrivingBasic
+  again =
+      let q = passed-walk (f .arriving) (f .area) 9 (p .arrived) in
+      let c : octetsAt (q .1) (f .area) ≡ octetsAt (basicIn (walkAt (f .arriving) (f .area))) (f .area) = ap (λ (w : Walk). octetsAt (basicIn w) (f .area)) (sym (q .2)) in
+      transport (λ i. Again (same-switch f p i) (keptOf (f .area)) (c i)) (kept-again (f .arriving .basic .on) (f .area) (q .0) (q .1) (q .2))
 
   pub counted : (s : List ℕ) × Spells (f .leaving .spellings) s (forwardOf f .label) × Counts (forwardOf f .count) (length s) (length (keptOf (f .area)))
   counted = (s, rw label-is spells, rw count-is (counts (length s) (length (keptOf (f .area))) (p .fits .room)))
 
-  pub reads-again : (out : List ℕ) → Reads (leavingArea f out) (f .leaving .domain) (f .leaving .spellings) (forwardOf f .label) (keptOf (f .area))
-  reads-again out = rw (area-is out, label-is) (read-again s (keptOf (f .area)) m (p .fits .room) (f .leaving .spellings) spells again (f .leaving .domain) refl)
+  pub reads-again : (out : List ℕ)
+      → Reads (leavingArea f out) (f .leaving .basic .on) (f .leaving .domain) (f .leaving .spellings) (forwardOf f .label) (arrivingBasic (f .arriving) (f .area)) (keptOf (f .area))
+  reads-again out =
+      rw (area-is out, label-is)
+      (read-again (f .leaving .basic .on) s (keptOf (f .area)) (arrivingBasic (f .arriving) (f .area)) m (p .fits .room) (f .leaving .spellings) spells again (f .leaving .domain) refl)
 
 -- A second forwarding, of what has left, through equal domains.
 module _ (f g : Forwarding) (out out′ : List ℕ) (e : forwardOf f .number ≡ 0) (e′ : forwardOf g .number ≡ 0) (area : g .area ≡ leavingArea f out)
     (from : g .arriving .domain ≡ f .leaving .domain) (to : g .leaving .domain ≡ f .leaving .domain)
     (set : g .leaving .spellings ≡ f .leaving .spellings) where
+  same-kept : keptOf (g .area) ≡ keptOf (f .area)
+  same-kept = ap keptOf area ∙ reads-again f e out .kept
+
+  -- the second arriving port reads option 130 as the first leaving port does: each does exactly where the kept options have one
+  switch : g .arriving .basic .on ≡ f .leaving .basic .on
+  switch =
+      let a = passed-walk (f .arriving) (f .area) 9 (p f e .arrived) in
+      let b = passed-walk (g .arriving) (g .area) 9 (p g e′ .arrived) in
+      passed-switch (g .arriving) (g .area) 9 (p g e′ .arrived)
+      ∙ ap there (basic-kept (g .arriving) (g .area) (b .0) (b .1) (b .2) ∙ ap (λ (ks : List ℕ). basicFrom ks 0) same-kept ∙ sym (basic-kept (f .arriving) (f .area) (a .0) (a .1) (a .2)))
+      ∙ sym (passed-switch (f .arriving) (f .area) 9 (p f e .arrived))
+      ∙ same-switch f (p f e)
+
   same-label : leavingLabel (crossing g) ≡ leavingLabel (crossing f)
   same-label =
       let q = p g e′ in
@@ -159,11 +184,8 @@ module _ (f g : Forwarding) (out out′ : List ℕ) (e : forwardOf f .number ≡
       let h = arrival-held (g .arriving) (g .area) 9 a (q .arrived) in
       label-stays (crossing g) (h .formed) (h .domain) l (from ∙ sym to)
       ∙ ap (arrivingLabel (g .arriving)) area
-      ∙ reads-again f e out .label (g .arriving) from
+      ∙ reads-again f e out .label (g .arriving) switch from
       ∙ label-is f e
-
-  same-kept : keptOf (g .area) ≡ keptOf (f .area)
-  same-kept = ap keptOf area ∙ reads-again f e out .kept
 
   same-option : p g e′ .fits .octets ≡ p f e .fits .octets
   same-option = same-some (sym (spelled g e′) ∙ (λ i. spelledOf (set i) (same-label i)) ∙ spelled f e)

@@ -1,4 +1,5 @@
 pub mod First
+pub mod Basic
 pub mod Second
 pub mod Third
 pub mod Demands

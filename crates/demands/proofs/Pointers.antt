@@ -21,15 +21,17 @@ use Rattle.area.specs.declared.Place.the-variants.{Nowhere, At}
 use Rattle.area.specs.declared.Walk.{Walk}
 use Rattle.area.specs.declared.Walk.the-variants.{Sound, Refused}
 use Rattle.area.specs.Area.{walkOf}
-use Rattle.area.proofs.Laws.{area-refused, area-placed}
+use Rattle.area.specs.declared.Kind.the-variants.{Basic}
+use Rattle.area.proofs.Laws.{area-refused, sound-placed}
+use Rattle.basic.specs.Alone.{basicReading}
 use Rattle.leaving.specs.Kept.{keptOf}
 use Rattle.port.specs.declared.Port.{Port}
 use Rattle.port.specs.Port.{portSound, hostSound}
 use Rattle.label.specs.Range.{setInRange}
-use Rattle.arrival.specs.Checks.{Refusal, silent, faulty, barred, when, firstOf, badArea, walkRefusal, walkCheck, placeIn, optionAt, requiredBy, requiredCheck, optionBy, optionCheck, arrivingLabel, rangeCheck, Delivery, deliverySizes, deliveryRecords, hostCheck}
+use Rattle.arrival.specs.Checks.{Refusal, silent, faulty, barred, when, firstOf, badArea, walkAt, walkRefusal, walkCheck, placeIn, basicIn, optionAt, requiredBy, requiredCheck, optionBy, optionCheck, badBasicBy, badBasicCheck, arrivingBasic, missingBasicBy, missingBasicCheck, basicPasses, basicRangeCheck, arrivingLabel, rangeCheck, Delivery, deliverySizes, deliveryRecords, hostCheck}
 use Rattle.arrival.specs.Decision.{silenced, decided, deliverChecks, deliverOf}
-use Rattle.arrival.proofs.Arrival.{placed-framed}
-use Rattle.gateway.specs.Crossing.{Forwarding, sizes, records, crossing, stays, hasNumbers, numberCheck, leavingLevel, leavingRuns, leavingCheck, leavingOption, noRoom, spellingCheck}
+use Rattle.arrival.proofs.Arrival.{placed-framed, whole-inside}
+use Rattle.gateway.specs.Crossing.{Forwarding, sizes, records, leavingBasicCheck, crossing, stays, hasNumbers, numberCheck, leavingLevel, leavingRuns, leavingCheck, leavingOption, noRoom, spellingCheck}
 use Rattle.gateway.specs.Forward.{forwardChecks, forwardOf}
 use Rattle.gateway.proofs.Forwards.{recordsTest}
 use Rattle.demands.specs.Guards.{PointsInto}
@@ -101,44 +103,77 @@ silent-points area b n = points-when area b (silent n) (λ k c. absurd (omega ar
 barred-points : (area : List ℕ) (b : Bool) (n code : ℕ) → Points area (when b (barred n code))
 barred-points area b n code = points-when area b (barred n code) (λ k c. absurd (omega arith))
 
-walk-points : (area : List ℕ) (w : Walk) → walkOf area ≡ w → Points area (walkRefusal w)
-walk-points area (Sound q) e = tt
-walk-points area (Refused n at) e = λ k c. (let q = area-refused area n at e in omega arith)
+walk-points : (on : Bool) (area : List ℕ) (w : Walk) → walkOf on area ≡ w → Points area (walkRefusal w)
+walk-points on area (Sound l b) e = tt
+walk-points on area (Refused n at) e = λ k c. (let q = area-refused on area n at e in omega (arith, q .2))
 
 required-points : (area : List ℕ) (q : Place) (p : Port) → Points area (requiredBy q p)
 required-points area Nowhere p = points-when area (p .required) _ (λ k c. absurd (omega arith))
 required-points area (At i) p = tt
 
-option-points : (p : Port) (area : List ℕ) (w : Walk) → walkOf area ≡ w → Points area (optionBy (placeIn w) p area)
-option-points p area (Refused n at) e = tt
-option-points p area (Sound Nowhere) e = tt
-option-points p area (Sound (At i)) e =
-    let f = placed-framed area i (area-placed area i e) in
+option-points : (on : Bool) (p : Port) (area : List ℕ) (w : Walk) → walkOf on area ≡ w → Points area (optionBy (placeIn w) p area)
+option-points on p area (Refused n at) e = tt
+option-points on p area (Sound Nowhere b) e = tt
+option-points on p area (Sound (At i) b) e =
+    let f = placed-framed area i (sound-placed on area (At i) b e .0) in
     let h : readingFor (p .domain) (optionAt i area) .pointer < length (optionAt i area) = reading-inside (p .domain) (optionAt i area) (omega (arith, f .size, f .least)) in
     points-when area (not (eqb (readingFor (p .domain) (optionAt i area) .number) 0))
     (faulty (readingFor (p .domain) (optionAt i area) .number) (i + readingFor (p .domain) (optionAt i area) .pointer))
     (λ k c. omega (arith, f .size, f .inside))
+
+bad-points : (on : Bool) (area : List ℕ) (w : Walk) → walkOf on area ≡ w → Points area (badBasicBy (basicIn w) area)
+bad-points on area (Refused n at) e = tt
+bad-points on area (Sound l Nowhere) e = tt
+bad-points on area (Sound l (At i)) e =
+    let f = whole-inside Basic area i (sound-placed on area l (At i) e .1) in
+    points-when area (not (eqb (basicReading (optionAt i area) .number) 0)) (faulty 19 i) (λ k c. omega (arith, f .inside, f .least))
+
+missing-points : (area : List ℕ) (o : Option (List ℕ)) (on : Bool) → Points area (missingBasicBy o on)
+missing-points area none on = points-when area on _ (λ k c. absurd (omega arith))
+missing-points area (some o) on = tt
+
+-- 19 to 21 at the arriving port
+basic-points : (p : Port) (area : List ℕ) (code : ℕ) → Points area (badBasicCheck p area) × Points area (missingBasicCheck p area) × Points area (basicRangeCheck p area code)
+unfolding badBasicCheck missingBasicCheck basicRangeCheck
+basic-points p area code = (
+  bad-points (p .basic .on) area (walkAt p area) refl,
+  missing-points area (arrivingBasic p area) (p .basic .on),
+  barred-points area (not (basicPasses (p .basic .on) (p .basic .receiving) (arrivingBasic p area))) 21 code,
+)
 
 range-points : (p : Port) (area : List ℕ) (code : ℕ) → Points area (rangeCheck p area code)
 unfolding rangeCheck
 range-points p area code = barred-points area (not (inRange (p .lowest) (p .highest) (arrivingLabel p area))) 14 code
 
 forward-points : (f : Forwarding) → Points (f .area) (firstOf (forwardChecks f))
-unfolding sizes records walkCheck requiredCheck optionCheck numberCheck leavingCheck spellingCheck
+unfolding sizes records walkCheck requiredCheck optionCheck leavingBasicCheck numberCheck leavingCheck spellingCheck
 forward-points f =
+    let b = basic-points (f .arriving) (f .area) 9 in
     points-first (f .area) (forwardChecks f) (
       silent-points (f .area) (badArea (f .area) || ltb (f .room) 40) 1,
       (
         silent-points (f .area) (not (recordsTest f)) 2,
         (
-          walk-points (f .area) (walkOf (f .area)) refl,
+          walk-points (f .arriving .basic .on) (f .area) (walkAt (f .arriving) (f .area)) refl,
           (
-            required-points (f .area) (placeIn (walkOf (f .area))) (f .arriving),
+            required-points (f .area) (placeIn (walkAt (f .arriving) (f .area))) (f .arriving),
             (
-              option-points (f .arriving) (f .area) (walkOf (f .area)) refl,
+              option-points (f .arriving .basic .on) (f .arriving) (f .area) (walkAt (f .arriving) (f .area)) refl,
               (
-                range-points (f .arriving) (f .area) 9,
-                (barred-points (f .area) (not (stays (crossing f) || hasNumbers (crossing f))) 16 9, (barred-points (f .area) (not (setInRange (f .leaving .lowest) (f .leaving .highest) (leavingLevel (crossing f)) (leavingRuns (crossing f)))) 17 9, (barred-points (f .area) (ltb 120 (length (leavingRuns (crossing f))) || noRoom (leavingOption (crossing f)) (keptOf (f .area))) 18 9, tt))),
+                b .0,
+                (
+                  b .1,
+                  (
+                    b .2,
+                    (
+                      barred-points (f .area) (not (basicPasses (f .leaving .basic .on) (f .leaving .basic .sending) (arrivingBasic (f .arriving) (f .area)))) 21 9,
+                      (
+                        range-points (f .arriving) (f .area) 9,
+                        (barred-points (f .area) (not (stays (crossing f) || hasNumbers (crossing f))) 16 9, (barred-points (f .area) (not (setInRange (f .leaving .lowest) (f .leaving .highest) (leavingLevel (crossing f)) (leavingRuns (crossing f)))) 17 9, (barred-points (f .area) (ltb 120 (length (leavingRuns (crossing f))) || noRoom (leavingOption (crossing f)) (keptOf (f .area))) 18 9, tt))),
+                      ),
+                    ),
+                  ),
+                ),
               ),
             ),
           ),
@@ -149,17 +184,21 @@ forward-points f =
 deliver-points : (d : Delivery) → Points (d .area) (firstOf (deliverChecks d))
 unfolding deliverySizes deliveryRecords walkCheck requiredCheck optionCheck hostCheck
 deliver-points d =
+    let b = basic-points (d .port) (d .area) 10 in
     points-first (d .area) (deliverChecks d) (
       silent-points (d .area) (badArea (d .area)) 1,
       (
         silent-points (d .area) (not (portSound (d .port) && hostSound (d .host) (d .port .domain))) 2,
         (
-          walk-points (d .area) (walkOf (d .area)) refl,
+          walk-points (d .port .basic .on) (d .area) (walkAt (d .port) (d .area)) refl,
           (
-            required-points (d .area) (placeIn (walkOf (d .area))) (d .port),
+            required-points (d .area) (placeIn (walkAt (d .port) (d .area))) (d .port),
             (
-              option-points (d .port) (d .area) (walkOf (d .area)) refl,
-              (range-points (d .port) (d .area) 10, (barred-points (d .area) (not (inRange (d .host .lowest) (d .host .highest) (arrivingLabel (d .port) (d .area)))) 15 10, tt)),
+              option-points (d .port .basic .on) (d .port) (d .area) (walkAt (d .port) (d .area)) refl,
+              (
+                b .0,
+                (b .1, (b .2, (range-points (d .port) (d .area) 10, (barred-points (d .area) (not (inRange (d .host .lowest) (d .host .highest) (arrivingLabel (d .port) (d .area)))) 15 10, tt)))),
+              ),
             ),
           ),
         ),

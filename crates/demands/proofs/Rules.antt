@@ -1,6 +1,6 @@
 -- The number given is the first of the order whose line applies.
 use mathlib.Core.Path.{_≡_, refl, sym, _∙_, ap, subst}
-use mathlib.Core.Bool.{Bool, true, false, not, cond, _&&_}
+use mathlib.Core.Bool.{Bool, true, false, not, cond, _&&_, _||_}
 use mathlib.Core.List.{List, [], _∷_, _++_, map}
 use mathlib.Core.Logic.{_⊎_, inl, inr, _↔_}
 use mathlib.Core.Option.{Option, none, some}
@@ -23,17 +23,19 @@ use Rattle.area.specs.declared.Size.the-variants.{Whole, Bad}
 use Rattle.area.specs.declared.Place.{Place}
 use Rattle.area.specs.declared.Place.the-variants.{Nowhere, At}
 use Rattle.area.specs.declared.Walk.the-variants.{Sound}
-use Rattle.area.specs.Area.{Met, metOf, judged, walkOf}
-use Rattle.area.proofs.Laws.{area-placed, cipso-octet}
+use Rattle.area.specs.Area.{kindOf, Met, metOf, judged, walkOf, octetsAt, WholeAt}
+use Rattle.area.proofs.Laws.{sound-placed, cipso-octet, basic-octet}
+use Rattle.basic.specs.Option.{basicLevel, basicFlags, basicValid}
+use Rattle.basic.specs.Alone.{basicFound, basicBad, basicReading}
 use Rattle.leaving.specs.Kept.{keptOf}
 use Rattle.port.specs.declared.Port.{Port}
-use Rattle.arrival.specs.Checks.{Refusal, faulty, when, firstOf, walkRefusal, walkCheck, placeIn, optionAt, requiredBy, requiredCheck, optionBy, optionCheck, rangeCheck, Delivery, deliverySizes, deliveryRecords, hostCheck}
+use Rattle.arrival.specs.Checks.{Refusal, faulty, when, firstOf, walkAt, walkRefusal, walkCheck, placeIn, basicIn, optionAt, requiredBy, requiredCheck, optionBy, optionCheck, badBasicBy, badBasicCheck, arrivingBasic, missingBasicBy, missingBasicCheck, basicRangeCheck, rangeCheck, Delivery, deliverySizes, deliveryRecords, hostCheck}
 use Rattle.arrival.specs.Decision.{silenced, decided, deliverChecks, deliverOf}
 use Rattle.arrival.proofs.First.{orElse, first-append}
-use Rattle.arrival.proofs.Arrival.{placed-framed}
-use Rattle.gateway.specs.Crossing.{Forwarding, sizes, records, crossing, numberCheck, leavingCheck, spellingCheck}
+use Rattle.arrival.proofs.Arrival.{whole-inside}
+use Rattle.gateway.specs.Crossing.{Forwarding, sizes, records, leavingBasicCheck, crossing, numberCheck, leavingCheck, spellingCheck}
 use Rattle.gateway.specs.Forward.{forwardChecks, forwardOf}
-use Rattle.demands.specs.Rules.{Rule, rule, isAt, octetAt, labelRules, rangeRule, forwardInputs, deliverInputs, leavingRules, hostRules, byOption, forwardTests, deliverTests, NoRule, FirstRule, reportOf, Follows, passes, stops, StandsAt, BadAt, OrderOfChecks}
+use Rattle.demands.specs.Rules.{Rule, rule, isAt, octetAt, labelRules, rangeRule, arrivingBasicRule, forwardInputs, deliverInputs, leavingBasicRule, crossingRules, hostRules, byOption, forwardTests, deliverTests, NoRule, FirstRule, reportOf, Follows, passes, stops, StandsAt, BadAt, OrderOfChecks}
 use Rattle.demands.proofs.Second.{forwarded-passes, delivered-passes}
 
 -- A line as a check.
@@ -68,29 +70,39 @@ first-stretch xs ys d ds e f = checks-append xs ys ∙ (λ i. orElse (e i) (f i)
 abbrev threeToFive : List ℕ
 threeToFive = 3 ∷ 4 ∷ 5 ∷ []
 
-walk-by : (k : Kind) (z : Size) (at : ℕ) (ms : List Met) (seen : Place)
-    → ((s : Place) → firstOf (checks (byOption threeToFive (isAt s) ms)) ≡ walkRefusal (judged ms s))
-    → firstOf (checks (byOption threeToFive (isAt seen) (record { kind = k; at = at; size = z } ∷ ms)))
-    ≡ walkRefusal (judged (record { kind = k; at = at; size = z } ∷ ms) seen)
-walk-by k Bad at ms seen g = refl
-walk-by End (Whole n) at ms Nowhere g = g Nowhere
-walk-by End (Whole n) at ms (At p) g = g (At p)
-walk-by NoOperation (Whole n) at ms Nowhere g = g Nowhere
-walk-by NoOperation (Whole n) at ms (At p) g = g (At p)
-walk-by Basic (Whole n) at ms seen g = refl
-walk-by Extended (Whole n) at ms seen g = refl
-walk-by Cipso (Whole n) at ms Nowhere g = g (At at)
-walk-by Cipso (Whole n) at ms (At p) g = refl
-walk-by Other (Whole n) at ms Nowhere g = g Nowhere
-walk-by Other (Whole n) at ms (At p) g = g (At p)
+-- what was met before an option that is neither
+none-before : (on : Bool) (ms : List Met) (label basic : Place)
+    → ((l b : Place) → firstOf (checks (byOption threeToFive on (isAt l) (isAt b) ms)) ≡ walkRefusal (judged on ms l b))
+    → firstOf (checks (byOption threeToFive on (isAt label || false) (isAt basic || false) ms)) ≡ walkRefusal (judged on ms label basic)
+none-before on ms Nowhere Nowhere g = g Nowhere Nowhere
+none-before on ms Nowhere (At q) g = g Nowhere (At q)
+none-before on ms (At p) Nowhere g = g (At p) Nowhere
+none-before on ms (At p) (At q) g = g (At p) (At q)
 
-walk-rules : (ms : List Met) (seen : Place) → firstOf (checks (byOption threeToFive (isAt seen) ms)) ≡ walkRefusal (judged ms seen)
-walk-rules [] seen = refl
-walk-rules (m ∷ ms) seen = walk-by (m .kind) (m .size) (m .at) ms seen (λ s. walk-rules ms s)
+walk-by : (on : Bool) (k : Kind) (z : Size) (at : ℕ) (ms : List Met) (label basic : Place)
+    → ((l b : Place) → firstOf (checks (byOption threeToFive on (isAt l) (isAt b) ms)) ≡ walkRefusal (judged on ms l b))
+    → firstOf (checks (byOption threeToFive on (isAt label) (isAt basic) (record { kind = k; at = at; size = z } ∷ ms)))
+    ≡ walkRefusal (judged on (record { kind = k; at = at; size = z } ∷ ms) label basic)
+walk-by on k Bad at ms label basic g = refl
+walk-by on End (Whole n) at ms label basic g = none-before on ms label basic g
+walk-by on NoOperation (Whole n) at ms label basic g = none-before on ms label basic g
+walk-by false Basic (Whole n) at ms label basic g = refl
+walk-by true Basic (Whole n) at ms Nowhere Nowhere g = g Nowhere (At at)
+walk-by true Basic (Whole n) at ms (At p) Nowhere g = g (At p) (At at)
+walk-by true Basic (Whole n) at ms label (At q) g = refl
+walk-by on Extended (Whole n) at ms label basic g = refl
+walk-by on Cipso (Whole n) at ms Nowhere Nowhere g = g (At at) Nowhere
+walk-by on Cipso (Whole n) at ms Nowhere (At q) g = g (At at) (At q)
+walk-by on Cipso (Whole n) at ms (At p) basic g = refl
+walk-by on Other (Whole n) at ms label basic g = none-before on ms label basic g
 
-area-rules : (area : List ℕ) → firstOf (checks (byOption threeToFive false (metOf area))) ≡ walkCheck area
+walk-rules : (on : Bool) (ms : List Met) (label basic : Place) → firstOf (checks (byOption threeToFive on (isAt label) (isAt basic) ms)) ≡ walkRefusal (judged on ms label basic)
+walk-rules on [] label basic = refl
+walk-rules on (m ∷ ms) label basic = walk-by on (m .kind) (m .size) (m .at) ms label basic (λ l b. walk-rules on ms l b)
+
+area-rules : (port : Port) (area : List ℕ) → firstOf (checks (byOption threeToFive (port .basic .on) false false (metOf area))) ≡ walkCheck port area
 unfolding walkCheck walkOf
-area-rules area = walk-rules (metOf area) Nowhere
+area-rules port area = walk-rules (port .basic .on) (metOf area) Nowhere Nowhere
 
 -- 7 to 13.
 abbrev ruleAt : ℕ → Check → Rule
@@ -126,35 +138,58 @@ shared-rules Nowhere port area rest ds e = first-alike (requiredBy Nowhere port)
 shared-rules (At p) port area rest ds e =
     first-stretch (labelRules true (optionAt p area) p port) rest (optionBy (At p) port area) ds (label-rules (optionAt p area) p port) e
 
+-- 19 and 20, and what follows
+valid-number : (o : List ℕ) → eqb (basicReading o .number) 0 ≡ basicValid o
+unfolding basicReading
+valid-number o = go (basicValid o)
+  where
+    go : (b : Bool) → eqb (cond b (basicFound (basicLevel o) (basicFlags o)) basicBad .number) 0 ≡ b
+    go true = refl
+    go false = refl
+
+basic-rules : (q : Place) (on : Bool) (area : List ℕ) (rest : List Rule) (ds : List (Option Refusal)) → firstOf (checks rest) ≡ firstOf ds
+    → firstOf (checks (rule 19 (isAt q && not (basicValid (optionAt (octetAt q) area))) 12 0 (20 + octetAt q) ∷ rule 20 (not (isAt q) && on) 12 1 130 ∷ rest))
+    ≡ firstOf (badBasicBy q area ∷ missingBasicBy (octetsAt q area) on ∷ ds)
+basic-rules Nowhere on area rest ds e = first-alike (missingBasicBy none on) (missingBasicBy none on) (checks rest) ds refl e
+basic-rules (At p) on area rest ds e =
+    first-alike (when (not (basicValid (optionAt p area))) (faulty 19 p)) (badBasicBy (At p) area) (none ∷ checks rest) (none ∷ ds)
+    (ap (λ (b : Bool). when (not b) (faulty 19 p)) (sym (valid-number (optionAt p area)))) e
+
 -- every line that is tested, after the first two
 all-rules : (ts : List Rule) (area : List ℕ) (port : Port) (rest : List Rule) (ds : List (Option Refusal)) → firstOf (checks rest) ≡ firstOf ds
-    → firstOf (checks (ts ++ (byOption threeToFive false (metOf area)
-    ++ (rule 6 (not (isAt (placeIn (walkOf area))) && port .required) 12 1 134
-    ∷ (labelRules (isAt (placeIn (walkOf area))) (optionAt (octetAt (placeIn (walkOf area))) area) (octetAt (placeIn (walkOf area))) port ++ rest)))))
-    ≡ orElse (firstOf (checks ts)) (firstOf (walkCheck area ∷ requiredCheck port area ∷ optionCheck port area ∷ ds))
-unfolding requiredCheck optionCheck
+    → let q = placeIn (walkAt port area) in
+    let b = basicIn (walkAt port area) in
+    firstOf (checks (ts ++ (byOption threeToFive (port .basic .on) false false (metOf area)
+    ++ (rule 6 (not (isAt q) && port .required) 12 1 134
+    ∷ (labelRules (isAt q) (optionAt (octetAt q) area) (octetAt q) port
+    ++ (rule 19 (isAt b && not (basicValid (optionAt (octetAt b) area))) 12 0 (20 + octetAt b) ∷ rule 20 (not (isAt b) && port .basic .on) 12 1 130 ∷ rest))))))
+    ≡ orElse (firstOf (checks ts)) (firstOf (walkCheck port area ∷ requiredCheck port area ∷ optionCheck port area ∷ badBasicCheck port area ∷ missingBasicCheck port area ∷ ds))
+unfolding requiredCheck optionCheck badBasicCheck missingBasicCheck arrivingBasic
 all-rules ts area port rest ds e =
+    let q = placeIn (walkAt port area) in
+    let b = basicIn (walkAt port area) in
+    let last : List Rule = rule 19 (isAt b && not (basicValid (optionAt (octetAt b) area))) 12 0 (20 + octetAt b) ∷ rule 20 (not (isAt b) && port .basic .on) 12 1 130 ∷ rest in
+    let ends : List (Option Refusal) = badBasicBy b area ∷ missingBasicBy (octetsAt b area) (port .basic .on) ∷ ds in
     checks-append ts _
     ∙ ap (orElse (firstOf (checks ts)))
-    (first-stretch (byOption threeToFive false (metOf area))
-    (rule 6 (not (isAt (placeIn (walkOf area))) && port .required) 12 1 134
-    ∷ (labelRules (isAt (placeIn (walkOf area))) (optionAt (octetAt (placeIn (walkOf area))) area) (octetAt (placeIn (walkOf area))) port ++ rest))
-    (walkCheck area) (requiredCheck port area ∷ optionCheck port area ∷ ds) (area-rules area)
-    (shared-rules (placeIn (walkOf area)) port area rest ds e))
+    (first-stretch (byOption threeToFive (port .basic .on) false false (metOf area))
+    (rule 6 (not (isAt q) && port .required) 12 1 134 ∷ (labelRules (isAt q) (optionAt (octetAt q) area) (octetAt q) port ++ last))
+    (walkCheck port area) (requiredCheck port area ∷ optionCheck port area ∷ ends) (area-rules port area)
+    (shared-rules q port area last ends (basic-rules b (port .basic .on) area rest ds e)))
 
 forward-rules : (f : Forwarding) → firstOf (checks (forwardTests f)) ≡ firstOf (forwardChecks f)
-unfolding sizes records rangeCheck numberCheck leavingCheck spellingCheck
+unfolding sizes records basicRangeCheck leavingBasicCheck rangeCheck numberCheck leavingCheck spellingCheck
 forward-rules f =
-    let ds : List (Option Refusal) = rangeCheck (f .arriving) (f .area) 9 ∷ numberCheck (crossing f) ∷ leavingCheck (crossing f) ∷ spellingCheck (crossing f) (keptOf (f .area)) ∷ [] in
-    all-rules (forwardInputs f) (f .area) (f .arriving) (rangeRule (f .arriving) (f .area) 9 ∷ leavingRules f) ds refl
-    ∙ sym (first-append (sizes f ∷ records f ∷ []) (walkCheck (f .area) ∷ requiredCheck (f .arriving) (f .area) ∷ optionCheck (f .arriving) (f .area) ∷ ds))
+    let ds : List (Option Refusal) = basicRangeCheck (f .arriving) (f .area) 9 ∷ leavingBasicCheck f ∷ rangeCheck (f .arriving) (f .area) 9 ∷ numberCheck (crossing f) ∷ leavingCheck (crossing f) ∷ spellingCheck (crossing f) (keptOf (f .area)) ∷ [] in
+    all-rules (forwardInputs f) (f .area) (f .arriving) (arrivingBasicRule (f .arriving) (f .area) 9 ∷ leavingBasicRule f ∷ rangeRule (f .arriving) (f .area) 9 ∷ crossingRules f) ds refl
+    ∙ sym (first-append (sizes f ∷ records f ∷ []) (walkCheck (f .arriving) (f .area) ∷ requiredCheck (f .arriving) (f .area) ∷ optionCheck (f .arriving) (f .area) ∷ badBasicCheck (f .arriving) (f .area) ∷ missingBasicCheck (f .arriving) (f .area) ∷ ds))
 
 deliver-rules : (d : Delivery) → firstOf (checks (deliverTests d)) ≡ firstOf (deliverChecks d)
-unfolding deliverySizes deliveryRecords rangeCheck hostCheck
+unfolding deliverySizes deliveryRecords basicRangeCheck rangeCheck hostCheck
 deliver-rules d =
-    let ds : List (Option Refusal) = rangeCheck (d .port) (d .area) 10 ∷ hostCheck d ∷ [] in
-    all-rules (deliverInputs d) (d .area) (d .port) (rangeRule (d .port) (d .area) 10 ∷ hostRules d) ds refl
-    ∙ sym (first-append (deliverySizes d ∷ deliveryRecords d ∷ []) (walkCheck (d .area) ∷ requiredCheck (d .port) (d .area) ∷ optionCheck (d .port) (d .area) ∷ ds))
+    let ds : List (Option Refusal) = basicRangeCheck (d .port) (d .area) 10 ∷ rangeCheck (d .port) (d .area) 10 ∷ hostCheck d ∷ [] in
+    all-rules (deliverInputs d) (d .area) (d .port) (arrivingBasicRule (d .port) (d .area) 10 ∷ rangeRule (d .port) (d .area) 10 ∷ hostRules d) ds refl
+    ∙ sym (first-append (deliverySizes d ∷ deliveryRecords d ∷ []) (walkCheck (d .port) (d .area) ∷ requiredCheck (d .port) (d .area) ∷ optionCheck (d .port) (d .area) ∷ badBasicCheck (d .port) (d .area) ∷ missingBasicCheck (d .port) (d .area) ∷ ds))
 
 -- The first line that applies, or none.
 abbrev Found : List Rule → Option Refusal → Type 0
@@ -211,12 +246,11 @@ deliver-none d = (
 )
 
 -- The octets that are blamed.
-stands-at : (area : List ℕ) (p : ℕ) → walkOf area ≡ Sound (At p) → StandsAt area p
-stands-at area p e =
-    let o = area-placed area p e in
-    let f = placed-framed area p o in
+stands-at : (t : ℕ) (k : Kind) (area : List ℕ) (p : ℕ) → ((x : ℕ) → kindOf x ≡ k → x ≡ t) → WholeAt k area p → StandsAt t area p
+stands-at t k area p n o =
+    let f = whole-inside k area p o in
     record {
-      type = sym (getD-drop p area 0 0 ∙ ap (λ (i : ℕ). getD area i 0) (omega arith)) ∙ cipso-octet (getD (drop p area) 0 0) (o .kind);
+      type = sym (getD-drop p area 0 0 ∙ ap (λ (i : ℕ). getD area i 0) (omega arith)) ∙ n (getD (drop p area) 0 0) (o .kind);
       size = f .size;
       octet = λ i h. getD-take (getD area (p + 1) 0) (drop p area) i 0 (omega (arith, f .size)) ∙ getD-drop p area i 0;
     }
@@ -272,6 +306,7 @@ order-of-checks =
       deliver = deliver-follows;
       forwarded = forward-none;
       delivered = deliver-none;
-      stands = stands-at;
+      stands = λ on area p b e. stands-at 134 Cipso area p cipso-octet (sound-placed on area (At p) b e .0);
+      basic = λ on area l p e. stands-at 130 Basic area p basic-octet (sound-placed on area l (At p) e .1);
       badOnes = bad-at;
     }

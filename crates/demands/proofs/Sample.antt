@@ -21,16 +21,18 @@ use Rattle.reading.specs.Reading.{readingOf, readingFor, readingBy, tagChecks, 
 use Rattle.reading.proofs.Theorems.{reads}
 use Rattle.area.specs.Area.{metFrom, metOf, walkOf}
 use Rattle.leaving.specs.Kept.{keptOf}
+use Rattle.basic.specs.Settings.{wayZero, basicSound}
+use Rattle.area.specs.declared.Place.the-variants.{Nowhere}
 use Rattle.port.specs.Port.{rangeSound, assignedSound, portSound}
 use Rattle.table.specs.Table as tables
 use Rattle.table.specs.Table.{usedRows, rowsSound, levelsSound, tableSound}
 use Rattle.table.specs.Numbers.{sends, hasNumber}
 use Rattle.renumber.specs.Theorems.{Far}
-use Rattle.arrival.specs.Checks.{walkCheck, requiredCheck, optionCheck, arrivingLabel, rangeCheck}
-use Rattle.gateway.specs.Crossing.{sizes, records, numberCheck}
+use Rattle.arrival.specs.Checks.{walkCheck, requiredCheck, optionCheck, badBasicCheck, arrivingBasic, missingBasicCheck, basicRangeCheck, arrivingLabel, rangeCheck}
+use Rattle.gateway.specs.Crossing.{sizes, records, leavingBasicCheck, numberCheck}
 use Rattle.arrival.specs.Decision.{silenced}
 use Rattle.gateway.specs.Forward.{forwardOf}
-use Rattle.demands.specs.Demands.{own, Forwards}
+use Rattle.demands.specs.Demands.{own, Forwards, neither}
 use Rattle.sample_records.specs.Sample.{arriving, leaving, table, levels}
 use Rattle.demands.specs.Sample.{sample, first, SampleLines}
 use Rattle.demands.proofs.Second.{demand2}
@@ -102,7 +104,7 @@ apart : (_≡_ {A = ℕ} 5 9) → ⊥
 apart e = omega arith
 
 conditions : Forwards (sample first) near far spelling
-unfolding subset allBelow wellFormed labelTyped atMost leq inRange isZero rangeSound assignedSound portSound metFrom metOf walkOf keptOf tables.typed rowsSound levelsSound tableSound
+unfolding subset allBelow wellFormed labelTyped atMost leq inRange isZero rangeSound wayZero basicSound assignedSound portSound metFrom metOf walkOf keptOf tables.typed rowsSound levelsSound tableSound
 conditions =
     record {
       area = record { few = omega arith; fourfold = refl };
@@ -110,7 +112,8 @@ conditions =
       arriving = refl;
       leaving = refl;
       table = λ d. refl;
-      label = own 0 refl means refl;
+      label = own 0 Nowhere refl means refl;
+      basic = neither refl refl;
       arrives = refl;
       stays = λ e. absurd (apart e);
       from = λ d. refl;
@@ -126,7 +129,7 @@ unfolding metFrom metOf keptOf
 nothing-kept = refl
 
 pub sample-lines : SampleLines
-unfolding subset allBelow wellFormed labelTyped atMost leq inRange isZero pieces readingFor readingBy tagChecks labelIn metFrom metOf walkOf keptOf rangeSound assignedSound portSound tables.typed rowsSound levelsSound tableSound walkCheck requiredCheck optionCheck arrivingLabel rangeCheck sizes records numberCheck silenced forwardOf
+unfolding subset allBelow wellFormed labelTyped atMost leq inRange isZero pieces readingFor readingBy tagChecks labelIn metFrom metOf walkOf keptOf rangeSound wayZero basicSound assignedSound portSound tables.typed rowsSound levelsSound tableSound walkCheck requiredCheck optionCheck badBasicCheck arrivingBasic missingBasicCheck basicRangeCheck leavingBasicCheck arrivingLabel rangeCheck sizes records numberCheck silenced forwardOf
 sample-lines =
     record {
       forward = demand2 .always (sample first) near far spelling [] conditions .0;

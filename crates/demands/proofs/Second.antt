@@ -24,8 +24,7 @@ use Rattle.area.specs.declared.Place.{Place}
 use Rattle.area.specs.declared.Place.the-variants.{Nowhere, At}
 use Rattle.area.specs.declared.Walk.{Walk}
 use Rattle.area.specs.declared.Walk.the-variants.{Sound, Refused}
-use Rattle.area.specs.Area.{walkOf}
-use Rattle.area.proofs.Laws.{area-placed}
+use Rattle.area.proofs.Laws.{sound-placed}
 use Rattle.leaving.specs.Kept.{keptOf, roundUp, leavingOf}
 use Rattle.port.specs.declared.Port.{Port}
 use Rattle.port.specs.Port.{portSound, hostSound}
@@ -36,7 +35,7 @@ use Rattle.renumber.specs.Renumber.{renumberedAs, carriedOf}
 use Rattle.renumber.specs.Theorems.{Far}
 use Rattle.renumber.proofs.Theorems.{renumbering, agrees}
 use Rattle.arrival.specs.declared.Decision.{Decision}
-use Rattle.arrival.specs.Checks.{Refusal, silent, barred, when, firstOf, NoneApplies, badArea, walkRefusal, walkCheck, placeIn, optionAt, requiredBy, requiredCheck, optionBy, optionCheck, labelBy, arrivingLabel, rangeCheck, Delivery, deliverySizes, deliveryRecords, hostCheck}
+use Rattle.arrival.specs.Checks.{Refusal, silent, barred, when, firstOf, NoneApplies, badArea, walkAt, walkCheck, placeIn, optionAt, requiredBy, requiredCheck, optionBy, optionCheck, labelBy, arrivingLabel, rangeCheck, Delivery, deliverySizes, deliveryRecords, hostCheck}
 use Rattle.arrival.specs.Decision as decision
 use Rattle.arrival.specs.Decision.{silenced, refused, decided, arrivalChecks, deliverChecks, deliverOf}
 use Rattle.arrival.proofs.First.{Real, AllReal, real-first, real-when, first-none, none-first, when-none, orElse, first-append, not-false-yes, real-else}
@@ -46,7 +45,8 @@ use Rattle.gateway.specs.Crossing.{Forwarding, sameDomain, Crossing, crossing, 
 use Rattle.gateway.specs.Forward.{forwardChecks, forwardOf, outputOf}
 use Rattle.gateway.specs.Stages.{crossingChecks}
 use Rattle.gateway.proofs.Crossings.{label-stays, stays-inside, stays-outside, Crossed, crossed, crossed-carried, crosses-passed}
-use Rattle.gateway.proofs.Forwards.{recordsTest, Passed, forward-passed, passed-formed, forward-real, forward-fits, forward-done, leaving-spelled}
+use Rattle.gateway.proofs.Forwards.{reachChecks, recordsTest, Passed, forward-passed, passed-formed, forward-real, forward-fits, forward-done, leaving-spelled}
+use Rattle.demands.proofs.Basic.{octets-at, basic-arrives, basic-passes, Unbarred, arrives-unbarred, passes-unbarred, passes-sent}
 use Rattle.demands.specs.Demands.{AreaSound, LabelOf, own, assigned, Forwards, Delivers, Demand2}
 
 -- The area.
@@ -61,52 +61,48 @@ sound-area area a = rw (le-ltb 40 (length area) (a .few), eq-eqb _ _ (a .fourfol
 
 -- The label of an area that has passed checks 3 to 14.
 
-octets-at : (xs : List ℕ) → Octets xs → (i : ℕ) → getD xs i 0 < 256
-octets-at [] o i = omega arith
-octets-at (x ∷ xs) o zero = o .0
-octets-at (x ∷ xs) o (suc i) = octets-at xs (o .1) i
-
-walk-sound : (w : Walk) → walkRefusal w ≡ none → (q : Place) × (w ≡ Sound q)
-walk-sound (Sound q) e = (q, refl)
-walk-sound (Refused n at) e = let z : _≡_ {A = ℕ} 0 1 = cc in absurd (omega arith)
-
 pub passed-label : (p : Port) (area : List ℕ) (code : ℕ) → Octets area → portSound p ≡ true → firstOf (arrivalChecks p area code) ≡ none → LabelOf p area (arrivingLabel p area)
 unfolding walkCheck requiredCheck optionCheck arrivingLabel
-passed-label p area code oct s e = go (walkOf area) refl
+passed-label p area code oct s e = go (walkAt p area) refl
   where
     n : NoneApplies (arrivalChecks p area code)
     n = first-none (arrivalChecks p area code) e
 
-    at-place : (q : Place) → walkOf area ≡ Sound q → requiredBy q p ≡ none → optionBy q p area ≡ none → labelBy q p area ≡ arrivingLabel p area → LabelOf p area (arrivingLabel p area)
-    at-place Nowhere w r o l = assigned w (when-none (p .required) _ r) l
-    at-place (At i) w r o l =
-        let f = placed-framed area i (area-placed area i w) in
+    at-place : (q b : Place) → walkAt p area ≡ Sound q b → requiredBy q p ≡ none → optionBy q p area ≡ none → labelBy q p area ≡ arrivingLabel p area → LabelOf p area (arrivingLabel p area)
+    at-place Nowhere b w r o l = assigned b w (when-none (p .required) _ r) l
+    at-place (At i) b w r o l =
+        let f = placed-framed area i (sound-placed (p .basic .on) area (At i) b w .0) in
         let z : readingFor (p .domain) (optionAt i area) .number ≡ 0 = eqb-true _ _ (not-false-yes _ (when-none _ _ o)) in
         let m = reads .for (p .domain) .means (optionAt i area) (octets-part (getD area (i + 1) 0) i area (octets-at area oct)) (f .framed) (sound p s .owned) z in
-        own i w (rw l at m) (arrival-held p area code s e .domain)
+        own i b w (rw l at m) (arrival-held p area code s e .domain)
 
-    go : (w : Walk) → walkOf area ≡ w → LabelOf p area (arrivingLabel p area)
-    go (Sound q) w = at-place q w (rw w at (n .1 .0)) (rw w at (n .1 .1 .0)) (rw w)
+    go : (w : Walk) → walkAt p area ≡ w → LabelOf p area (arrivingLabel p area)
+    go (Sound q b) w = at-place q b w (rw w at (n .1 .0)) (rw w at (n .1 .1 .0)) (rw w)
     go (Refused k at) w = let c : some _ ≡ none = rw w at (n .0) in let z : _≡_ {A = ℕ} 0 1 = cc in absurd (omega arith)
 
 -- and back: an area with this label passes them.
 pub record Reads (p : Port) (area : List ℕ) (l : Label) : Type 0 where
   pub label : arrivingLabel p area ≡ l
-  pub walk : walkCheck area ≡ none
+  pub sound : (q : Place) × (b : Place) × (walkAt p area ≡ Sound q b)
+  pub walk : walkCheck p area ≡ none
   pub required : requiredCheck p area ≡ none
   pub option : optionCheck p area ≡ none
 
 pub label-reads : (p : Port) (area : List ℕ) (l : Label) → LabelOf p area l → Reads p area l
 unfolding walkCheck requiredCheck optionCheck arrivingLabel
-label-reads p area l (own i w m d) =
+label-reads p area l (own i b w m d) =
     let r : readingFor (p .domain) (optionAt i area) ≡ found l = reads .for (p .domain) .back (optionAt i area) l m d in
-    record { label = rw w (ap (λ (x : Reading). x .label) r); walk = rw w; required = rw w; option = rw w (rw r) }
-label-reads p area l (assigned w r e) = record { label = rw w e; walk = rw w; required = rw w (rw r); option = rw w }
+    record { label = rw w (ap (λ (x : Reading). x .label) r); sound = (At i, b, w); walk = rw w; required = rw w; option = rw w (rw r) }
+label-reads p area l (assigned b w r e) = record { label = rw w e; sound = (Nowhere, b, w); walk = rw w; required = rw w (rw r); option = rw w }
 
-pub label-arrives : (p : Port) (area : List ℕ) (code : ℕ) (l : Label) → Reads p area l → inRange (p .lowest) (p .highest) l ≡ true → firstOf (arrivalChecks p area code) ≡ none
+label-within : (p : Port) (area : List ℕ) (code : ℕ) (l : Label) → Reads p area l → inRange (p .lowest) (p .highest) l ≡ true → rangeCheck p area code ≡ none
 unfolding rangeCheck
-label-arrives p area code l r e =
-    none-first (arrivalChecks p area code) (r .walk, (r .required, (r .option, (rw (r .label, e), tt))))
+label-within p area code l r e = rw (r .label, e)
+
+pub label-arrives : (p : Port) (area : List ℕ) (code : ℕ) (l : Label) → Reads p area l → Unbarred p area code → inRange (p .lowest) (p .highest) l ≡ true
+    → firstOf (arrivalChecks p area code) ≡ none
+label-arrives p area code l r u e =
+    none-first (arrivalChecks p area code) (r .walk, (r .required, (r .option, (u .bad, (u .missing, (u .range, (label-within p area code l r e, tt)))))))
 
 -- a decision of number 0 has passed every check
 decided-none : (quiet : Bool) (o : Option Refusal) (l : Label) (n : ℕ) → Real o → decided quiet o l n .number ≡ 0 → o ≡ none
@@ -166,6 +162,7 @@ module _ (f : Forwarding) (p : Passed f) where
         leaving = leaving-sound;
         table = table-sound;
         label = passed-label (f .arriving) (f .area) 9 oct arriving-sound (p .arrived);
+        basic = basic-passes f p oct arriving-sound leaving-sound;
         arrives = arrival-held (f .arriving) (f .area) 9 arriving-sound (p .arrived) .within;
         stays = λ s. sym (label-stays x formed domain leaving-sound s);
         from = λ h. over h .from;
@@ -233,9 +230,15 @@ module _ (f : Forwarding) (l m : Label) (s : List ℕ) (h : Forwards f l m s) wh
   pub option-is : leavingOption y ≡ some s
   option-is = sym (leaving-spelled y) ∙ ap (spelledOf (f .leaving .spellings)) (crosses .label) ∙ one-spelling .spells (f .leaving .spellings) m s m-formed .1 (h .spelled)
 
+  reaches : firstOf (reachChecks f) ≡ none
+  reaches =
+      let u = passes-unbarred (f .arriving) (f .leaving) (f .area) (r .sound .0) (r .sound .1) (r .sound .2) (h .arriving) (h .basic) in
+      none-first (reachChecks f)
+      (r .walk, (r .required, (r .option, (u .bad, (u .missing, (u .range, (passes-sent f (h .leaving) (h .basic), (label-within (f .arriving) (f .area) 9 l r (h .arrives), tt))))))))
+
   pub forwards-passes : firstOf (forwardChecks f) ≡ none
   forwards-passes =
-      forward-fits f (sound-area (f .area) (h .area)) (h .room) tested (label-arrives (f .arriving) (f .area) 9 l r (h .arrives)) false (crosses .none)
+      forward-fits f (sound-area (f .area) (h .area)) (h .room) tested reaches false (crosses .none)
       (rw (option-is, le-ltb 40 (length s + length (keptOf (f .area))) (h .fits)))
 
   pub forwards-done : (out : List ℕ)
@@ -279,21 +282,23 @@ delivered-conditions d oct e =
     let n = first-none (deliverChecks d) e in
     let t : (portSound (d .port) && hostSound (d .host) (d .port .domain)) ≡ true = not-false-yes _ (when-none _ (silent 2) (n .1 .0)) in
     let p = and-left (portSound (d .port)) _ t in
-    let a : firstOf (arrivalChecks (d .port) (d .area) 10) ≡ none = none-first (arrivalChecks (d .port) (d .area) 10) (n .1 .1 .0, (n .1 .1 .1 .0, (n .1 .1 .1 .1 .0, (n .1 .1 .1 .1 .1 .0, tt)))) in
+    let a : firstOf (arrivalChecks (d .port) (d .area) 10) ≡ none = none-first (arrivalChecks (d .port) (d .area) 10) (n .1 .1 .0, (n .1 .1 .1 .0, (n .1 .1 .1 .1 .0, (n .1 .1 .1 .1 .1 .0, (n .1 .1 .1 .1 .1 .1 .0, (n .1 .1 .1 .1 .1 .1 .1 .0, (n .1 .1 .1 .1 .1 .1 .1 .1 .0, tt))))))) in
     record {
       area = area-sound (d .area) (when-none _ (silent 1) (n .0));
       port = p;
       host = and-right (portSound (d .port)) _ t;
       label = passed-label (d .port) (d .area) 10 oct p a;
+      basic = basic-arrives (d .port) (d .area) 10 oct p a;
       arrives = arrival-held (d .port) (d .area) 10 p a .within;
-      held = not-false-yes _ (when-none _ (barred 15 10) (n .1 .1 .1 .1 .1 .1 .0));
+      held = not-false-yes _ (when-none _ (barred 15 10) (n .1 .1 .1 .1 .1 .1 .1 .1 .1 .0));
     }
 
 pub conditions-delivered : (d : Delivery) (l : Label) → Delivers d l → deliverOf d ≡ decision.done l 0
 conditions-delivered d l h =
     let r = label-reads (d .port) (d .area) l (h .label) in
+    let u = arrives-unbarred (d .port) (d .area) 10 (r .sound .0) (r .sound .1) (r .sound .2) (h .port) (h .basic) in
     sym
-    (deliver-done d (sound-area (d .area) (h .area)) (h .port) (h .host) (label-arrives (d .port) (d .area) 10 l r (h .arrives)) (rw (r .label) (h .held)))
+    (deliver-done d (sound-area (d .area) (h .area)) (h .port) (h .host) (label-arrives (d .port) (d .area) 10 l r u (h .arrives)) (rw (r .label) (h .held)))
     ∙ ap (λ (z : Label). decision.done z 0) (r .label)
 
 pub demand2 : Demand2

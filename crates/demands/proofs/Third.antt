@@ -21,18 +21,18 @@ use Rattle.reading.proofs.Theorems.{reads}
 use Rattle.spelling.specs.Spelling.{lacking, lengthOf, spellingAnswer, spellingOut}
 use Rattle.spelling.proofs.Theorems.{spelling-alone}
 use Rattle.area.specs.declared.Place.the-variants.{At}
-use Rattle.area.specs.declared.Walk.the-variants.{Sound}
-use Rattle.area.specs.Area.{walkOf}
 use Rattle.leaving.specs.Kept.{keptOf, roundUp, leavingOf}
 use Rattle.port.specs.declared.Port.{Port}
 use Rattle.port.specs.declared.Host.{Host}
 use Rattle.arrival.specs.declared.Decision.{Decision}
-use Rattle.arrival.specs.Checks.{Refusal, barred, when, firstOf, optionAt, arrivingLabel, rangeCheck, Delivery, deliverySizes, deliveryRecords, hostCheck}
+use Rattle.arrival.specs.Checks.{Refusal, barred, when, firstOf, badBasicCheck, arrivingBasic, missingBasicBy, missingBasicCheck, basicPasses, basicRangeCheck, arrivingLabel, rangeCheck, Delivery, deliverySizes, deliveryRecords, hostCheck}
 use Rattle.arrival.specs.Decision.{silenced, decided, deliverChecks, deliverOf}
-use Rattle.gateway.specs.Crossing.{Forwarding, sizes, records, Crossing, crossing, numberCheck, leavingCheck, spellingCheck, leavingLabel, leavingOption}
+use Rattle.gateway.specs.Crossing.{Forwarding, sizes, records, leavingBasicCheck, Crossing, crossing, numberCheck, leavingCheck, spellingCheck, leavingLabel, leavingOption}
 use Rattle.gateway.specs.Forward.{forwardChecks, forwardOf, optionOctets, written, outputOf}
 use Rattle.gateway.proofs.Forwards.{forward-passed}
-use Rattle.demands.specs.Demands.{LabelOf, own, Forwards, Alike, AlikeDelivered, Demand3}
+use Rattle.demands.specs.Demands.{LabelOf, own, Forwards, MeansAt, Alike, AlikeDelivered, Demand3}
+use Rattle.leaving.proofs.Again.{basicFrom}
+use Rattle.demands.proofs.Basic.{basic-kept}
 use Rattle.demands.proofs.Second.{Reads, label-reads, forwarded-passes, demand2}
 
 -- Spelling.
@@ -103,32 +103,45 @@ leaving-usual f out oct u e =
 
 -- Equal decisions.
 
--- what is left of the checks once the label is read: a function of the label, the records and the kept options
-abbrev restOf : Port → Label → Crossing → List ℕ → Option Refusal
-restOf p l x kept =
-    firstOf (when (not (inRange (p .lowest) (p .highest) l)) (barred 14 9) ∷ numberCheck x ∷ leavingCheck x ∷ spellingCheck x kept ∷ [])
+-- what is left of the checks once the label is read: a function of the label, the option 130, the records and the kept options
+abbrev restOf : Port → Port → Option (List ℕ) → Label → Crossing → List ℕ → Option Refusal
+restOf p q o l x kept =
+    firstOf
+    (missingBasicBy o (p .basic .on)
+    ∷ when (not (basicPasses (p .basic .on) (p .basic .receiving) o)) (barred 21 9)
+    ∷ when (not (basicPasses (q .basic .on) (q .basic .sending) o)) (barred 21 9)
+    ∷ when (not (inRange (p .lowest) (p .highest) l)) (barred 14 9)
+    ∷ numberCheck x
+    ∷ leavingCheck x
+    ∷ spellingCheck x kept
+    ∷ [])
 
-abbrev decisionOf : Bool → Port → Label → Crossing → List ℕ → Decision
-decisionOf quiet p l x kept =
-    decided quiet (restOf p l x kept) (leavingLabel x) (roundUp (lengthOf (leavingOption x) + length kept))
+abbrev decisionOf : Bool → Port → Port → Option (List ℕ) → Label → Crossing → List ℕ → Decision
+decisionOf quiet p q o l x kept =
+    decided quiet (restOf p q o l x kept) (leavingLabel x) (roundUp (lengthOf (leavingOption x) + length kept))
 
-module _ (f : Forwarding) (l : Label) (s : sizes f ≡ none) (r : records f ≡ none)
-    (o : (at : ℕ) × (walkOf (f .area) ≡ Sound (At at)) × Means (optionAt at (f .area)) l) (d : l .domain ≡ f .arriving .domain) where
+module _ (f : Forwarding) (l : Label) (s : sizes f ≡ none) (r : records f ≡ none) (o : MeansAt (f .arriving) (f .area) l)
+    (good : badBasicCheck (f .arriving) (f .area) ≡ none) (d : l .domain ≡ f .arriving .domain) where
   read : Reads (f .arriving) (f .area) l
-  read = label-reads (f .arriving) (f .area) l (own (o .0) (o .1) (o .2) d)
+  read = label-reads (f .arriving) (f .area) l (own (o .0) (o .1) (o .2) (o .3) d)
 
   pub label-is : arrivingLabel (f .arriving) (f .area) ≡ l
   label-is = read .label
 
-  pub checks-are : firstOf (forwardChecks f) ≡ restOf (f .arriving) l (crossing f) (keptOf (f .area))
-  unfolding rangeCheck
+  pub checks-are : firstOf (forwardChecks f) ≡ restOf (f .arriving) (f .leaving) (arrivingBasic (f .arriving) (f .area)) l (crossing f) (keptOf (f .area))
+  unfolding missingBasicCheck basicRangeCheck leavingBasicCheck rangeCheck
   checks-are =
-      rw (s, r, read .walk, read .required, read .option)
-      (ap (λ (z : Label). firstOf (when (not (inRange (f .arriving .lowest) (f .arriving .highest) z)) (barred 14 9) ∷ numberCheck (crossing f) ∷ leavingCheck (crossing f) ∷ spellingCheck (crossing f) (keptOf (f .area)) ∷ [])) (read .label))
+      rw (s, r, read .walk, read .required, read .option, good)
+      (ap (λ (z : Label). restOf (f .arriving) (f .leaving) (arrivingBasic (f .arriving) (f .area)) z (crossing f) (keptOf (f .area))) (read .label))
 
-  pub decision-is : forwardOf f ≡ decisionOf (silenced (f .facts)) (f .arriving) l (crossing f) (keptOf (f .area))
+  pub decision-is : forwardOf f ≡ decisionOf (silenced (f .facts)) (f .arriving) (f .leaving) (arrivingBasic (f .arriving) (f .area)) l (crossing f) (keptOf (f .area))
   unfolding forwardOf
   decision-is = rw checks-are
+
+-- kept options alike have the option 130 alike
+basic-alike : (p q : Port) (a b : List ℕ) (l m : Label) → MeansAt p a l → MeansAt q b m → keptOf a ≡ keptOf b → arrivingBasic p a ≡ arrivingBasic q b
+basic-alike p q a b l m x y k =
+    basic-kept p a (At (x .0)) (x .1) (x .2) ∙ ap (λ (ks : List ℕ). basicFrom ks 0) k ∙ sym (basic-kept q b (At (y .0)) (y .1) (y .2))
 
 module _ (f g : Forwarding) (l : Label) (a : Alike f g l) where
   domain-g : l .domain ≡ g .arriving .domain
@@ -137,14 +150,15 @@ module _ (f g : Forwarding) (l : Label) (a : Alike f g l) where
   crossing-alike : crossing f ≡ crossing g
   crossing-alike =
       let e : arrivingLabel (f .arriving) (f .area) ≡ arrivingLabel (g .arriving) (g .area) =
-      label-is f l (a .sized .0) (a .sound .0) (a .first) (a .domain) ∙ sym (label-is g l (a .sized .1) (a .sound .1) (a .second) domain-g) in
+      label-is f l (a .sized .0) (a .sound .0) (a .first) (a .good .0) (a .domain) ∙ sym (label-is g l (a .sized .1) (a .sound .1) (a .second) (a .good .1) domain-g) in
       λ i. record { label = e i; domain = a .arriving i .domain; leaving = a .leaving i; table = a .table i; levels = a .levels i }
 
   pub decided-alike : forwardOf f ≡ forwardOf g
   decided-alike =
-      decision-is f l (a .sized .0) (a .sound .0) (a .first) (a .domain)
-      ∙ (λ i. decisionOf (silenced (a .facts i)) (a .arriving i) l (crossing-alike i) (a .kept i))
-      ∙ sym (decision-is g l (a .sized .1) (a .sound .1) (a .second) domain-g)
+      let o = basic-alike (f .arriving) (g .arriving) (f .area) (g .area) l l (a .first) (a .second) (a .kept) in
+      decision-is f l (a .sized .0) (a .sound .0) (a .first) (a .good .0) (a .domain)
+      ∙ (λ i. decisionOf (silenced (a .facts i)) (a .arriving i) (a .leaving i) (o i) l (crossing-alike i) (a .kept i))
+      ∙ sym (decision-is g l (a .sized .1) (a .sound .1) (a .second) (a .good .1) domain-g)
 
   -- the first 40 octets of a leaving area, whatever the output held
   first-40 : (s kept out : List ℕ) → length s + length kept ≤ 40 → take 40 (leavingOf s kept out) ≡ s ++ (kept ++ replicate (40 - (length s + length kept)) 0)
@@ -173,23 +187,30 @@ module _ (f g : Forwarding) (l : Label) (a : Alike f g l) where
       ∙ sym (ap (take 40) (output-is g s out′ ng og))
 
 -- the same of deliveries
-abbrev heldOf : Port → Host → Label → Option Refusal
-heldOf p h l =
-    firstOf (when (not (inRange (p .lowest) (p .highest) l)) (barred 14 10) ∷ when (not (inRange (h .lowest) (h .highest) l)) (barred 15 10) ∷ [])
+abbrev heldOf : Port → Host → Option (List ℕ) → Label → Option Refusal
+heldOf p h o l =
+    firstOf
+    (missingBasicBy o (p .basic .on)
+    ∷ when (not (basicPasses (p .basic .on) (p .basic .receiving) o)) (barred 21 10)
+    ∷ when (not (inRange (p .lowest) (p .highest) l)) (barred 14 10)
+    ∷ when (not (inRange (h .lowest) (h .highest) l)) (barred 15 10)
+    ∷ [])
 
 delivery-is : (d : Delivery) (l : Label) → deliverySizes d ≡ none → deliveryRecords d ≡ none
-    → (at : ℕ) × (walkOf (d .area) ≡ Sound (At at)) × Means (optionAt at (d .area)) l → l .domain ≡ d .port .domain
-    → deliverOf d ≡ decided (silenced (d .facts)) (heldOf (d .port) (d .host) l) l 0
-unfolding rangeCheck hostCheck deliverOf
-delivery-is d l s r o e =
-    let q = label-reads (d .port) (d .area) l (own (o .0) (o .1) (o .2) e) in
-    rw (s, r, q .walk, q .required, q .option) (ap (λ (z : Label). decided (silenced (d .facts)) (heldOf (d .port) (d .host) z) z 0) (q .label))
+    → MeansAt (d .port) (d .area) l → badBasicCheck (d .port) (d .area) ≡ none → l .domain ≡ d .port .domain
+    → deliverOf d ≡ decided (silenced (d .facts)) (heldOf (d .port) (d .host) (arrivingBasic (d .port) (d .area)) l) l 0
+unfolding missingBasicCheck basicRangeCheck rangeCheck hostCheck deliverOf
+delivery-is d l s r o good e =
+    let q = label-reads (d .port) (d .area) l (own (o .0) (o .1) (o .2) (o .3) e) in
+    rw (s, r, q .walk, q .required, q .option, good)
+    (ap (λ (z : Label). decided (silenced (d .facts)) (heldOf (d .port) (d .host) (arrivingBasic (d .port) (d .area)) z) z 0) (q .label))
 
 pub delivered-alike : (d e : Delivery) (l : Label) → AlikeDelivered d e l → deliverOf d ≡ deliverOf e
 delivered-alike d e l a =
-    delivery-is d l (a .sized .0) (a .sound .0) (a .first) (a .domain)
-    ∙ (λ i. decided (silenced (a .facts i)) (heldOf (a .port i) (a .host i) l) l 0)
-    ∙ sym (delivery-is e l (a .sized .1) (a .sound .1) (a .second) (a .domain ∙ ap (λ (p : Port). p .domain) (a .port)))
+    let o = basic-alike (d .port) (e .port) (d .area) (e .area) l l (a .first) (a .second) (a .kept) in
+    delivery-is d l (a .sized .0) (a .sound .0) (a .first) (a .good .0) (a .domain)
+    ∙ (λ i. decided (silenced (a .facts i)) (heldOf (a .port i) (a .host i) (o i) l) l 0)
+    ∙ sym (delivery-is e l (a .sized .1) (a .sound .1) (a .second) (a .good .1) (a .domain ∙ ap (λ (p : Port). p .domain) (a .port)))
 
 pub demand3 : Demand3
 demand3 =

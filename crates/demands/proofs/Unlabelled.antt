@@ -8,22 +8,27 @@ use lib.ListN.{length}
 use Rattle.label.specs.Label.{inRange}
 use Rattle.spelling.specs.Spelling.{lengthOf}
 use Rattle.area.specs.declared.Place.the-variants.{Nowhere}
+use Rattle.area.specs.declared.Place.{Place}
 use Rattle.area.specs.declared.Walk.the-variants.{Sound}
-use Rattle.area.specs.Area.{walkOf}
+use Rattle.leaving.proofs.Again.{basicFrom}
 use Rattle.leaving.specs.Kept.{keptOf, roundUp}
 use Rattle.port.specs.declared.Port.{Port}
 use Rattle.port.specs.declared.Host.{Host}
 use Rattle.arrival.specs.declared.Decision.{Decision}
-use Rattle.arrival.specs.Checks.{Refusal, barred, when, firstOf, walkCheck, requiredBy, requiredCheck, optionCheck, arrivingLabel, rangeCheck, Delivery, deliverySizes, deliveryRecords, hostCheck}
+use Rattle.arrival.specs.Checks.{Refusal, barred, when, firstOf, walkAt, walkCheck, requiredBy, requiredCheck, optionCheck, badBasicCheck, arrivingBasic, missingBasicBy, missingBasicCheck, basicPasses, basicRangeCheck, arrivingLabel, rangeCheck, Delivery, deliverySizes, deliveryRecords, hostCheck}
 use Rattle.arrival.specs.Decision.{silenced, decided, deliverOf}
-use Rattle.gateway.specs.Crossing.{Forwarding, Crossing, sizes, records, crossing, numberCheck, leavingCheck, spellingCheck, leavingLabel, leavingOption}
+use Rattle.gateway.specs.Crossing.{Forwarding, Crossing, sizes, records, leavingBasicCheck, crossing, numberCheck, leavingCheck, spellingCheck, leavingLabel, leavingOption}
 use Rattle.gateway.specs.Forward.{forwardOf}
 use Rattle.demands.specs.Guards.{Unlabelled, UnlabelledDelivered, leavingArea}
+use Rattle.demands.proofs.Basic.{basic-kept}
 use Rattle.demands.proofs.Again.{same-some, p, laid, area-is}
 
 -- what an area without an option 134 leaves of checks 3 to 14
-module _ (port : Port) (area : List ℕ) (w : walkOf area ≡ Sound Nowhere) where
-  no-walk : walkCheck area ≡ none
+module _ (port : Port) (area : List ℕ) (u : (b : Place) × (walkAt port area ≡ Sound Nowhere b)) where
+  w : walkAt port area ≡ Sound Nowhere (u .0)
+  w = u .1
+
+  no-walk : walkCheck port area ≡ none
   unfolding walkCheck
   no-walk = rw w
 
@@ -47,28 +52,37 @@ module _ (port : Port) (area : List ℕ) (w : walkOf area ≡ Sound Nowhere) whe
 abbrev bareCrossing : Forwarding → Crossing
 bareCrossing f = record { label = f .arriving .assigned; domain = f .arriving .domain; leaving = f .leaving; table = f .table; levels = f .levels }
 
-abbrev bareChecks : Port → Option Refusal → Crossing → List ℕ → List (Option Refusal)
-bareChecks p r x kept =
+abbrev bareChecks : Port → Port → Option (List ℕ) → Option Refusal → Crossing → List ℕ → List (Option Refusal)
+bareChecks p q o r x kept =
     none
     ∷ r
     ∷ none
     ∷ requiredBy Nowhere p
     ∷ none
+    ∷ none
+    ∷ missingBasicBy o (p .basic .on)
+    ∷ when (not (basicPasses (p .basic .on) (p .basic .receiving) o)) (barred 21 9)
+    ∷ when (not (basicPasses (q .basic .on) (q .basic .sending) o)) (barred 21 9)
     ∷ when (not (inRange (p .lowest) (p .highest) (p .assigned))) (barred 14 9)
     ∷ numberCheck x
     ∷ leavingCheck x
     ∷ spellingCheck x kept
     ∷ []
 
-abbrev bareDecision : Bool → Port → Option Refusal → Crossing → List ℕ → Decision
-bareDecision quiet p r x kept = decided quiet (firstOf (bareChecks p r x kept)) (leavingLabel x) (roundUp (lengthOf (leavingOption x) + length kept))
+abbrev bareDecision : Bool → Port → Port → Option (List ℕ) → Option Refusal → Crossing → List ℕ → Decision
+bareDecision quiet p q o r x kept = decided quiet (firstOf (bareChecks p q o r x kept)) (leavingLabel x) (roundUp (lengthOf (leavingOption x) + length kept))
 
-module _ (f : Forwarding) (s : sizes f ≡ none) (w : walkOf (f .area) ≡ Sound Nowhere) where
+-- kept options alike have the option 130 alike
+bare-basic : (p q : Port) (a b : List ℕ) → (x : Place) × (walkAt p a ≡ Sound Nowhere x) → (x : Place) × (walkAt q b ≡ Sound Nowhere x) → keptOf a ≡ keptOf b
+    → arrivingBasic p a ≡ arrivingBasic q b
+bare-basic p q a b x y k = basic-kept p a Nowhere (x .0) (x .1) ∙ ap (λ (ks : List ℕ). basicFrom ks 0) k ∙ sym (basic-kept q b Nowhere (y .0) (y .1))
+
+module _ (f : Forwarding) (s : sizes f ≡ none) (w : (b : Place) × (walkAt (f .arriving) (f .area) ≡ Sound Nowhere b)) (good : badBasicCheck (f .arriving) (f .area) ≡ none) where
   crossing-is : crossing f ≡ bareCrossing f
   crossing-is i = record { label = given (f .arriving) (f .area) w i; domain = f .arriving .domain; leaving = f .leaving; table = f .table; levels = f .levels }
 
-  bare-is : forwardOf f ≡ bareDecision (silenced (f .facts)) (f .arriving) (records f) (bareCrossing f) (keptOf (f .area))
-  unfolding forwardOf
+  bare-is : forwardOf f ≡ bareDecision (silenced (f .facts)) (f .arriving) (f .leaving) (arrivingBasic (f .arriving) (f .area)) (records f) (bareCrossing f) (keptOf (f .area))
+  unfolding forwardOf missingBasicCheck basicRangeCheck leavingBasicCheck
   bare-is i =
       decided (silenced (f .facts))
       (firstOf
@@ -77,6 +91,10 @@ module _ (f : Forwarding) (s : sizes f ≡ none) (w : walkOf (f .area) ≡ Sound
       ∷ no-walk (f .arriving) (f .area) w i
       ∷ no-label (f .arriving) (f .area) w i
       ∷ no-option (f .arriving) (f .area) w i
+      ∷ good i
+      ∷ missingBasicCheck (f .arriving) (f .area)
+      ∷ basicRangeCheck (f .arriving) (f .area) 9
+      ∷ leavingBasicCheck f
       ∷ held (f .arriving) (f .area) w 9 i
       ∷ numberCheck (crossing-is i)
       ∷ leavingCheck (crossing-is i)
@@ -95,20 +113,21 @@ module _ (f g : Forwarding) (u : Unlabelled f g) where
 
   pub unlabelled-decided : forwardOf f ≡ forwardOf g
   unlabelled-decided =
-      bare-is f (u .sized .0) (u .first)
-      ∙ (λ i. bareDecision (silenced (u .facts i)) (u .arriving i) (records-alike i) (bare-alike i) (u .kept i))
-      ∙ sym (bare-is g (u .sized .1) (u .second))
+      let o = bare-basic (f .arriving) (g .arriving) (f .area) (g .area) (u .first) (u .second) (u .kept) in
+      bare-is f (u .sized .0) (u .first) (u .good .0)
+      ∙ (λ i. bareDecision (silenced (u .facts i)) (u .arriving i) (u .leaving i) (o i) (records-alike i) (bare-alike i) (u .kept i))
+      ∙ sym (bare-is g (u .sized .1) (u .second) (u .good .1))
 
   pub unlabelled-written : (out out′ : List ℕ) → forwardOf f .number ≡ 0 → leavingArea f out ≡ leavingArea g out′
   unlabelled-written out out′ e =
       let e′ : forwardOf g .number ≡ 0 = ap (λ (d : Decision). d .number) (sym unlabelled-decided) ∙ e in
-      let x : crossing f ≡ crossing g = crossing-is f (u .sized .0) (u .first) ∙ bare-alike ∙ sym (crossing-is g (u .sized .1) (u .second)) in
+      let x : crossing f ≡ crossing g = crossing-is f (u .sized .0) (u .first) (u .good .0) ∙ bare-alike ∙ sym (crossing-is g (u .sized .1) (u .second) (u .good .1)) in
       let t : p f e .fits .octets ≡ p g e′ .fits .octets = same-some (sym (p f e .fits .spelled) ∙ ap leavingOption x ∙ p g e′ .fits .spelled) in
       area-is f e out ∙ (λ i. laid (t i) (u .kept i)) ∙ sym (area-is g e′ out′)
 
 -- a delivery, by its records
-abbrev bareDelivery : Bool → Port → Host → Option Refusal → Decision
-bareDelivery quiet p h r =
+abbrev bareDelivery : Bool → Port → Host → Option (List ℕ) → Option Refusal → Decision
+bareDelivery quiet p h o r =
     decided quiet
     (firstOf
     (none
@@ -116,14 +135,18 @@ bareDelivery quiet p h r =
     ∷ none
     ∷ requiredBy Nowhere p
     ∷ none
+    ∷ none
+    ∷ missingBasicBy o (p .basic .on)
+    ∷ when (not (basicPasses (p .basic .on) (p .basic .receiving) o)) (barred 21 10)
     ∷ when (not (inRange (p .lowest) (p .highest) (p .assigned))) (barred 14 10)
     ∷ when (not (inRange (h .lowest) (h .highest) (p .assigned))) (barred 15 10)
     ∷ []))
     (p .assigned) 0
 
-delivery-is : (d : Delivery) → deliverySizes d ≡ none → walkOf (d .area) ≡ Sound Nowhere → deliverOf d ≡ bareDelivery (silenced (d .facts)) (d .port) (d .host) (deliveryRecords d)
-unfolding deliverOf hostCheck
-delivery-is d s w i =
+delivery-is : (d : Delivery) → deliverySizes d ≡ none → (b : Place) × (walkAt (d .port) (d .area) ≡ Sound Nowhere b) → badBasicCheck (d .port) (d .area) ≡ none
+    → deliverOf d ≡ bareDelivery (silenced (d .facts)) (d .port) (d .host) (arrivingBasic (d .port) (d .area)) (deliveryRecords d)
+unfolding deliverOf missingBasicCheck basicRangeCheck hostCheck
+delivery-is d s w good i =
     decided (silenced (d .facts))
     (firstOf
     (s i
@@ -131,6 +154,9 @@ delivery-is d s w i =
     ∷ no-walk (d .port) (d .area) w i
     ∷ no-label (d .port) (d .area) w i
     ∷ no-option (d .port) (d .area) w i
+    ∷ good i
+    ∷ missingBasicCheck (d .port) (d .area)
+    ∷ basicRangeCheck (d .port) (d .area) 10
     ∷ held (d .port) (d .area) w 10 i
     ∷ when (not (inRange (d .host .lowest) (d .host .highest) (given (d .port) (d .area) w i))) (barred 15 10)
     ∷ []))
@@ -140,4 +166,7 @@ pub unlabelled-delivered : (d e : Delivery) → UnlabelledDelivered d e → deli
 unfolding deliveryRecords
 unlabelled-delivered d e u =
     let r : deliveryRecords d ≡ deliveryRecords e = rw (u .port, u .host) in
-    delivery-is d (u .sized .0) (u .first) ∙ (λ i. bareDelivery (silenced (u .facts i)) (u .port i) (u .host i) (r i)) ∙ sym (delivery-is e (u .sized .1) (u .second))
+    let o = bare-basic (d .port) (e .port) (d .area) (e .area) (u .first) (u .second) (u .kept) in
+    delivery-is d (u .sized .0) (u .first) (u .good .0)
+    ∙ (λ i. bareDelivery (silenced (u .facts i)) (u .port i) (u .host i) (o i) (r i))
+    ∙ sym (delivery-is e (u .sized .1) (u .second) (u .good .1))

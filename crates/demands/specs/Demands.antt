@@ -12,20 +12,23 @@ use Rattle.label.specs.declared.Label.{Label}
 use Rattle.label.specs.Label.{wellFormed, inRange}
 use Rattle.option.specs.Option.{Octets, Means}
 use Rattle.option.specs.declared.Spellings.{Spellings}
-use Rattle.option.specs.Permitted.{usual, Permitted}
+use Rattle.option.specs.Permitted as spellings
+use Rattle.option.specs.Permitted.{usual}
 use Rattle.option.specs.Spelling.{padded}
 use Rattle.option.specs.Theorems.{Spells, Shortest}
 use Rattle.reading.specs.Reading.{found, readingOf}
 use Rattle.spelling.specs.Spelling.{spellingAnswer, spellingOut}
+use Rattle.area.specs.declared.Place.{Place}
 use Rattle.area.specs.declared.Place.the-variants.{Nowhere, At}
 use Rattle.area.specs.declared.Walk.the-variants.{Sound}
-use Rattle.area.specs.Area.{walkOf}
+use Rattle.basic.specs.Option.{BasicMeans}
+use Rattle.basic.specs.Theorems.{Permitted}
 use Rattle.leaving.specs.Kept.{keptOf, roundUp, leavingOf}
 use Rattle.port.specs.declared.Port.{Port}
 use Rattle.port.specs.Port.{portSound, hostSound}
 use Rattle.table.specs.Table.{tableSound}
 use Rattle.renumber.specs.Theorems.{Far}
-use Rattle.arrival.specs.Checks.{Refusal, NoneApplies, optionAt, Delivery, deliverySizes, deliveryRecords}
+use Rattle.arrival.specs.Checks.{Refusal, NoneApplies, walkAt, optionAt, badBasicCheck, Delivery, deliverySizes, deliveryRecords}
 use Rattle.arrival.specs.Decision.{silenced, refused, done, deliverChecks, deliverOf}
 use Rattle.gateway.specs.Crossing.{Forwarding, sizes, records}
 use Rattle.gateway.specs.Forward.{forwardChecks, forwardOf, outputOf}
@@ -58,8 +61,31 @@ pub record AreaSound (area : List ℕ) : Type 0 where
 -- its options are sound, and this is its label: its walk refuses nothing and meets a valid option 134 that means the label in the port's domain,
 -- or meets none where none is required and the label is the port's
 pub data LabelOf (p : Port) (area : List ℕ) (l : Label) : Type 0 where
-  own : (at : ℕ) → walkOf area ≡ Sound (At at) → Means (optionAt at area) l → l .domain ≡ p .domain → LabelOf p area l
-  assigned : walkOf area ≡ Sound Nowhere → p .required ≡ false → p .assigned ≡ l → LabelOf p area l
+  own : (at : ℕ) (basic : Place) → walkAt p area ≡ Sound (At at) basic → Means (optionAt at area) l → l .domain ≡ p .domain → LabelOf p area l
+  assigned : (basic : Place) → walkAt p area ≡ Sound Nowhere basic → p .required ≡ false → p .assigned ≡ l → LabelOf p area l
+
+-- Wish 3, "the 130 option passes too". At the port where it arrives: the port has it switched off, so that the walk above meets none; or on, and the
+-- walk meets a valid option 130 that means a level and flags which the port permits that way
+pub data BasicArrives (p : Port) (area : List ℕ) : Type 0 where
+  unread : p .basic .on ≡ false → BasicArrives p area
+  read : (label : Place) (at v f : ℕ)
+      → p .basic .on ≡ true
+      → walkAt p area ≡ Sound label (At at)
+      → BasicMeans (optionAt at area) v f
+      → Permitted (p .basic .receiving) v f
+      → BasicArrives p area
+
+-- at both ports of a forwarding: both have it switched off; or both on, and both permit what the option means
+pub data BasicPasses (p q : Port) (area : List ℕ) : Type 0 where
+  neither : p .basic .on ≡ false → q .basic .on ≡ false → BasicPasses p q area
+  both : (label : Place) (at v f : ℕ)
+      → p .basic .on ≡ true
+      → q .basic .on ≡ true
+      → walkAt p area ≡ Sound label (At at)
+      → BasicMeans (optionAt at area) v f
+      → Permitted (p .basic .receiving) v f
+      → Permitted (q .basic .sending) v f
+      → BasicPasses p q area
 
 -- a datagram that arrives with label l leaves with label m, spelled as s
 pub record Forwards (f : Forwarding) (l m : Label) (s : List ℕ) : Type 0 where
@@ -69,6 +95,7 @@ pub record Forwards (f : Forwarding) (l m : Label) (s : List ℕ) : Type 0 where
   pub leaving : portSound (f .leaving) ≡ true
   pub table : (f .arriving .domain ≡ f .leaving .domain → ⊥) → tableSound (f .table) (f .levels) ≡ true
   pub label : LabelOf (f .arriving) (f .area) l
+  pub basic : BasicPasses (f .arriving) (f .leaving) (f .area)
   pub arrives : inRange (f .arriving .lowest) (f .arriving .highest) l ≡ true
   pub stays : f .arriving .domain ≡ f .leaving .domain → l ≡ m
   pub from : (f .arriving .domain ≡ f .leaving .domain → ⊥) → f .table .from ≡ f .arriving .domain
@@ -85,6 +112,7 @@ pub record Delivers (d : Delivery) (l : Label) : Type 0 where
   pub port : portSound (d .port) ≡ true
   pub host : hostSound (d .host) (d .port .domain) ≡ true
   pub label : LabelOf (d .port) (d .area) l
+  pub basic : BasicArrives (d .port) (d .area)
   pub arrives : inRange (d .port .lowest) (d .port .highest) l ≡ true
   pub held : inRange (d .host .lowest) (d .host .highest) l ≡ true
 
@@ -104,8 +132,12 @@ pub record Demand2 : Type 0 where
 -- Demand 3: "One label, one spelling." As document 02, Wish 5, has it: "shortest among the permitted ones, ties in the order just listed;
 -- refused a spelling exactly if no permitted one means the label; equal octets exactly for equal labels under the same set".
 
--- two forwardings of areas past checks 1 to 5 whose options 134 are valid and mean one label of the arriving port's domain, with kept options in
--- order, records and facts alike; the outputs may differ
+-- an area past 3 to 5 at the port whose option 134 is valid and means the label
+abbrev pub MeansAt : Port → List ℕ → Label → Type 0
+MeansAt p area l = (at : ℕ) × (basic : Place) × (walkAt p area ≡ Sound (At at) basic) × Means (optionAt at area) l
+
+-- two forwardings of areas past checks 1 to 5 and 19 (Wish 3) whose options 134 are valid and mean one label of the arriving port's domain, with kept
+-- options in order, records and facts alike; the outputs may differ
 pub record Alike (f g : Forwarding) (l : Label) : Type 0 where
   pub arriving : f .arriving ≡ g .arriving
   pub leaving : f .leaving ≡ g .leaving
@@ -115,24 +147,27 @@ pub record Alike (f g : Forwarding) (l : Label) : Type 0 where
   pub kept : keptOf (f .area) ≡ keptOf (g .area)
   pub sized : (sizes f ≡ none) × (sizes g ≡ none)
   pub sound : (records f ≡ none) × (records g ≡ none)
-  pub first : (at : ℕ) × (walkOf (f .area) ≡ Sound (At at)) × Means (optionAt at (f .area)) l
-  pub second : (at : ℕ) × (walkOf (g .area) ≡ Sound (At at)) × Means (optionAt at (g .area)) l
+  pub first : MeansAt (f .arriving) (f .area) l
+  pub second : MeansAt (g .arriving) (g .area) l
+  pub good : (badBasicCheck (f .arriving) (f .area) ≡ none) × (badBasicCheck (g .arriving) (g .area) ≡ none)
   pub domain : l .domain ≡ f .arriving .domain
 
 pub record AlikeDelivered (d e : Delivery) (l : Label) : Type 0 where
   pub port : d .port ≡ e .port
   pub host : d .host ≡ e .host
   pub facts : d .facts ≡ e .facts
+  pub kept : keptOf (d .area) ≡ keptOf (e .area)
   pub sized : (deliverySizes d ≡ none) × (deliverySizes e ≡ none)
   pub sound : (deliveryRecords d ≡ none) × (deliveryRecords e ≡ none)
-  pub first : (at : ℕ) × (walkOf (d .area) ≡ Sound (At at)) × Means (optionAt at (d .area)) l
-  pub second : (at : ℕ) × (walkOf (e .area) ≡ Sound (At at)) × Means (optionAt at (e .area)) l
+  pub first : MeansAt (d .port) (d .area) l
+  pub second : MeansAt (e .port) (e .area) l
+  pub good : (badBasicCheck (d .port) (d .area) ≡ none) × (badBasicCheck (e .port) (e .area) ≡ none)
   pub domain : l .domain ≡ d .port .domain
 
 pub record Demand3 : Type 0 where
   -- given at least 40 octets to write in, every well-formed label is refused a spelling exactly when no permitted option means it
   pub refused : (p : Spellings) (l : Label) (out : List ℕ) → wellFormed l ≡ true → 40 ≤ length out
-      → (spellingAnswer p l (length out) .number ≡ 0 → ⊥) ↔ ((o : List ℕ) → Permitted p o l → ⊥)
+      → (spellingAnswer p l (length out) .number ≡ 0 → ⊥) ↔ ((o : List ℕ) → spellings.Permitted p o l → ⊥)
   -- whatever label the box spells, alone or in a leaving area, it writes the shortest permitted option that means it
   pub alone : (p : Spellings) (l : Label) (out : List ℕ) → wellFormed l ≡ true → 40 ≤ length out → spellingAnswer p l (length out) .number ≡ 0
       → (s : List ℕ) × Spells p s l × (spellingAnswer p l (length out) .count ≡ length s) × (take 40 (spellingOut p l out) ≡ padded s)
@@ -159,7 +194,7 @@ pub record Demand3 : Type 0 where
       → spellingAnswer p a (length out) .number ≡ 0
       → spellingAnswer p b (length out′) .number ≡ 0
       → (take 40 (spellingOut p a out) ≡ take 40 (spellingOut p b out′)) ↔ (a ≡ b)
-  -- "Take any two areas past checks 1 to 5 whose options 134 are valid and mean one label .. they are decided alike: the same number, type, code,
+  -- "Take any two areas past checks 1 to 5 [and 19] whose options 134 are valid and mean one label .. they are decided alike: the same number, type, code,
   -- pointer, label and count and, if forwarded, the same first 40 octets of output."
   pub decided : (f g : Forwarding) (l : Label) → Alike f g l → forwardOf f ≡ forwardOf g
   pub written : (f g : Forwarding) (l : Label) (out out′ : List ℕ) → Alike f g l → 40 ≤ length out → 40 ≤ length out′ → forwardOf f .number ≡ 0

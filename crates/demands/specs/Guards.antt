@@ -1,8 +1,9 @@
 -- What document 01 says of every decision beyond the three demands: the count, the leaving area read again, pointers, datagrams without a label, and
 -- the functions asked alone.
 use mathlib.Core.Path.{_≡_}
+use mathlib.Core.Bool.{Bool}
 use mathlib.Core.List.{List}
-use mathlib.Core.Option.{none}
+use mathlib.Core.Option.{Option, none}
 use Prim.Native.Nat.{ℕ, _+_, _%_, _≤_, _<_}
 use lib.ListN.{length, take}
 use Rattle.label.specs.declared.Label.{Label}
@@ -10,13 +11,14 @@ use Rattle.label.specs.Label.{leq}
 use Rattle.option.specs.Option.{Octets}
 use Rattle.option.specs.declared.Spellings.{Spellings}
 use Rattle.option.specs.Theorems.{Spells}
+use Rattle.area.specs.declared.Place.{Place}
 use Rattle.area.specs.declared.Place.the-variants.{Nowhere, At}
 use Rattle.area.specs.declared.Walk.the-variants.{Sound}
 use Rattle.area.specs.Area.{walkOf}
 use Rattle.leaving.specs.Kept.{keptOf}
 use Rattle.port.specs.declared.Port.{Port}
 use Rattle.arrival.specs.declared.Decision.{Decision}
-use Rattle.arrival.specs.Checks.{optionAt, requiredCheck, optionCheck, arrivingLabel, Delivery, deliverySizes}
+use Rattle.arrival.specs.Checks.{walkAt, optionAt, requiredCheck, optionCheck, badBasicCheck, arrivingBasic, arrivingLabel, Delivery, deliverySizes}
 use Rattle.arrival.specs.Decision.{deliverOf}
 use Rattle.gateway.specs.Crossing.{Forwarding, sizes}
 use Rattle.gateway.specs.Forward.{forwardOf, outputOf}
@@ -29,15 +31,17 @@ pub record Counts (n s k : ℕ) : Type 0 where
   pub most : n < s + k + 4
   pub fits : n ≤ 40
 
--- an area that a datagram with this label and these kept options may leave with, in a domain and with permitted spellings: it passes checks 1, 3 to
--- 5 and, at any port of the domain, 6 to 13; its option 134 is the spelling of the label; its label and kept options are these
-pub record Reads (a : List ℕ) (domain : ℕ) (permitted : Spellings) (l : Label) (ks : List ℕ) : Type 0 where
+-- an area that a datagram with this label, this option 130 and these kept options may leave with, toward a port of a domain that reads option 130 or
+-- does not (`on`), with permitted spellings: it passes check 1 and, at any such port, 3 to 13; its option 134 is the spelling of the label; its label,
+-- option 130 and kept options are these
+pub record Reads (a : List ℕ) (on : Bool) (domain : ℕ) (permitted : Spellings) (l : Label) (c : Option (List ℕ)) (ks : List ℕ) : Type 0 where
   pub area : AreaSound a
-  pub walk : walkOf a ≡ Sound (At 0)
+  pub walk : (basic : Place) × (walkOf on a ≡ Sound (At 0) basic)
   pub spelled : Spells permitted (optionAt 0 a) l
-  pub required : (p : Port) → p .domain ≡ domain → requiredCheck p a ≡ none
-  pub option : (p : Port) → p .domain ≡ domain → optionCheck p a ≡ none
-  pub label : (p : Port) → p .domain ≡ domain → arrivingLabel p a ≡ l
+  pub required : (p : Port) → p .basic .on ≡ on → p .domain ≡ domain → requiredCheck p a ≡ none
+  pub option : (p : Port) → p .basic .on ≡ on → p .domain ≡ domain → optionCheck p a ≡ none
+  pub label : (p : Port) → p .basic .on ≡ on → p .domain ≡ domain → arrivingLabel p a ≡ l
+  pub basic : (p : Port) → p .basic .on ≡ on → arrivingBasic p a ≡ c
   pub kept : keptOf a ≡ ks
   pub counted : Counts (length a) (length (optionAt 0 a)) (length ks)
 
@@ -45,7 +49,7 @@ pub record Reads (a : List ℕ) (domain : ℕ) (permitted : Spellings) (l : Labe
 abbrev pub leavingArea : Forwarding → List ℕ → List ℕ
 leavingArea f out = take (forwardOf f .count) (outputOf f out)
 
--- two datagrams without an option 134, with kept options in order, records and facts alike
+-- two datagrams past 3 to 5 and 19 without an option 134, with kept options in order, records and facts alike
 pub record Unlabelled (f g : Forwarding) : Type 0 where
   pub arriving : f .arriving ≡ g .arriving
   pub leaving : f .leaving ≡ g .leaving
@@ -54,16 +58,19 @@ pub record Unlabelled (f g : Forwarding) : Type 0 where
   pub facts : f .facts ≡ g .facts
   pub kept : keptOf (f .area) ≡ keptOf (g .area)
   pub sized : (sizes f ≡ none) × (sizes g ≡ none)
-  pub first : walkOf (f .area) ≡ Sound Nowhere
-  pub second : walkOf (g .area) ≡ Sound Nowhere
+  pub first : (basic : Place) × (walkAt (f .arriving) (f .area) ≡ Sound Nowhere basic)
+  pub second : (basic : Place) × (walkAt (g .arriving) (g .area) ≡ Sound Nowhere basic)
+  pub good : (badBasicCheck (f .arriving) (f .area) ≡ none) × (badBasicCheck (g .arriving) (g .area) ≡ none)
 
 pub record UnlabelledDelivered (d e : Delivery) : Type 0 where
   pub port : d .port ≡ e .port
   pub host : d .host ≡ e .host
   pub facts : d .facts ≡ e .facts
+  pub kept : keptOf (d .area) ≡ keptOf (e .area)
   pub sized : (deliverySizes d ≡ none) × (deliverySizes e ≡ none)
-  pub first : walkOf (d .area) ≡ Sound Nowhere
-  pub second : walkOf (e .area) ≡ Sound Nowhere
+  pub first : (basic : Place) × (walkAt (d .port) (d .area) ≡ Sound Nowhere basic)
+  pub second : (basic : Place) × (walkAt (e .port) (e .area) ≡ Sound Nowhere basic)
+  pub good : (badBasicCheck (d .port) (d .area) ≡ none) × (badBasicCheck (e .port) (e .area) ≡ none)
 
 -- a 12/0 report points into the area; pointers count from the header's start
 pub record PointsInto (area : List ℕ) (d : Decision) : Type 0 where
@@ -73,9 +80,9 @@ pub record PointsInto (area : List ℕ) (d : Decision) : Type 0 where
 pub record Guards : Type 0 where
   pub count : (f : Forwarding) → forwardOf f .number ≡ 0
       → (s : List ℕ) × Spells (f .leaving .spellings) s (forwardOf f .label) × Counts (forwardOf f .count) (length s) (length (keptOf (f .area)))
-  -- the leaving area, read again at a port of the leaving domain
+  -- the leaving area, read again at a port of the leaving domain that reads option 130 as the leaving port does
   pub again : (f : Forwarding) (out : List ℕ) → forwardOf f .number ≡ 0
-      → Reads (leavingArea f out) (f .leaving .domain) (f .leaving .spellings) (forwardOf f .label) (keptOf (f .area))
+      → Reads (leavingArea f out) (f .leaving .basic .on) (f .leaving .domain) (f .leaving .spellings) (forwardOf f .label) (arrivingBasic (f .arriving) (f .area)) (keptOf (f .area))
   -- forwarded again through equal domains with the same permitted spellings, nothing changes
   pub same : (f g : Forwarding) (out out′ : List ℕ)
       → forwardOf f .number ≡ 0

@@ -1,5 +1,5 @@
--- Document 01, "The order of checks, and each number": its table, line by line (number, when, type, code, pointer), and the order in which the numbers
--- are tested. Pointers are said by the octet that is blamed.
+-- Document 01, "The order of checks, and each number", with the lines that document 02 adds: its table, line by line (number, when, type, code,
+-- pointer), and the order in which the numbers are tested. Pointers are said by the octet that is blamed.
 use mathlib.Core.Path.{_≡_}
 use mathlib.Core.Bool.{Bool, true, false, not, cond, _&&_, _||_}
 use mathlib.Core.List.{List, [], _∷_, _++_}
@@ -19,12 +19,13 @@ use Rattle.area.specs.declared.Place.{Place}
 use Rattle.area.specs.declared.Place.the-variants.{Nowhere, At}
 use Rattle.area.specs.declared.Walk.the-variants.{Sound}
 use Rattle.area.specs.Area.{Met, metOf, walkOf}
+use Rattle.basic.specs.Option.{basicValid}
 use Rattle.leaving.specs.Kept.{keptOf}
 use Rattle.port.specs.declared.Port.{Port}
 use Rattle.port.specs.Port.{portSound, hostSound}
 use Rattle.table.specs.Table.{tableSound}
 use Rattle.arrival.specs.declared.Decision.{Decision}
-use Rattle.arrival.specs.Checks.{Refusal, badArea, placeIn, optionAt, arrivingLabel, Delivery}
+use Rattle.arrival.specs.Checks.{Refusal, badArea, walkAt, placeIn, basicIn, optionAt, arrivingBasic, basicPasses, arrivingLabel, Delivery}
 use Rattle.arrival.specs.Decision.{silenced, refused, deliverOf}
 use Rattle.gateway.specs.Crossing.{Forwarding, sameDomain, crossing, stays, hasNumbers, leavingLevel, leavingRuns, leavingOption, noRoom}
 use Rattle.gateway.specs.Forward.{forwardOf}
@@ -68,18 +69,26 @@ firstBad o p = p + (10 + badPlace (tagOf o) (categoriesIn o))
 abbrev pub afterTag : List ℕ → ℕ → ℕ
 afterTag o p = p + (tagLengthOf o + 6)
 
--- 3, 4 and 5, of an option that the walk meets; `again`: an option 134 was met before
+-- 3, 4 and 5, of an option that the walk meets
 abbrev pub isBad : Size → Bool
 isBad Bad = true
 isBad (Whole n) = false
 
-abbrev pub isSecurity : Kind → Bool
-isSecurity End = false
-isSecurity NoOperation = false
-isSecurity Basic = true
-isSecurity Extended = true
-isSecurity Cipso = false
-isSecurity Other = false
+abbrev pub isBasic : Kind → Bool
+isBasic End = false
+isBasic NoOperation = false
+isBasic Basic = true
+isBasic Extended = false
+isBasic Cipso = false
+isBasic Other = false
+
+abbrev pub isExtended : Kind → Bool
+isExtended End = false
+isExtended NoOperation = false
+isExtended Basic = false
+isExtended Extended = true
+isExtended Cipso = false
+isExtended Other = false
 
 abbrev pub isLabel : Kind → Bool
 isLabel End = false
@@ -89,17 +98,18 @@ isLabel Extended = false
 isLabel Cipso = true
 isLabel Other = false
 
-abbrev pub optionRules : Bool → Met → List Rule
-optionRules again m =
+-- `on`: the arriving port has Basic Security switched on; `label` and `basic`: an option 134, an option 130 was met before
+abbrev pub optionRules : Bool → Bool → Bool → Met → List Rule
+optionRules on label basic m =
     -- 3: an option's length octet is missing, under 2, or runs past the area
     rule 3 (isBad (m .size)) 12 0 (20 + typeOctet (m .at))
-    -- 4: option 130 or 133
-    ∷ rule 4 (isSecurity (m .kind)) 12 0 (20 + typeOctet (m .at))
-    -- 5: second option 134
-    ∷ rule 5 (isLabel (m .kind) && again) 12 0 (20 + typeOctet (m .at))
+    -- 4: option 133, and 130 where the arriving port hasn't switched it on
+    ∷ rule 4 (isExtended (m .kind) || (isBasic (m .kind) && not on)) 12 0 (20 + typeOctet (m .at))
+    -- 5: second option 134, second option 130
+    ∷ rule 5 ((isLabel (m .kind) && label) || (isBasic (m .kind) && basic)) 12 0 (20 + typeOctet (m .at))
     ∷ []
 
--- 6 to 14, which both jobs share; the area's option 134 is the one its walk meets
+-- 6 to 14 and 19 to 21, which both jobs share; the area's options 134 and 130 are those its walk meets
 abbrev pub isAt : Place → Bool
 isAt Nowhere = false
 isAt (At p) = true
@@ -127,16 +137,32 @@ labelRules there o p port =
     ∷ rule 13 (there && ltb (tagLengthOf o + 6) (length o)) 12 0 (20 + afterTag o p)
     ∷ []
 
+-- 21: level or flags out of the arriving port's range
+abbrev pub arrivingBasicRule : Port → List ℕ → ℕ → Rule
+arrivingBasicRule port area code = rule 21 (not (basicPasses (port .basic .on) (port .basic .receiving) (arrivingBasic port area))) 3 code 0
+
+-- the lines that speak of the option 130; q is its place
+abbrev pub basicRules : Place → Port → List ℕ → ℕ → List Rule
+basicRules q port area code =
+    -- 19: option 130 is bad
+    rule 19 (isAt q && not (basicValid (optionAt (octetAt q) area))) 12 0 (20 + typeOctet (octetAt q))
+    -- 20: missing where the port has it switched on
+    ∷ rule 20 (not (isAt q) && port .basic .on) 12 1 130
+    -- 21
+    ∷ arrivingBasicRule port area code
+    ∷ []
+
 -- 14: outside the arriving port's range
 abbrev pub rangeRule : Port → List ℕ → ℕ → Rule
 rangeRule port area code = rule 14 (not (inRange (port .lowest) (port .highest) (arrivingLabel port area))) 3 code 0
 
-abbrev pub arrivalRules : Place → Port → List ℕ → ℕ → List Rule
-arrivalRules q port area code =
+abbrev pub arrivalRules : Place → Place → Port → List ℕ → ℕ → List Rule
+arrivalRules q b port area code =
     -- 6: label required, none there
     rule 6 (not (isAt q) && port .required) 12 1 134
     ∷ (labelRules (isAt q) (optionAt (octetAt q) area) (octetAt q) port
-    ++ (rangeRule port area code ∷ []))
+    ++ (rangeRule port area code
+    ∷ basicRules b port area code))
 
 -- 1: area over 40 octets or not a multiple of 4; on forward, output under 40 octets. 2: a record that is read is unsound
 abbrev pub forwardInputs : Forwarding → List Rule
@@ -148,8 +174,13 @@ forwardInputs f =
 abbrev pub deliverInputs : Delivery → List Rule
 deliverInputs d = rule 1 (badArea (d .area)) 0 0 0 ∷ rule 2 (not (portSound (d .port) && hostSound (d .host) (d .port .domain))) 0 0 0 ∷ []
 
-abbrev pub leavingRules : Forwarding → List Rule
-leavingRules f =
+-- 21: a 130 toward a port without it, or none toward one with it; level or flags out of the leaving port's range
+abbrev pub leavingBasicRule : Forwarding → Rule
+leavingBasicRule f =
+    rule 21 (not (basicPasses (f .leaving .basic .on) (f .leaving .basic .sending) (arrivingBasic (f .arriving) (f .area)))) 3 9 0
+
+abbrev pub crossingRules : Forwarding → List Rule
+crossingRules f =
     -- 16: domains differ: table's domains aren't the two ports', or a level or category has no number
     rule 16 (not (stays (crossing f) || hasNumbers (crossing f))) 3 9 0
     -- 17: outside the leaving port's range
@@ -164,20 +195,27 @@ hostRules d = rule 15 (not (inRange (d .host .lowest) (d .host .highest) (arrivi
 
 -- gateway code is 9, host code 10
 abbrev pub forwardTable : Forwarding → List Rule
-forwardTable f = forwardInputs f ++ (arrivalRules (placeIn (walkOf (f .area))) (f .arriving) (f .area) 9 ++ leavingRules f)
+forwardTable f =
+    forwardInputs f
+    ++ (arrivalRules (placeIn (walkAt (f .arriving) (f .area))) (basicIn (walkAt (f .arriving) (f .area))) (f .arriving) (f .area) 9
+    ++ (leavingBasicRule f
+    ∷ crossingRules f))
 
 abbrev pub deliverTable : Delivery → List Rule
-deliverTable d = deliverInputs d ++ (arrivalRules (placeIn (walkOf (d .area))) (d .port) (d .area) 10 ++ hostRules d)
+deliverTable d =
+    deliverInputs d
+    ++ (arrivalRules (placeIn (walkAt (d .port) (d .area))) (basicIn (walkAt (d .port) (d .area))) (d .port) (d .area) 10 ++ hostRules d)
 
 -- The order: a number by itself, or numbers that are tested option by option.
 pub data Test : Type 0 where
   one : ℕ → Test
   each : List ℕ → Test
 
--- "The lowest number wins, save that 3, 4 and 5 come from one walk: the earliest option decides, and within it 3, then 4, then 5."
+-- "The lowest number wins, save that 3, 4 and 5 come from one walk: the earliest option decides, and within it 3, then 4, then 5." Wish 3: 19, 20 and
+-- 21 "after 13, in that order"
 abbrev pub order : List Test
 order =
-    one 1 ∷ one 2 ∷ each (3 ∷ 4 ∷ 5 ∷ []) ∷ one 6 ∷ one 7 ∷ one 8 ∷ one 9 ∷ one 10 ∷ one 11 ∷ one 12 ∷ one 13 ∷ one 14 ∷ one 15 ∷ one 16 ∷ one 17 ∷ one 18 ∷ []
+    one 1 ∷ one 2 ∷ each (3 ∷ 4 ∷ 5 ∷ []) ∷ one 6 ∷ one 7 ∷ one 8 ∷ one 9 ∷ one 10 ∷ one 11 ∷ one 12 ∷ one 13 ∷ one 19 ∷ one 20 ∷ one 21 ∷ one 14 ∷ one 15 ∷ one 16 ∷ one 17 ∷ one 18 ∷ []
 
 -- the lines of a table that have the number
 abbrev pub withNumber : ℕ → List Rule → List Rule
@@ -189,21 +227,22 @@ inOrder [] table = []
 inOrder (n ∷ ns) table = withNumber n table ++ inOrder ns table
 
 -- option by option
-abbrev pub byOption : List ℕ → Bool → List Met → List Rule
-byOption ns again [] = []
-byOption ns again (m ∷ ms) = inOrder ns (optionRules again m) ++ byOption ns (again || isLabel (m .kind)) ms
+abbrev pub byOption : List ℕ → Bool → Bool → Bool → List Met → List Rule
+byOption ns on label basic [] = []
+byOption ns on label basic (m ∷ ms) =
+    inOrder ns (optionRules on label basic m) ++ byOption ns on (label || isLabel (m .kind)) (basic || isBasic (m .kind)) ms
 
 -- all lines in the order in which they are tested
-abbrev pub tested : List Test → List Rule → List Met → List Rule
-tested [] table met = []
-tested (one n ∷ ts) table met = withNumber n table ++ tested ts table met
-tested (each ns ∷ ts) table met = byOption ns false met ++ tested ts table met
+abbrev pub tested : List Test → List Rule → Bool → List Met → List Rule
+tested [] table on met = []
+tested (one n ∷ ts) table on met = withNumber n table ++ tested ts table on met
+tested (each ns ∷ ts) table on met = byOption ns on false false met ++ tested ts table on met
 
 abbrev pub forwardTests : Forwarding → List Rule
-forwardTests f = tested order (forwardTable f) (metOf (f .area))
+forwardTests f = tested order (forwardTable f) (f .arriving .basic .on) (metOf (f .area))
 
 abbrev pub deliverTests : Delivery → List Rule
-deliverTests d = tested order (deliverTable d) (metOf (d .area))
+deliverTests d = tested order (deliverTable d) (d .port .basic .on) (metOf (d .area))
 
 -- no line of the list applies
 abbrev pub NoRule : List Rule → Type 0
@@ -223,8 +262,8 @@ pub data Follows (rules : List Rule) (quiet : Bool) (d : Decision) : Type 0 wher
   stops : (r : Rule) → FirstRule rules r → d ≡ refused quiet (reportOf r) → Follows rules quiet d
 
 -- the option's octets are the area's from its place on, so that a place p + i is that of its octet i
-pub record StandsAt (area : List ℕ) (p : ℕ) : Type 0 where
-  pub type : getD area (typeOctet p) 0 ≡ 134
+pub record StandsAt (t : ℕ) (area : List ℕ) (p : ℕ) : Type 0 where
+  pub type : getD area (typeOctet p) 0 ≡ t
   pub size : length (optionAt p area) ≡ getD area (lengthOctet p) 0
   pub octet : (i : ℕ) → i < length (optionAt p area) → getD (optionAt p area) i 0 ≡ getD area (p + i) 0
 
@@ -242,5 +281,6 @@ pub record OrderOfChecks : Type 0 where
   pub forwarded : (f : Forwarding) → (forwardOf f .number ≡ 0) ↔ NoRule (forwardTests f)
   pub delivered : (d : Delivery) → (deliverOf d .number ≡ 0) ↔ NoRule (deliverTests d)
   -- the octets that are blamed
-  pub stands : (area : List ℕ) (p : ℕ) → walkOf area ≡ Sound (At p) → StandsAt area p
+  pub stands : (on : Bool) (area : List ℕ) (p : ℕ) (basic : Place) → walkOf on area ≡ Sound (At p) basic → StandsAt 134 area p
+  pub basic : (on : Bool) (area : List ℕ) (label : Place) (p : ℕ) → walkOf on area ≡ Sound label (At p) → StandsAt 130 area p
   pub badOnes : (t : ℕ) (b : List ℕ) → isEven (length b) ≡ true → badPlace t b < length b → BadAt t b

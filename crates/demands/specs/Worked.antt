@@ -1,5 +1,5 @@
--- Document 01, "The order of checks, and each number", "The leaving area" and "Numbers to try": worked decisions, in one table. Both ports are of
--- domain 5, so the renumbering table is not read. Every case is asked with no fact that silences, and as an ICMP error message.
+-- Document 01, "The order of checks, and each number", "The leaving area" and "Numbers to try", and document 02, Wish 3: worked decisions, in one table.
+-- Both ports are of domain 5, so the renumbering table is not read. Every case is asked with no fact that silences, and as an ICMP error message.
 use mathlib.Core.Path.{_≡_}
 use mathlib.Core.Bool.{true, false}
 use mathlib.Core.List.{List, [], _∷_, _++_, map}
@@ -8,9 +8,11 @@ use lib.ListN.{replicate}
 use Rattle.label.specs.declared.Label.{Label}
 use Rattle.label.specs.Runs.{run}
 use Rattle.option.specs.Table.{everyOther}
+use Rattle.option.specs.Permitted.{usual}
+use Rattle.basic.specs.declared.Way.{Way}
 use Rattle.port.specs.declared.Port.{Port}
-use Rattle.port.specs.Port.{plainPort}
 use Rattle.port.specs.declared.Host.{Host}
+use Rattle.port.specs.Port.{plainPort}
 use Rattle.table.specs.declared.Table.{Table}
 use Rattle.arrival.specs.declared.Decision.{Decision}
 use Rattle.arrival.specs.declared.Facts.{Facts}
@@ -56,6 +58,41 @@ misgiving = plainPort 5 (bare 1) (bare 5) false (bare 6)
 -- the port it leaves by, and the host
 abbrev pub beyond : Port
 beyond = plainPort 5 (bare 2) (one 255 0 65534) true nothing
+
+-- with option 130 read: Confidential (150) to Secret (90), no flags or the first alone; arriving, leaving, and unsound with a level that is none
+abbrev pub twoFields : ℕ → ℕ → Way
+twoFields low high = record { lowest = low; highest = high; count = 2; flags = 0 ∷ 8192 ∷ replicate 254 0 }
+
+abbrev pub readsBasic : Way → Port
+readsBasic way =
+    record {
+      domain = 5;
+      lowest = bare 1;
+      highest = one 5 0 300;
+      required = false;
+      assigned = bare 3;
+      basic = record { on = true; receiving = way; sending = twoFields 150 90 };
+      spellings = usual;
+    }
+
+abbrev pub marked : Port
+marked = readsBasic (twoFields 150 90)
+
+abbrev pub unranked : Port
+unranked = readsBasic (twoFields 150 91)
+
+-- it sends no flags, and no level above Confidential
+abbrev pub lesser : Port
+lesser =
+    record {
+      domain = 5;
+      lowest = bare 1;
+      highest = one 5 0 300;
+      required = false;
+      assigned = bare 3;
+      basic = record { on = true; receiving = twoFields 150 90; sending = record { lowest = 150; highest = 150; count = 1; flags = replicate 256 0 } };
+      spellings = usual;
+    }
 
 abbrev pub behind : Host
 behind = record { lowest = bare 2; highest = one 255 0 65534 }
@@ -206,6 +243,16 @@ refusals =
     ∷ bad requires (1 ∷ option 15 5 2 8 0 3 (0 ∷ 7 ∷ 0 ∷ 7 ∷ 0 ∷ [])) (drop 12 12 0 33)
     ∷ bad requires (option 18 5 5 12 0 3 (0 ∷ 9 ∷ 0 ∷ 8 ∷ 0 ∷ 8 ∷ 0 ∷ 1 ∷ 0 ∷ 0 ∷ [])) (drop 12 12 0 34)
     ∷ bad requires (option 11 5 1 4 0 9 (0 ∷ 0 ∷ [])) (drop 13 12 0 30)
+    -- with option 130 read: 2, a level that is none of the four; 3; 4 is 133 alone; 5, a second one
+    ∷ bad unranked (130 ∷ 3 ∷ 90 ∷ 0 ∷ []) (drop 2 0 0 0)
+    ∷ bad marked (130 ∷ 5 ∷ 90 ∷ 0 ∷ []) (drop 3 12 0 20)
+    ∷ bad marked (1 ∷ 133 ∷ 2 ∷ 0 ∷ []) (drop 4 12 0 21)
+    ∷ bad marked (130 ∷ 3 ∷ 90 ∷ 130 ∷ 3 ∷ 90 ∷ 0 ∷ 0 ∷ []) (drop 5 12 0 23)
+    -- 13 before 19; 19: a level that is none, a flag octet that says another follows; 20
+    ∷ bad marked (option 11 5 1 4 0 3 (0 ∷ 130 ∷ 3 ∷ 91 ∷ 0 ∷ 0 ∷ [])) (drop 13 12 0 30)
+    ∷ bad marked (1 ∷ 130 ∷ 3 ∷ 91 ∷ []) (drop 19 12 0 21)
+    ∷ bad marked (130 ∷ 4 ∷ 90 ∷ 129 ∷ []) (drop 19 12 0 20)
+    ∷ bad marked [] (drop 20 12 1 130)
     ∷ []
 
 abbrev pub others : List Case
@@ -222,6 +269,16 @@ others =
     ∷ handed requires behind (empty 6 (0 ∷ 0 ∷ [])) (drop 14 3 10 0)
     ∷ stopped requires beyond (option 12 5 2 6 0 3 (1 ∷ 45 ∷ [])) (drop 14 3 9 0)
     ∷ handed requires behind (option 12 5 2 6 0 3 (1 ∷ 45 ∷ [])) (drop 14 3 10 0)
+    -- 21 at the arriving port, before 14: Top Secret is above the range, Unclassified below it though its octet is larger; a field that is not permitted
+    ∷ stopped marked marked (130 ∷ 3 ∷ 61 ∷ 0 ∷ []) (drop 21 3 9 0)
+    ∷ handed marked behind (130 ∷ 3 ∷ 171 ∷ empty 0 (0 ∷ 0 ∷ 0 ∷ [])) (drop 21 3 10 0)
+    ∷ handed marked behind (130 ∷ 4 ∷ 90 ∷ 64 ∷ []) (drop 21 3 10 0)
+    -- 21 at the leaving port, before 14: its level, its flags; a 130 toward a port without it; none toward one with it
+    ∷ stopped marked lesser (130 ∷ 3 ∷ 90 ∷ empty 0 (0 ∷ 0 ∷ 0 ∷ [])) (drop 21 3 9 0)
+    ∷ stopped marked lesser (130 ∷ 4 ∷ 150 ∷ 128 ∷ []) (drop 21 3 9 0)
+    ∷ stopped marked beyond (130 ∷ 3 ∷ 150 ∷ 0 ∷ []) (drop 21 3 9 0)
+    ∷ stopped assigns marked [] (drop 21 3 9 0)
+    ∷ stopped marked marked (130 ∷ 3 ∷ 150 ∷ empty 6 (0 ∷ 0 ∷ 0 ∷ [])) (drop 14 3 9 0)
     -- 15, of a delivery; 17, of a forwarding: below the range that comes next
     ∷ handed requires behind (empty 1 (0 ∷ 0 ∷ [])) (drop 15 3 10 0)
     ∷ stopped requires beyond (empty 1 (0 ∷ 0 ∷ [])) (drop 17 3 9 0)
@@ -240,6 +297,15 @@ others =
     -- kept options in order, without types 0 and 1 and what follows type 0: 13 octets are padded to 16, 17 to 20
     ∷ sent requires (1 ∷ empty 3 (7 ∷ 3 ∷ 4 ∷ 0 ∷ 134 ∷ [])) 16 (bare 3) (empty 3 (7 ∷ 3 ∷ 4 ∷ replicate 27 0))
     ∷ sent requires (7 ∷ 3 ∷ 4 ∷ 1 ∷ empty 3 (148 ∷ 4 ∷ 0 ∷ 0 ∷ 1 ∷ 0 ∷ [])) 20 (bare 3) (empty 3 (7 ∷ 3 ∷ 4 ∷ 148 ∷ 4 ∷ replicate 25 0))
+    -- option 130 stays among the kept options, octet for octet, also with a flag octet that has no flags
+    ∷ record {
+      job = leave marked 41;
+      port = marked;
+      area = 130 ∷ 5 ∷ 90 ∷ 129 ∷ 0 ∷ empty 3 (0 ∷ []);
+      answer = pass 16 (bare 3);
+      output = empty 3 (130 ∷ 5 ∷ 90 ∷ 129 ∷ 0 ∷ (replicate 25 0 ++ (9 ∷ [])));
+    }
+    ∷ handed marked behind (7 ∷ 3 ∷ 4 ∷ 130 ∷ 3 ∷ 150 ∷ 0 ∷ 0 ∷ []) (pass 0 (bare 3))
     -- in its one spelling: {16} from a bitmap, {297..300} from touching pairs, none from tag 5
     ∷ sent requires (option 13 5 1 7 0 3 (0 ∷ 0 ∷ 128 ∷ 0 ∷ 0 ∷ 0 ∷ [])) 12 (one 3 16 16) (option 12 5 2 6 0 3 (0 ∷ 16 ∷ replicate 28 0))
     ∷ sent requires (option 18 5 5 12 0 3 (1 ∷ 44 ∷ 1 ∷ 43 ∷ 1 ∷ 42 ∷ 1 ∷ 41 ∷ 1 ∷ 1 ∷ [])) 16 (one 3 297 300) (option 14 5 5 8 0 3 (1 ∷ 44 ∷ 1 ∷ 41 ∷ replicate 26 0))
