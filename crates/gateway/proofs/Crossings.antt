@@ -1,5 +1,5 @@
 -- Laws of checks 16 and 17, and of 18 on the runs.
-use mathlib.Core.Path.{_≡_, refl, sym, _∙_, ap}
+use mathlib.Core.Path.{_≡_, refl, sym, _∙_, ap, subst}
 use mathlib.Core.Bool.{Bool, true, false, cond, not, _&&_, _||_, and-false, true≢false}
 use mathlib.Core.List.{List, [], _∷_, _++_}
 use mathlib.Core.Option.{Option, none, some}
@@ -11,15 +11,16 @@ use lib.Seq.{length-take-le, take-append-le, take-take}
 use borrow.Author.Tests.{eq-eqb, ne-eqb, eqb-true, eqb-false, leb-true, leb-false, le-ltb, lt-ltb, ltb-false, le-leb}
 use Rattle.label.specs.declared.Run.{Run}
 use Rattle.label.specs.declared.Label.{Label}
-use Rattle.label.specs.Runs.{spaced}
+use Rattle.label.specs.Runs.{spaced, subset}
 use Rattle.label.specs.Label.{used, labelOf, wellFormed, inRange}
 use Rattle.label.specs.Keys.{keyRuns}
 use Rattle.label.specs.Range.{setInRange}
 use Rattle.label.proofs.Bools.{and-left, and-right}
+use Rattle.label.proofs.Runs.{subset-sub, one-form}
 use Rattle.label.proofs.Labels.{formed, used-length, of-used}
 use Rattle.port.specs.declared.Port.{Port}
 use Rattle.port.specs.Port.{portSound, lowestOut, highestOut}
-use Rattle.port.proofs.Laws.{sound}
+use Rattle.port.proofs.Laws.{Range, sound}
 use Rattle.table.specs.declared.Table.{Table}
 use Rattle.table.specs.declared.Partner.{Partner}
 use Rattle.table.specs.declared.Partner.the-variants.{Level, Missing}
@@ -302,6 +303,40 @@ crossed-carried x w d p ts c =
     let g = sound (x .leaving) p .out in
     carrying (x .label) (x .table) (x .levels) (lowestOut (x .leaving)) (highestOut (x .leaving)) (leavingLabel x) w ts (d ∙ sym (c .from)) (g .low-formed) (g .high-formed)
     (g .low-domain ∙ sym (c .to)) (g .high-domain ∙ sym (c .to)) (c .carried)
+
+-- What leaves is in one form.
+pub runs-spaced : (x : Crossing) → wellFormed (x .label) ≡ true → spaced 0 (leavingRuns x) ≡ true
+unfolding leavingRuns
+runs-spaced x w = go (stays x)
+  where
+    go : (b : Bool) → spaced 0 (cond b (used (x .label)) (imageRuns (x .label) (x .table))) ≡ true
+    go true = formed (x .label) w .runs
+    go false = image-spaced (x .table) (used (x .label))
+
+-- Toward unlabelled hosts what is in range is the default label, and so has at most 120 runs.
+pub record Default (x : Crossing) : Type 0 where
+  pub label : leavingLabel x ≡ x .leaving .default
+  pub few : length (leavingRuns x) ≤ 120
+
+pub default-is : (x : Crossing) → wellFormed (x .label) ≡ true → portSound (x .leaving) ≡ true → x .leaving .unlabelled ≡ true
+    → setInRange (lowestOut (x .leaving)) (highestOut (x .leaving)) (leavingLevel x) (leavingRuns x) ≡ true → Default x
+unfolding setInRange
+default-is x w p o e =
+    let d : Label = x .leaving .default in
+    let r : Range d d (x .leaving .domain) = subst (λ (u : Bool). Range (cond u d (x .leaving .lowest)) (cond u d (x .leaving .highest)) (x .leaving .domain)) o (sound (x .leaving) p .out) in
+    let e0 : (leb (d .level) (leavingLevel x) && (leb (leavingLevel x) (d .level) && (subset (used d) (leavingRuns x) && subset (leavingRuns x) (used d)))) ≡ true =
+    subst (λ (u : Bool). setInRange (cond u d (x .leaving .lowest)) (cond u d (x .leaving .highest)) (leavingLevel x) (leavingRuns x) ≡ true) o e in
+    let e1 = and-right (leb (d .level) (leavingLevel x)) _ e0 in
+    let e2 = and-right (leb (leavingLevel x) (d .level)) _ e1 in
+    let f = formed d (r .low-formed) in
+    let v : leavingLevel x ≡ d .level =
+    omega (arith, leb-true (d .level) (leavingLevel x) (and-left (leb (d .level) (leavingLevel x)) _ e0), leb-true (leavingLevel x) (d .level) (and-left (leb (leavingLevel x) (d .level)) _ e1)) in
+    let same : leavingRuns x ≡ used d =
+    one-form 0 0 (leavingRuns x) (used d) (runs-spaced x w) (f .runs) (subset-sub (leavingRuns x) (used d) (and-right (subset (used d) (leavingRuns x)) _ e2)) (subset-sub (used d) (leavingRuns x) (and-left (subset (used d) (leavingRuns x)) _ e2)) in
+    record {
+      label = (λ i. labelOf (sym (r .low-domain) i) (v i) (same i)) ∙ sym (of-used d f);
+      few = omega (arith, ap length same, used-length d f, f .held);
+    }
 
 pub crossing-formed : (x : Crossing) → wellFormed (x .label) ≡ true → x .label .domain ≡ x .domain → portSound (x .leaving) ≡ true
     → (stays x || tableSound (x .table) (x .levels)) ≡ true → firstOf (crossingChecks x) ≡ none → wellFormed (leavingLabel x) ≡ true

@@ -142,10 +142,13 @@ module _ (f : Forwarding) where
 
 -- Toward labelled hosts the label that leaves is spelled as its parts are; toward unlabelled ones no octets are written.
 pub leaving-spelled : (x : Crossing) → x .leaving .unlabelled ≡ false → spelledOf (x .leaving .spellings) (leavingLabel x) ≡ leavingOption x
-leaving-spelled x e = rw (used-of (x .leaving .domain) (leavingLevel x) (leavingRuns x), e)
+leaving-spelled x e =
+    let o : Option (List ℕ) = spellingOf (x .leaving .spellings) (x .leaving .domain) (leavingLevel x) (leavingRuns x) in
+    let u : spelledOf (x .leaving .spellings) (leavingLabel x) ≡ o = rw (used-of (x .leaving .domain) (leavingLevel x) (leavingRuns x)) in
+    u ∙ sym (ap (λ (b : Bool). cond b (some []) o) e)
 
 pub leaving-none : (x : Crossing) → x .leaving .unlabelled ≡ true → leavingOption x ≡ some []
-leaving-none x e = rw e
+leaving-none x e = ap (λ (b : Bool). cond b (some []) (spellingOf (x .leaving .spellings) (x .leaving .domain) (leavingLevel x) (leavingRuns x))) e
 
 -- A refusal: what is answered, and that nothing is written.
 pub forward-refused : (f : Forwarding) (x : Refusal) (out : List ℕ) → firstOf (forwardChecks f) ≡ some x → (refused (silenced (f .facts)) x ≡ forwardOf f) × (out ≡ outputOf f out)

@@ -3,7 +3,7 @@ use mathlib.Core.Path.{_≡_, refl, sym, _∙_, ap}
 use mathlib.Core.Bool.{Bool, true, false, cond, not, _&&_, _||_}
 use mathlib.Core.List.{List, [], _∷_, _++_}
 use mathlib.Core.Option.{Option, none, some}
-use Prim.Native.Nat.{ℕ, _≤_, _<_}
+use Prim.Native.Nat.{ℕ, _+_, _≤_, _<_}
 use native.Mathlib.Omega.{arith}
 use lib.Dec.{leb, ltb, eqb}
 use lib.ListN.{length, take}
@@ -319,19 +319,19 @@ module _ (f : Forwarding) (own own′ far far′ out out′ : List ℕ) (a r u c
               spelled = keys-spelled (f .leaving .spellings) (f .leaving .domain) (leavingLevel x) (take (length runs) far′) runs (over .stands) few
 
               -- there is room, by what is spelled; toward unlabelled hosts there always is
-              room-of : (b : Bool) → f .leaving .unlabelled ≡ b → (f .leaving .unlabelled || hasRoomFor (lengthOf spelling) (length (keptOf (f .area)))) ≡ not (noRoom (leavingOption x) (keptOf (f .area)))
-              room-of true o = rw (o, le-ltb 40 (length (keptOf (f .area))) (kept-fits (f .area) sized))
-              room-of false o = rw o (room-is (f .leaving .spellings) (f .leaving .domain) (leavingLevel x) runs (keptOf (f .area)))
+              room-by : (b : Bool) → (b || hasRoomFor (lengthOf spelling) (length (keptOf (f .area)))) ≡ not (noRoom (cond b (some []) spelling) (keptOf (f .area)))
+              room-by true = sym (rw (le-ltb 40 (0 + length (keptOf (f .area))) (omega (arith, kept-fits (f .area) sized))))
+              room-by false = room-is (f .leaving .spellings) (f .leaving .domain) (leavingLevel x) runs (keptOf (f .area))
 
               -- the option at the front of the output
-              put-of : (b : Bool) → f .leaving .unlabelled ≡ b
-                  → (putCount (f .leaving .unlabelled) (f .leaving .spellings) (f .leaving .domain) (leavingLevel x) (take (length runs) far′) (length out) ≡ lengthOf (leavingOption x))
-                  × (putFront (f .leaving .unlabelled) (f .leaving .spellings) (f .leaving .domain) (leavingLevel x) (take (length runs) far′) out ≡ inFront (leavingOption x) out)
-              put-of true o = (rw o, rw o)
-              put-of false o = rw o (keys-put (f .leaving .spellings) (f .leaving .domain) (leavingLevel x) (take (length runs) far′) runs out (over .stands) few (omega (arith, s .room)))
+              put-by : (b : Bool)
+                  → (putCount b (f .leaving .spellings) (f .leaving .domain) (leavingLevel x) (take (length runs) far′) (length out) ≡ lengthOf (cond b (some []) spelling))
+                  × (putFront b (f .leaving .spellings) (f .leaving .domain) (leavingLevel x) (take (length runs) far′) out ≡ inFront (cond b (some []) spelling) out)
+              put-by true = (refl, refl)
+              put-by false = keys-put (f .leaving .spellings) (f .leaving .domain) (leavingLevel x) (take (length runs) far′) runs out (over .stands) few (omega (arith, s .room))
 
               v-of : v ≡ cond (not (noRoom (leavingOption x) (keptOf (f .area)))) (leavingVerdict x) (stopped 18 3 9 0)
-              v-of = v-is ∙ rw (le-leb (length runs) 120 few, spelled, room-of (f .leaving .unlabelled) refl)
+              v-of = v-is ∙ rw (le-leb (length runs) 120 few, spelled, room-by (f .leaving .unlabelled))
 
               by-spelling : noRoom (leavingOption x) (keptOf (f .area)) ≡ true → Answers
               by-spelling n =
@@ -343,7 +343,7 @@ module _ (f : Forwarding) (own own′ far far′ out out′ : List ℕ) (a r u c
                   let e-v : v ≡ leavingVerdict x = v-of ∙ rw n in
                   let z : v .number ≡ 0 = ap (λ (w : Verdict). w .number) e-v in
                   let l : labelFrom (f .leaving .domain) (leavingLevel x) (keyRuns (take (length runs) far′)) ≡ leavingLabel x = label-is in
-                  let u = put-of (f .leaving .unlabelled) refl in
+                  let u = put-by (f .leaving .unlabelled) in
                   let w =
                   forward-written f (leavingLabel x) _ kept count out _ out′ (s .room) (forward-none f sized long t e (over .numbers) g (rw (le-ltb 120 (length runs) few, n))) refl (u .0) (u .1) kept-is
                   (s .writes .counted z ∙ ap (λ (b : Verdict). restCount (putCount (f .leaving .unlabelled) (f .leaving .spellings) (f .leaving .domain) (b .level) (take (b .count) far′) (length out)) kept (keptOf (f .area)) (length (putFront (f .leaving .unlabelled) (f .leaving .spellings) (f .leaving .domain) (b .level) (take (b .count) far′) out))) e-v)

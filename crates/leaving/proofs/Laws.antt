@@ -14,13 +14,13 @@ use Rattle.area.specs.declared.Kind.{Kind}
 use Rattle.area.specs.declared.Kind.the-variants.{End, NoOperation, Basic, Extended, Cipso, Other}
 use Rattle.area.specs.declared.Size.{Size}
 use Rattle.area.specs.declared.Size.the-variants.{Whole, Bad}
-use Rattle.area.specs.Area.{kindOf, sizeOf, spanOf, frontOf, metFrom}
+use Rattle.area.specs.Area.{kindOf, sizeOf, spanOf, frontOf, metFrom, metOf}
 use Rattle.lists.specs.Lists.{paint, copied}
 use Rattle.lists.proofs.Laws.{tail-is, copied-whole, Back, back-written, back-zeroed, paint-two, paint-none, paint-length}
 use Rattle.area.proofs.Laws.{span-on, behind, met-turn, met-end}
 use Rattle.leaving.specs.declared.Next.{Next}
 use Rattle.leaving.specs.declared.Next.the-variants.{Stop, Over}
-use Rattle.leaving.specs.Kept.{keptLen, keptAmong, roundUp, leavingOf, hasRoom, restCount, restOf}
+use Rattle.leaving.specs.Kept.{keptLen, keptAmong, keptOf, roundUp, leavingOf, hasRoom, restCount, restOf}
 use Rattle.leaving.specs.Stages.{overOf, nextOf}
 
 kept-short : (k : Kind) (n : ℕ) → keptLen k n ≤ n

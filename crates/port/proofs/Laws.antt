@@ -67,7 +67,7 @@ pub record Sound (p : Port) : Type 0 where
   pub unlabelled : p .unlabelled ≡ true → inRange (p .lowest) (p .highest) (p .default) ≡ true
   pub labelled : p .unlabelled ≡ false → isZero (p .default) ≡ true
 
-range-formed : (l h a : Label) → inRange l h a ≡ true → wellFormed a ≡ true
+pub range-formed : (l h a : Label) → inRange l h a ≡ true → wellFormed a ≡ true
 unfolding inRange
 range-formed l h a e = leq-second l a (and-left (leq l a) _ e)
 
@@ -78,6 +78,13 @@ leq-self a w = leq-said a a (record { first = w; second = w; domain = refl; leve
 range-domain : (l h a : Label) → inRange l h a ≡ true → l .domain ≡ a .domain
 unfolding inRange
 range-domain l h a e = leq-says l a (and-left (leq l a) _ e) .domain
+
+-- and in it, as what may leave toward unlabelled hosts
+pub default-in : (p : Port) (m : Label) → inRange (p .lowest) (p .highest) (p .default) ≡ true → m ≡ p .default → inRange (p .default) (p .default) m ≡ true
+unfolding inRange
+default-in p m e q =
+    let w = range-formed (p .lowest) (p .highest) (p .default) e in
+    rw (q, leq-self (p .default) w)
 
 pub range-alone : (l h a : Label) (d : ℕ) → Range l h d → inRange l h a ≡ true → Range a a d
 range-alone l h a d r e =

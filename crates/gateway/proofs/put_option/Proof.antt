@@ -17,7 +17,7 @@ same-length c = search needs
 returns-2 : tie.Need-returns-2
 returns-2 c =
     let w = c .before .before in
-    (w .write-keys .ensures .0 ∙ rw (w .before .if1 .left), w .write-keys .ensures .1 ∙ rw (w .before .if1 .left))
+    (w .write-keys .ensures .0 ∙ rw (w .before .before .if1 .left), w .write-keys .ensures .1 ∙ rw (w .before .before .if1 .left))
 
 pub put-option-spec : {M : Type 1} → statement M
 put-option-spec = tie.close (tie.spec returns write-keys-requires same-length returns-2)
