@@ -1,6 +1,6 @@
 -- The leaving area: its count, and what it is when it is read again.
 use mathlib.Core.Path.{_≡_, refl, sym, _∙_, ap, transport}
-use mathlib.Core.Bool.{Bool}
+use mathlib.Core.Bool.{Bool, true, false}
 use mathlib.Core.List.{List, [], _++_, append-assoc, append-nil}
 use mathlib.Core.Option.{Option, none, some}
 use Prim.Native.Nat.{ℕ, _+_, _-_, _%_, _≤_}
@@ -115,8 +115,9 @@ module _ (on : Bool) (s kept : List ℕ) (c : Option (List ℕ)) (l : Label) (h 
 read-bare : (on : Bool) (kept : List ℕ) (c : Option (List ℕ)) → length kept ≤ 40 → Again on kept c → ReadsBare (laid [] kept) on kept
 unfolding walkOf keptOf metOf
 read-bare on kept c h a =
-    let k = counts 0 (length kept) h in
-    let n = laid-length [] kept h in
+    let l : 0 + length kept ≤ 40 = omega arith in
+    let k = counts 0 (length kept) l in
+    let n = laid-length [] kept l in
     record {
       area = record { few = omega (arith, k .fits); fourfold = ap (λ (i : ℕ). i % 4) n ∙ k .fourfold };
       walk = a .walk (padding [] kept) 0 Nowhere Nowhere (free-nowhere c);

@@ -183,7 +183,7 @@ module _ (f : Forwarding) (p : Passed f) where
         from = λ h. over h .from;
         to = λ h. over h .to;
         numbered = λ h. crossed-carried x formed domain leaving-sound (table-sound h) (over h) .far;
-        leaves = λ o. (rw o at leaves);
+        leaves = λ o. subst (λ (u : Bool). inRange (cond u (f .leaving .default) (f .leaving .lowest)) (cond u (f .leaving .default) (f .leaving .highest)) (leavingLabel x) ≡ true) o leaves;
         spelled = λ o. one-spelling .spells (f .leaving .spellings) (leavingLabel x) (p .fits .octets) (passed-formed f p) .0 (leaving-spelled x o ∙ p .fits .spelled);
         fits = λ o. p .fits .room;
         default = passed-default;

@@ -1,7 +1,7 @@
 -- What document 01 says of every decision beyond the three demands: the count, the leaving area read again, pointers, datagrams without a label, and
 -- the functions asked alone.
 use mathlib.Core.Path.{_≡_}
-use mathlib.Core.Bool.{Bool}
+use mathlib.Core.Bool.{Bool, true, false}
 use mathlib.Core.List.{List}
 use mathlib.Core.Option.{Option, none}
 use Prim.Native.Nat.{ℕ, _+_, _%_, _≤_, _<_}
