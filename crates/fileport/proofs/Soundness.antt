@@ -15,6 +15,7 @@ use Rattle.label.proofs.Bools.{and-left, and-right, and-both}
 use Rattle.label.proofs.Runs.{first}
 use Rattle.label.proofs.Labels.{Formed, formed, well-formed, formed-of, used-length, of-used, leq-says}
 use Rattle.port.specs.declared.Port.{Port}
+pub use Rattle.port.proofs.Zero.{is-zero}
 use Rattle.port.specs.Port.{plainPort, isPlain, portSound, rangeSound, assignedSound}
 use Rattle.basic.specs.declared.Basic.{Basic}
 use Rattle.basic.specs.Settings.{basicOff, isOff, basicSound, wayZero}
@@ -96,25 +97,6 @@ pub labels-said : LabelsSaid
 labels-said = record { says = label-says; said = label-said }
 
 -- The all-zero label.
-
-zeros : (rs : List Run) → unused rs ≡ true → rs ≡ replicate (length rs) noRun
-zeros [] e = refl
-zeros (r ∷ rs) e =
-    let low : r .low ≡ 0 = eqb-true _ _ (and-left (eqb (r .low) 0) _ e) in
-    let high : r .high ≡ 0 = eqb-true _ _ (and-left (eqb (r .high) 0) _ (and-right (eqb (r .low) 0) _ e)) in
-    let t = zeros rs (and-right (eqb (r .high) 0) _ (and-right (eqb (r .low) 0) _ e)) in
-    λ i. record { low = low i; high = high i } ∷ t i
-
-pub is-zero : (l : Label) → length (l .runs) ≡ 120 → isZero l ≡ true → l ≡ zeroLabel
-unfolding isZero
-is-zero l n e =
-    let e1 = and-right (eqb (l .domain) 0) _ e in
-    let e2 = and-right (eqb (l .level) 0) _ e1 in
-    let d : l .domain ≡ 0 = eqb-true _ _ (and-left (eqb (l .domain) 0) _ e) in
-    let v : l .level ≡ 0 = eqb-true _ _ (and-left (eqb (l .level) 0) _ e1) in
-    let c : l .count ≡ 0 = eqb-true _ _ (and-left (eqb (l .count) 0) _ e2) in
-    let r : l .runs ≡ replicate 120 noRun = zeros (l .runs) (and-right (eqb (l .count) 0) _ e2) ∙ ap (λ (k : ℕ). replicate k noRun) n in
-    λ i. record { domain = d i; level = v i; count = c i; runs = r i }
 
 zero-says : (l : Label) → length (l .runs) ≡ 120 → isZero l ≡ true → Sound (labelFormat 0) l
 unfolding Sound labelFormat
