@@ -300,12 +300,13 @@ fn write_area(
         return 0;
     }
     let n = verdict.count;
+    let level = verdict.level;
     let size = put_option(
         unlabelled,
         &keys[..n],
         permitted,
         domain,
-        verdict.level,
+        level,
         &mut out[..],
     );
     let count = write_rest(area, size, kept, &mut out[..]);
