@@ -8,8 +8,9 @@ use native.Mathlib.Nat.{add-zero}
 use native.Mathlib.Omega.{arith}
 use borrow.Author.Tests.{ltb-false, leb-true, eqb-true}
 use lib.ListN.{length, getD, take, drop, length-drop, drop-of-length-le}
-use lib.Seq.{take-all, getD-drop}
+use lib.Seq.{getD-drop}
 use lib.Dec.{ltb, leb, eqb}
+use Rattle.lists.proofs.Laws.{tail-is}
 use Rattle.area.specs.declared.Kind.{Kind}
 use Rattle.area.specs.declared.Kind.the-variants.{End, NoOperation, Basic, Extended, Cipso, Other}
 use Rattle.area.specs.declared.Size.{Size}
@@ -104,10 +105,6 @@ judged-front l at Other Bad seen = refl
 pub walk-turn : (l : List ℕ) (at : ℕ) (seen : Place) → 0 < length l
     → judged (metFrom l 0 at) seen ≡ afterTurn l at (turnOf (kindOf (getD l 0 0)) (sizeOf l) at seen)
 walk-turn l at seen h = ap (λ (ms : List Met). judged ms seen) (met-turn l at h) ∙ judged-front l at (kindOf (getD l 0 0)) (sizeOf l) seen
-
--- the part `&l[a..]`
-pub tail-is : (l : List ℕ) (a : ℕ) → take (length l - a) (drop a l) ≡ drop a l
-tail-is l a = take-all (length l - a) (drop a l) (simp length-drop (omega arith))
 
 -- a turn that goes on passes over the whole option
 turn-on : (k : Kind) (z : Size) (at : ℕ) (seen : Place) (n : ℕ) (s : Place) → turnOf k z at seen ≡ On n s → spanOf k z ≡ Whole n

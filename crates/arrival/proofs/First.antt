@@ -1,6 +1,6 @@
 -- Laws of a list of checks of which the first that applies decides.
 use mathlib.Core.Path.{_≡_, refl, sym, _∙_, ap}
-use mathlib.Core.Bool.{Bool, true, false, not, _||_, true≢false}
+use mathlib.Core.Bool.{Bool, true, false, not, true≢false}
 use mathlib.Core.List.{List, [], _∷_, _++_}
 use mathlib.Core.Option.{Option, none, some}
 use Prim.Native.Nat.{ℕ, _≤_}
@@ -92,10 +92,6 @@ module _ (o : Option Refusal) (v n : ℕ) (r : Verdict) (real : Real o) (is : r 
 pub not-false-yes : (b : Bool) → not b ≡ false → b ≡ true
 not-false-yes true e = refl
 not-false-yes false e = absurd (true≢false e)
-
-pub or-none : (a b : Bool) → (a || b) ≡ false → (a ≡ false) × (b ≡ false)
-or-none false b e = (refl, e)
-or-none true b e = absurd (true≢false e)
 
 pub real-else : (a b : Option Refusal) → Real a → Real b → Real (orElse a b)
 real-else none b r q = q

@@ -9,17 +9,17 @@ use lib.ListN.{length, length-take, length-drop}
 use borrow.Author.Tests.{ltb-true}
 use Rattle.label.specs.declared.Label.{Label}
 use Rattle.option.specs.Option.{domainOf, tagOf, tagLengthOf}
-use Rattle.reading.specs.Reading.{Check, check, refusal, firstOf, categoriesIn, badPlace, tagChecks, labelIn, readingBy, readingFor}
+use Rattle.reading.specs.Reading.{Check, check, notRead, checkedReading, categoriesIn, badPlace, tagChecks, labelIn, readingBy, readingFor}
 
 abbrev PointWithin : ℕ → List Check → Type 0
 PointWithin b [] = Unit {0}
 PointWithin b (c ∷ cs) = (c .applies ≡ true → c .pointer ≤ b) × PointWithin b cs
 
-first-pointer : (b : ℕ) (cs : List Check) (l : Label) → PointWithin b cs → firstOf cs l .pointer ≤ b
+first-pointer : (b : ℕ) (cs : List Check) (l : Label) → PointWithin b cs → checkedReading cs l .pointer ≤ b
 first-pointer b [] l w = omega arith
 first-pointer b (c ∷ cs) l w = go (c .applies) refl (first-pointer b cs l (w .1))
   where
-    go : (t : Bool) → c .applies ≡ t → firstOf cs l .pointer ≤ b → (cond t (refusal (c .number) (c .pointer)) (firstOf cs l)) .pointer ≤ b
+    go : (t : Bool) → c .applies ≡ t → checkedReading cs l .pointer ≤ b → (cond t (notRead (c .number) (c .pointer)) (checkedReading cs l)) .pointer ≤ b
     go true e h = w .0 e
     go false e h = h
 
@@ -53,11 +53,11 @@ abbrev NumbersFrom : ℕ → List Check → Type 0
 NumbersFrom b [] = Unit {0}
 NumbersFrom b (c ∷ cs) = (b ≤ c .number) × NumbersFrom b cs
 
-first-number : (b : ℕ) (cs : List Check) (l : Label) → NumbersFrom b cs → (firstOf cs l .number ≡ 0 → ⊥) → b ≤ firstOf cs l .number
+first-number : (b : ℕ) (cs : List Check) (l : Label) → NumbersFrom b cs → (checkedReading cs l .number ≡ 0 → ⊥) → b ≤ checkedReading cs l .number
 first-number b [] l w h = absurd (h refl)
 first-number b (c ∷ cs) l w h = go (first-number b cs l (w .1)) (c .applies) h
   where
-    go : ((firstOf cs l .number ≡ 0 → ⊥) → b ≤ firstOf cs l .number) → (t : Bool) → ((cond t (refusal (c .number) (c .pointer)) (firstOf cs l)) .number ≡ 0 → ⊥) → b ≤ (cond t (refusal (c .number) (c .pointer)) (firstOf cs l)) .number
+    go : ((checkedReading cs l .number ≡ 0 → ⊥) → b ≤ checkedReading cs l .number) → (t : Bool) → ((cond t (notRead (c .number) (c .pointer)) (checkedReading cs l)) .number ≡ 0 → ⊥) → b ≤ (cond t (notRead (c .number) (c .pointer)) (checkedReading cs l)) .number
     go f true z = w .0
     go f false z = f z
 

@@ -13,7 +13,7 @@ use Rattle.label.specs.Label.{used, labelOf, zeroLabel, emptyOf, wellFormed, me
 use Rattle.option.specs.Option.{domainOf}
 use Rattle.option.specs.Spelling.{spelledOf}
 use Rattle.reading.specs.declared.Reading.{Reading}
-use Rattle.reading.specs.Reading.{Check, check, refusal, firstOf, framed, tagChecks, labelIn, readingBy, readingOf}
+use Rattle.reading.specs.Reading.{Check, check, notRead, checkedReading, framed, tagChecks, labelIn, readingBy, readingOf}
 use Rattle.spelling.specs.Spelling.{lacking, spellingNumber, spellingAnswer, spellingOut}
 use Rattle.spelling.proofs.Answers.{answer-refused, out-refused}
 use Rattle.table.specs.declared.Table.{Table}
@@ -27,12 +27,12 @@ use Rattle.demands.specs.First.{NoneOf}
 use Rattle.demands.specs.Alone.{readChecks, spellChecks, renumberChecks, FirstCheck, AskedAlone}
 use Rattle.demands.proofs.Renumbering.{renumber-alone}
 
-first-check : (bs as′ : List Check) (c : Check) (l : Label) → NoneOf (λ (x : Check). x .applies) bs → c .applies ≡ true → firstOf (bs ++ (c ∷ as′)) l ≡ refusal (c .number) (c .pointer)
+first-check : (bs as′ : List Check) (c : Check) (l : Label) → NoneOf (λ (x : Check). x .applies) bs → c .applies ≡ true → checkedReading (bs ++ (c ∷ as′)) l ≡ notRead (c .number) (c .pointer)
 first-check [] as′ c l n e = rw e
 first-check (b ∷ bs) as′ c l n e = rw (n .0) (first-check bs as′ c l (n .1) e)
 
-first-is : (cs : List Check) (c : Check) (l : Label) → FirstCheck cs c → firstOf cs l ≡ refusal (c .number) (c .pointer)
-first-is cs c l f = ap (λ (x : List Check). firstOf x l) (f .order) ∙ first-check (f .before) (f .after) c l (f .passed) (f .applies)
+first-is : (cs : List Check) (c : Check) (l : Label) → FirstCheck cs c → checkedReading cs l ≡ notRead (c .number) (c .pointer)
+first-is cs c l f = ap (λ (x : List Check). checkedReading x l) (f .order) ∙ first-check (f .before) (f .after) c l (f .passed) (f .applies)
 
 abbrev AllReal : List Check → Type 0
 AllReal [] = Unit {0}
@@ -46,20 +46,20 @@ real-is : (cs : List Check) (c : Check) → FirstCheck cs c → AllReal cs → c
 real-is cs c f a = real-at (f .before) (f .after) c (rw (f .order) at a)
 
 -- Reading.
-reads : (o : List ℕ) (c : Check) → FirstCheck (readChecks o) c → readingOf o ≡ refusal (c .number) (c .pointer)
+reads : (o : List ℕ) (c : Check) → FirstCheck (readChecks o) c → readingOf o ≡ notRead (c .number) (c .pointer)
 unfolding readingOf readingBy
 reads o c f = go (framed o) refl ∙ first-is (readChecks o) c (labelIn o) f
   where
-    go : (b : Bool) → framed o ≡ b → cond b (readingBy (eqb (domainOf o) 0) o) (refusal 3 0) ≡ firstOf (check (not b) 3 0 ∷ check (ltb (length o) 10) 7 1 ∷ check (eqb (domainOf o) 0) 8 2 ∷ tagChecks o) (labelIn o)
+    go : (b : Bool) → framed o ≡ b → cond b (readingBy (eqb (domainOf o) 0) o) (notRead 3 0) ≡ checkedReading (check (not b) 3 0 ∷ check (ltb (length o) 10) 7 1 ∷ check (eqb (domainOf o) 0) 8 2 ∷ tagChecks o) (labelIn o)
     go true e = refl
     go false e = refl
 
 -- Spelling.
-number-is : (l : Label) (n : ℕ) → spellingNumber l n ≡ firstOf (spellChecks l n) zeroLabel .number
+number-is : (l : Label) (n : ℕ) → spellingNumber l n ≡ checkedReading (spellChecks l n) zeroLabel .number
 unfolding spellingNumber
 number-is l n = go (ltb n 40) (wellFormed l) (lacking (spelledOf l))
   where
-    go : (a b c : Bool) → cond a 1 (cond (not b) 2 (cond c 18 0)) ≡ firstOf (check a 1 0 ∷ check (not b) 2 0 ∷ check c 18 0 ∷ []) zeroLabel .number
+    go : (a b c : Bool) → cond a 1 (cond (not b) 2 (cond c 18 0)) ≡ checkedReading (check a 1 0 ∷ check (not b) 2 0 ∷ check c 18 0 ∷ []) zeroLabel .number
     go true b c = refl
     go false false c = refl
     go false true true = refl
@@ -75,16 +75,16 @@ spells l out c f =
 
 -- Renumbering.
 renumbered-by : (s d : Bool) (q : Partner) (b k : Bool) (to : ℕ) (img : List Run) (n : ℕ) → (n ≡ 0 → ⊥)
-    → firstOf (check (not s) 2 0 ∷ check (not (d && (known q && b))) 16 0 ∷ check (not k) 18 0 ∷ []) zeroLabel .number ≡ n
-    → cond s (cond d (whenNumbered q b (λ v. cond k (renumbers.done (labelOf to v img)) (renumbers.refusal 18))) (renumbers.refusal 16)) (renumbers.refusal 2) ≡ renumbers.refusal n
-renumbered-by false d q b k to img n z e = ap renumbers.refusal e
-renumbered-by true false q b k to img n z e = ap renumbers.refusal e
-renumbered-by true true Missing b k to img n z e = ap renumbers.refusal e
-renumbered-by true true (Level v) false k to img n z e = ap renumbers.refusal e
-renumbered-by true true (Level v) true false to img n z e = ap renumbers.refusal e
+    → checkedReading (check (not s) 2 0 ∷ check (not (d && (known q && b))) 16 0 ∷ check (not k) 18 0 ∷ []) zeroLabel .number ≡ n
+    → cond s (cond d (whenNumbered q b (λ v. cond k (renumbers.renumberedAs (labelOf to v img)) (renumbers.notRenumbered 18))) (renumbers.notRenumbered 16)) (renumbers.notRenumbered 2) ≡ renumbers.notRenumbered n
+renumbered-by false d q b k to img n z e = ap renumbers.notRenumbered e
+renumbered-by true false q b k to img n z e = ap renumbers.notRenumbered e
+renumbered-by true true Missing b k to img n z e = ap renumbers.notRenumbered e
+renumbered-by true true (Level v) false k to img n z e = ap renumbers.notRenumbered e
+renumbered-by true true (Level v) true false to img n z e = ap renumbers.notRenumbered e
 renumbered-by true true (Level v) true true to img n z e = absurd (z (sym e))
 
-renumber : (l : Label) (t : Table) (ls : List (List ℕ)) (c : Check) → FirstCheck (renumberChecks l t ls) c → renumberedOf l t ls ≡ renumbers.refusal (c .number)
+renumber : (l : Label) (t : Table) (ls : List (List ℕ)) (c : Check) → FirstCheck (renumberChecks l t ls) c → renumberedOf l t ls ≡ renumbers.notRenumbered (c .number)
 unfolding renumberedOf
 renumber l t ls c f =
     renumbered-by (tableSound t ls && wellFormed l) (eqb (l .domain) (t .from)) (partnerOf (take (t .pairs) ls) (l .level)) (numbered (usedRows t) (used l))

@@ -22,7 +22,7 @@ module _ (f : Forwarding) (oct : Octets (f .area)) (e : forwardOf f .number ≡ 
   holds = passed-forwards f (p f e) oct
 
   renumbered : (f .arriving .domain ≡ f .leaving .domain → ⊥)
-      → renumberedOf (arrivingLabel (f .arriving) (f .area)) (f .table) (f .levels) ≡ renumbers.done (leavingLabel (crossing f))
+      → renumberedOf (arrivingLabel (f .arriving) (f .area)) (f .table) (f .levels) ≡ renumbers.renumberedAs (leavingLabel (crossing f))
   renumbered d =
       let h = in-range-held (f .arriving) (arrivingLabel (f .arriving) (f .area)) (holds .arriving) (holds .arrives) in
       renumbering .found (arrivingLabel (f .arriving) (f .area)) (f .table) (f .levels) (leavingLabel (crossing f)) (holds .table d) (h .formed) (h .domain ∙ sym (holds .from d)) (holds .numbered d)
@@ -42,6 +42,6 @@ order-kept f g of og ea el et es e e′ = by (sameDomain f) refl ∙ sym (λ i. 
     by false d =
         let x : (f .arriving .domain ≡ f .leaving .domain → ⊥) = eqb-false _ _ d in
         let y : (g .arriving .domain ≡ g .leaving .domain → ⊥) = λ z. x (ap (λ (p : Port). p .domain) ea ∙ z ∙ ap (λ (p : Port). p .domain) (sym el)) in
-        let r : renumberedOf (arrivingLabel (g .arriving) (g .area)) (f .table) (f .levels) ≡ renumbers.done (leavingLabel (crossing g)) =
+        let r : renumberedOf (arrivingLabel (g .arriving) (g .area)) (f .table) (f .levels) ≡ renumbers.renumberedAs (leavingLabel (crossing g)) =
         (λ i. renumberedOf (arrivingLabel (g .arriving) (g .area)) (et i) (es i)) ∙ renumbered g og e′ y in
         keeps-order (arrivingLabel (f .arriving) (f .area)) (arrivingLabel (g .arriving) (g .area)) (f .table) (f .levels) (leavingLabel (crossing f)) (leavingLabel (crossing g)) (renumbered f of e x) r

@@ -13,7 +13,7 @@ use Rattle.label.specs.declared.Label.{Label}
 use Rattle.label.specs.Label.{inRange}
 use Rattle.label.proofs.Bools.{less-or}
 use Rattle.option.specs.Option.{domainOf, tagOf}
-use Rattle.reading.specs.Reading.{Check, check, refusal, categoriesIn, badPlace, tagChecks, labelIn, readingBy, readingFor}
+use Rattle.reading.specs.Reading.{Check, check, notRead, categoriesIn, badPlace, tagChecks, labelIn, readingBy, readingFor}
 use Rattle.reading.specs.Reading as reading
 use Rattle.reading.proofs.Checks.{for-port, stops7}
 use Rattle.area.specs.declared.Place.{Place}
@@ -39,11 +39,11 @@ abbrev Under : ℕ → List Check → Type 0
 Under b [] = Unit {0}
 Under b (c ∷ cs) = (c .applies ≡ true → c .pointer < b) × Under b cs
 
-first-under : (b : ℕ) (cs : List Check) (l : Label) → 0 < b → Under b cs → reading.firstOf cs l .pointer < b
+first-under : (b : ℕ) (cs : List Check) (l : Label) → 0 < b → Under b cs → reading.checkedReading cs l .pointer < b
 first-under b [] l h u = h
 first-under b (c ∷ cs) l h u = go (c .applies) refl (first-under b cs l h (u .1))
   where
-    go : (t : Bool) → c .applies ≡ t → reading.firstOf cs l .pointer < b → (cond t (refusal (c .number) (c .pointer)) (reading.firstOf cs l)) .pointer < b
+    go : (t : Bool) → c .applies ≡ t → reading.checkedReading cs l .pointer < b → (cond t (notRead (c .number) (c .pointer)) (reading.checkedReading cs l)) .pointer < b
     go true e r = u .0 e
     go false e r = r
 

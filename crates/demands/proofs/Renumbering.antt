@@ -19,7 +19,7 @@ use Rattle.table.specs.declared.Partner.the-variants.{Level, Missing}
 use Rattle.table.specs.Table.{usedRows, tableSound}
 use Rattle.table.specs.Numbers.{partnerOf, hasNumber, numbered}
 use Rattle.renumber.specs.declared.Renumbered.{Renumbered}
-use Rattle.renumber.specs.Renumber.{refusal, done, imageRuns, renumberedOf}
+use Rattle.renumber.specs.Renumber.{notRenumbered, renumberedAs, imageRuns, renumberedOf}
 use Rattle.renumber.proofs.Theorems.{renumbering}
 use Rattle.demands.specs.Alone.{Numbered, RenumberAlone}
 
@@ -40,9 +40,9 @@ module _ (l : Label) (t : Table) (ls : List (List ℕ)) (s : tableSound t ls ≡
 
   -- the three ways it goes
   data Way : Type 0 where
-    missing : (Numbered l t ls → ⊥) → renumberedOf l t ls ≡ refusal 16 → Way
-    large : Numbered l t ls → renumberedOf l t ls ≡ refusal 18 → Way
-    given : Numbered l t ls → (m : Label) → renumberedOf l t ls ≡ done m → Way
+    missing : (Numbered l t ls → ⊥) → renumberedOf l t ls ≡ notRenumbered 16 → Way
+    large : Numbered l t ls → renumberedOf l t ls ≡ notRenumbered 18 → Way
+    given : Numbered l t ls → (m : Label) → renumberedOf l t ls ≡ renumberedAs m → Way
 
   way : Way
   unfolding renumberedOf

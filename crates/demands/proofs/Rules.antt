@@ -13,7 +13,7 @@ use borrow.Author.Tests.{eqb-true}
 use Rattle.label.specs.declared.Label.{Label}
 use Rattle.option.specs.Option.{domainOf, isEven}
 use Rattle.option.specs.Index.{firstTrue, pairsOf}
-use Rattle.reading.specs.Reading.{Check, check, refusal, badIn, countIn, badPlace, tagChecks, labelIn, readingBy, readingFor}
+use Rattle.reading.specs.Reading.{Check, check, notRead, badIn, countIn, badPlace, tagChecks, labelIn, readingBy, readingFor}
 use Rattle.reading.specs.Reading as reading
 use Rattle.reading.specs.declared.Reading.{Reading}
 use Rattle.area.specs.declared.Kind.{Kind}
@@ -103,12 +103,12 @@ Numbers (c ∷ cs) = (eqb (c .number) 0 ≡ false) × Numbers cs
 abbrev blamed : ℕ → Reading → Option Refusal
 blamed p x = when (not (eqb (x .number) 0)) (faulty (x .number) (p + x .pointer))
 
-read-rules : (p : ℕ) (cs : List Check) (l : Label) → Numbers cs → firstOf (checks (map (ruleAt p) cs)) ≡ blamed p (reading.firstOf cs l)
+read-rules : (p : ℕ) (cs : List Check) (l : Label) → Numbers cs → firstOf (checks (map (ruleAt p) cs)) ≡ blamed p (reading.checkedReading cs l)
 read-rules p [] l n = refl
 read-rules p (c ∷ cs) l n = go (c .applies) (read-rules p cs l (n .1))
   where
-    go : (b : Bool) → firstOf (checks (map (ruleAt p) cs)) ≡ blamed p (reading.firstOf cs l)
-        → firstOf (when b (reportOf (ruleAt p c)) ∷ checks (map (ruleAt p) cs)) ≡ blamed p (cond b (refusal (c .number) (c .pointer)) (reading.firstOf cs l))
+    go : (b : Bool) → firstOf (checks (map (ruleAt p) cs)) ≡ blamed p (reading.checkedReading cs l)
+        → firstOf (when b (reportOf (ruleAt p c)) ∷ checks (map (ruleAt p) cs)) ≡ blamed p (cond b (notRead (c .number) (c .pointer)) (reading.checkedReading cs l))
     go true h = rw (n .0)
     go false h = h
 

@@ -11,7 +11,7 @@ use lib.ListN.{length, getD}
 use borrow.Author.Tests.{eqb-true, eqb-false, eq-eqb, ne-eqb, le-ltb, ltb-false}
 use Rattle.label.specs.declared.Label.{Label}
 use Rattle.label.specs.Label.{wellFormed, inRange}
-use Rattle.label.proofs.Bools.{and-left, and-right, and-both}
+use Rattle.label.proofs.Bools.{and-left, and-right, and-both, or-none}
 use Rattle.option.specs.Option.{Octets, Means}
 use Rattle.option.specs.Spelling.{spelledOf}
 use Rattle.option.specs.Theorems.{Spells}
@@ -32,14 +32,14 @@ use Rattle.port.specs.Port.{portSound, hostSound}
 use Rattle.port.proofs.Laws.{sound}
 use Rattle.table.specs.Table.{tableSound}
 use Rattle.renumber.specs.declared.Renumbered.{Renumbered}
-use Rattle.renumber.specs.Renumber.{done, carriedOf}
+use Rattle.renumber.specs.Renumber.{renumberedAs, carriedOf}
 use Rattle.renumber.specs.Theorems.{Far}
 use Rattle.renumber.proofs.Theorems.{renumbering, agrees}
 use Rattle.arrival.specs.declared.Decision.{Decision}
 use Rattle.arrival.specs.Checks.{Refusal, silent, barred, when, firstOf, NoneApplies, badArea, walkRefusal, walkCheck, placeIn, optionAt, requiredBy, requiredCheck, optionBy, optionCheck, labelBy, arrivingLabel, rangeCheck, Delivery, deliverySizes, deliveryRecords, hostCheck}
 use Rattle.arrival.specs.Decision as decision
 use Rattle.arrival.specs.Decision.{silenced, refused, decided, arrivalChecks, deliverChecks, deliverOf}
-use Rattle.arrival.proofs.First.{Real, AllReal, real-first, real-when, first-none, none-first, when-none, orElse, first-append, not-false-yes, or-none, real-else}
+use Rattle.arrival.proofs.First.{Real, AllReal, real-first, real-when, first-none, none-first, when-none, orElse, first-append, not-false-yes, real-else}
 use Rattle.arrival.proofs.Arrival.{placed-framed, octets-part, Held, arrival-held, arrival-real, in-range-held}
 use Rattle.arrival.proofs.Deliveries.{deliver-done}
 use Rattle.gateway.specs.Crossing.{Forwarding, sameDomain, Crossing, crossing, stays, leavingLabel, leavingOption, noRoom}
@@ -223,8 +223,8 @@ module _ (f : Forwarding) (l m : Label) (s : List ℕ) (h : Forwards f l m s) wh
           let far : Far (y .label) (f .table) (f .levels) m = rw (r .label) (h .numbered d) in
           let n = renumbering .found (y .label) (f .table) (f .levels) m ts y-formed from far in
           let a = agrees (y .label) (f .table) (f .levels) (f .leaving .lowest) (f .leaving .highest) m (g .low-formed) (g .high-formed) (g .low-domain ∙ sym (h .to d)) (g .high-domain ∙ sym (h .to d)) n in
-          let c : done m ≡ carriedOf (y .label) (f .table) (f .levels) (f .leaving .lowest) (f .leaving .highest) = sym (a ∙ rw (h .leaves)) in
-          let q = crosses-passed y d (h .from d) (h .to d) (done m) c refl in
+          let c : renumberedAs m ≡ carriedOf (y .label) (f .table) (f .levels) (f .leaving .lowest) (f .leaving .highest) = sym (a ∙ rw (h .leaves)) in
+          let q = crosses-passed y d (h .from d) (h .to d) (renumberedAs m) c refl in
           record { none = q .0; label = sym (ap (λ (z : Renumbered). z .label) (q .1)) }
 
   m-formed : wellFormed m ≡ true

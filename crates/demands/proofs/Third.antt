@@ -28,7 +28,7 @@ use Rattle.arrival.specs.declared.Decision.{Decision}
 use Rattle.arrival.specs.Checks.{Refusal, barred, when, firstOf, optionAt, arrivingLabel, rangeCheck, Delivery, deliverySizes, deliveryRecords, hostCheck}
 use Rattle.arrival.specs.Decision.{silenced, decided, deliverChecks, deliverOf}
 use Rattle.gateway.specs.Crossing.{Forwarding, sizes, records, Crossing, crossing, numberCheck, leavingCheck, spellingCheck, leavingLabel, leavingOption}
-use Rattle.gateway.specs.Forward.{forwardChecks, forwardOf, octetsOf, written, outputOf}
+use Rattle.gateway.specs.Forward.{forwardChecks, forwardOf, optionOctets, written, outputOf}
 use Rattle.gateway.proofs.Forwards.{forward-passed}
 use Rattle.demands.specs.Demands.{LabelOf, own, Forwards, Alike, AlikeDelivered, Demand3}
 use Rattle.demands.proofs.Second.{Reads, label-reads, forwarded-passes, demand2}

@@ -11,7 +11,8 @@ use lib.Seq.{take-suc, length-take-le}
 use borrow.Author.Tests.{leb-true, eqb-true}
 use Rattle.label.proofs.Bools.{and-left, and-right}
 use Rattle.port.specs.declared.Port.{Port}
-use Rattle.format.specs.Format.{digits, inTurn, octets, paint, Writes}
+use Rattle.lists.specs.Lists.{paint}
+use Rattle.format.specs.Format.{digits, inTurn, octets, Writes}
 use Rattle.format.specs.Laws.{flat}
 use Rattle.format.specs.Places.{placesFit}
 use Rattle.format.proofs.Writing.{flat-turn}

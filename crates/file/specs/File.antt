@@ -5,7 +5,8 @@ use mathlib.Core.Path.{_≡_}
 use Prim.Native.Nat.{ℕ, _+_}
 use lib.Dec.{leb, ltb, eqb}
 use lib.ListN.{length}
-use Rattle.format.specs.Format.{Format, Found, got, bad, one, two, number, _then_, _such_, octets, readAt, paint}
+use Rattle.lists.specs.Lists.{paint}
+use Rattle.format.specs.Format.{Format, Found, got, bad, one, two, number, _then_, _such_, octets, readAt}
 use Rattle.fileset.specs.declared.Set.{Set}
 use Rattle.fileset.specs.Set.{emptySet, setSound}
 use Rattle.file.specs.declared.FileRead.{FileRead}

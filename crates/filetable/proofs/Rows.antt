@@ -9,7 +9,7 @@ use lib.ListN.{length, take, length-append}
 use lib.Seq.{take-append-le, take-all, take-at}
 use Rattle.label.proofs.Bools.{and-left, and-right, less-or}
 use Rattle.table.specs.declared.Row.{Row}
-use Rattle.table.specs.Table.{noRow, rising, apartFrom, targetsApart, targetEnd}
+use Rattle.table.specs.Table.{row, noRow, rising, apartFrom, targetsApart, targetEnd}
 use Rattle.format.specs.Format.{Found, got, bad, after, numberAt, manyAt, readAt, many, Reads}
 use Rattle.format.proofs.Numbers.{Within, number-within}
 use Rattle.format.proofs.Loops.{Passed, begins, turns, refuses, ends}
@@ -17,7 +17,7 @@ use Rattle.format.proofs.Told.{many-refuses, many-reads, passed-same}
 use Rattle.format.specs.Places.{Filled}
 use Rattle.filetable.specs.declared.LevelPair.{LevelPair}
 use Rattle.filetable.specs.declared.Renumbering.{Renumbering}
-use Rattle.filetable.specs.TableFormat.{row, floorOf, rowFormat, withRow, noPair, renumberingOf}
+use Rattle.filetable.specs.TableFormat.{floorOf, rowFormat, withRow, noPair, renumberingOf}
 use Rattle.filetable.specs.Stages.{rowAlone, RowsAlone}
 use Rattle.filetable.proofs.Apart.{apart-last, floor-last, rising-last}
 

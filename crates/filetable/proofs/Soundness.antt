@@ -11,13 +11,13 @@ use borrow.Author.Tests.{le-leb, leb-true, eq-eqb, ne-eqb, eqb-true, eqb-false, 
 use Rattle.label.proofs.Bools.{never, and-left, and-right, and-both}
 use Rattle.table.specs.declared.Row.{Row}
 use Rattle.table.specs.declared.Table.{Table}
-use Rattle.table.specs.Table.{noRow, usedRows, targetEnd, rising, apart, apartFrom, targetsApart, unusedRows, rowsSound, levelsRise, unusedPairs, levelsSound, levelNumbers, typed, tableSound}
+use Rattle.table.specs.Table.{row, noRow, usedRows, targetEnd, rising, apart, apartFrom, targetsApart, unusedRows, rowsSound, levelsRise, unusedPairs, levelsSound, levelNumbers, typed, tableSound}
 use Rattle.format.specs.Format.{Sound, Each}
 use Rattle.format.specs.Places.{padded, Filled}
 use Rattle.format.proofs.Places.{padded-again, padded-length, padded-used}
 use Rattle.filetable.specs.declared.LevelPair.{LevelPair}
 use Rattle.filetable.specs.declared.Renumbering.{Renumbering}
-use Rattle.filetable.specs.TableFormat.{pair, pairFormat, nextLeast, row, floorOf, rowFormat, withRow, noPair, renumberingOf, tableFormat, levelsOf}
+use Rattle.filetable.specs.TableFormat.{pair, pairFormat, nextLeast, floorOf, rowFormat, withRow, noPair, renumberingOf, tableFormat, levelsOf}
 use Rattle.filetable.specs.Theorems.{twoEach, typedPairs, renumberingSound, TablesSaid}
 use Rattle.filetable.proofs.Apart.{apart-last, floor-last, zero-rows}
 use Rattle.filetable.proofs.Rows.{renumbering-again}

@@ -5,10 +5,10 @@ use mathlib.Core.Path.{_≡_, refl}
 use Prim.Native.Nat.{ℕ, suc, _+_, _-_, _*_, _≤_, _<_}
 use lib.ListN.{length, take, getD}
 use Rattle.table.specs.declared.Row.{Row}
-use Rattle.table.specs.Table.{rising, targetsApart}
+use Rattle.table.specs.Table.{row, rising, targetsApart}
 use Rattle.format.specs.Format.{Format, two, number, _then_, fields, many, Reads, digits}
 use Rattle.filetable.specs.declared.LevelPair.{LevelPair}
-use Rattle.filetable.specs.TableFormat.{row, rowFormat, withRow}
+use Rattle.filetable.specs.TableFormat.{rowFormat, withRow}
 
 -- a row, without a look at the rows before it but for its floor
 unfoldable pub rowAlone : ℕ → Format Row

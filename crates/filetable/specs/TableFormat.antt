@@ -9,7 +9,7 @@ use lib.ListN.{length, take, getD, replicate}
 use lib.Seq.{take-append-seam}
 use Rattle.table.specs.declared.Row.{Row}
 use Rattle.table.specs.declared.Table.{Table}
-use Rattle.table.specs.Table.{noRow, apartFrom, tableSound, unusedRows}
+use Rattle.table.specs.Table.{row, noRow, apartFrom, tableSound, unusedRows}
 use Rattle.format.specs.Format.{Format, one, two, four, number, _then_, _such_, fields, counted}
 use Rattle.format.specs.Places.{padded}
 use Rattle.filetable.specs.declared.LevelPair.{LevelPair}
@@ -30,9 +30,6 @@ pairFormat least =
 
 abbrev pub nextLeast : ℕ × ℕ → LevelPair → ℕ × ℕ
 nextLeast least p = (getD (p .levels) 0 0 + 1, getD (p .levels) 1 0 + 1)
-
-abbrev pub row : ℕ → ℕ → ℕ → Row
-row l h t = record { low = l; high = h; target = t }
 
 -- above the high of the last row; `floor` where there is none
 abbrev pub floorOf : ℕ → List Row → ℕ

@@ -7,28 +7,11 @@ use native.Mathlib.Nat.{add-assoc, add-zero, suc-mul}
 use native.Mathlib.Numerals.{add-one}
 use lib.ListN.{length, getD, set, take, drop, length-append, length-drop, length-set, take-append-drop}
 use lib.Seq.{length-take-le, drop-drop, take-at, drop-at, take-set-le, set-split, take-suc}
-use Rattle.format.specs.Format.{digits, inTurn, paint, Writes}
+use Rattle.lists.specs.Lists.{paint}
+use Rattle.lists.proofs.Laws.{paint-none, paint-length, paint-two}
+use Rattle.format.specs.Format.{digits, inTurn, Writes}
 use Rattle.format.specs.Laws.{flat}
 use Rattle.format.proofs.Numbers.{digits-length}
-
-pub paint-none : (at : ℕ) (out : List ℕ) → paint at [] out ≡ out
-paint-none at out = rw (add-zero at) (take-append-drop at out)
-
-pub paint-length : (at : ℕ) (xs out : List ℕ) → at + length xs ≤ length out → length (paint at xs out) ≡ length out
-paint-length at xs out h = rw (length-append, length-append, length-drop, length-take-le at out (omega arith)) (omega arith)
-
-pub paint-two : (at : ℕ) (xs ys out : List ℕ) → at + length xs ≤ length out
-    → paint (at + length xs) ys (paint at xs out) ≡ paint at (xs ++ ys) out
-paint-two at xs ys out h =
-    let a : List ℕ = take at out ++ xs in
-    let d : List ℕ = drop (at + length xs) out in
-    let p : length (take at out ++ xs) ≡ at + length xs =
-    length-append (take at out) xs ∙ ap (λ (k : ℕ). k + length xs) (length-take-le at out (omega arith)) in
-    let q : drop (at + length xs + length ys) (take at out ++ xs ++ drop (at + length xs) out) ≡ drop (at + length xs + length ys) out =
-    sym (drop-drop (length ys) (at + length xs) (a ++ d)) ∙ ap (drop (length ys)) (drop-at a d (at + length xs) p)
-    ∙ drop-drop (length ys) (at + length xs) out in
-    rw (← append-assoc (take at out) xs (drop (at + length xs) out), take-at (take at out ++ xs) (drop (at + length xs) out) (at + length xs) p, q)
-    (simp (append-assoc, length-append, add-assoc))
 
 -- the last octet is written first
 pub paint-last : (at k : ℕ) (xs : List ℕ) (x : ℕ) (out : List ℕ) → at + length xs ≡ k → k < length out

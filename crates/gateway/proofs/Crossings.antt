@@ -27,7 +27,7 @@ use Rattle.table.specs.Table.{usedRows, tableSound}
 use Rattle.table.specs.Numbers.{partnerOf, known, levelOr0, numbered}
 use Rattle.renumber.specs.declared.Carried.{Carried}
 use Rattle.renumber.specs.declared.Renumbered.{Renumbered}
-use Rattle.renumber.specs.Renumber.{refusal, done, imageRuns, fitted, whenNumbered, carriedOf}
+use Rattle.renumber.specs.Renumber.{notRenumbered, renumberedAs, imageRuns, fitted, whenNumbered, carriedOf}
 use Rattle.renumber.specs.Carry.{notCarried, carriedTo, carriedKeys, carryOf}
 use Rattle.renumber.specs.Theorems as far
 use Rattle.renumber.proofs.Carrying.{label-runs, carry-checked, carry-unsound, carry-two, carried-number, carried-yes, carried-runs, image-spaced}
@@ -102,7 +102,7 @@ module _ (x : Crossing) (w : wellFormed (x .label) ≡ true) (d : x .label .doma
 -- With other domains the label is carried over.
 module _ (lo hi : Label) (d : ℕ) (img : List Run) where
   abbrev answerBy : Partner → Bool → Renumbered
-  answerBy q n = whenNumbered q n (λ v. cond (setInRange lo hi v img) (fitted d v img) (refusal 17))
+  answerBy q n = whenNumbered q n (λ v. cond (setInRange lo hi v img) (fitted d v img) (notRenumbered 17))
 
   abbrev checksBy : Partner → Bool → List (Option Refusal)
   checksBy q n =
@@ -114,13 +114,13 @@ module _ (lo hi : Label) (d : ℕ) (img : List Run) where
   -- the answer says what the checks say
   pub record Alike (q : Partner) (n : Bool) (r : Renumbered) : Type 0 where
     pub refused : (r .number ≡ 0 → ⊥) → firstOf (checksBy q n) ≡ some (barred (r .number) 9)
-    pub passed : r .number ≡ 0 → (firstOf (checksBy q n) ≡ none) × (r ≡ done (labelOf d (levelOr0 q) img))
+    pub passed : r .number ≡ 0 → (firstOf (checksBy q n) ≡ none) × (r ≡ renumberedAs (labelOf d (levelOr0 q) img))
 
-  fits : (v : ℕ) (b : Bool) → leb (length img) 120 ≡ b → setInRange lo hi v img ≡ true → Alike (Level v) true (cond b (done (labelOf d v img)) (refusal 18))
+  fits : (v : ℕ) (b : Bool) → leb (length img) 120 ≡ b → setInRange lo hi v img ≡ true → Alike (Level v) true (cond b (renumberedAs (labelOf d v img)) (notRenumbered 18))
   fits v true e i = record { refused = λ h. absurd (h refl); passed = λ h. (rw (i, le-ltb 120 (length img) (leb-true _ _ e)), refl) }
   fits v false e i = record { refused = λ h. rw (i, lt-ltb 120 (length img) (leb-false _ _ e)); passed = λ h. absurd (eighteen h) }
 
-  ranged : (v : ℕ) (b : Bool) → setInRange lo hi v img ≡ b → Alike (Level v) true (cond b (fitted d v img) (refusal 17))
+  ranged : (v : ℕ) (b : Bool) → setInRange lo hi v img ≡ b → Alike (Level v) true (cond b (fitted d v img) (notRenumbered 17))
   ranged v true e = fits v (leb (length img) 120) refl e
   ranged v false e = record { refused = λ h. rw e; passed = λ h. absurd (seventeen h) }
 
@@ -156,10 +156,10 @@ module _ (x : Crossing) (apart : x .domain ≡ x .leaving .domain → ⊥) where
       pub crosses-refused : (r .number ≡ 0 → ⊥) → firstOf (crossingChecks x) ≡ some (barred (r .number) 9)
       crosses-refused h = checks-are ∙ both .refused h
 
-      pub crosses-passed : r .number ≡ 0 → (firstOf (crossingChecks x) ≡ none) × (r ≡ done (leavingLabel x))
+      pub crosses-passed : r .number ≡ 0 → (firstOf (crossingChecks x) ≡ none) × (r ≡ renumberedAs (leavingLabel x))
       crosses-passed h =
           let q = both .passed h in
-          (checks-are ∙ q .0, q .1 ∙ ap (λ (n : ℕ). done (labelOf n (levelOr0 (partner x)) img)) to ∙ ap done (sym label-is))
+          (checks-are ∙ q .0, q .1 ∙ ap (λ (n : ℕ). renumberedAs (labelOf n (levelOr0 (partner x)) img)) to ∙ ap renumberedAs (sym label-is))
 
 -- Past check 16: the keys stand for the whole set with which the datagram leaves.
 pub record Over (x : Crossing) (keys : List ℕ) : Type 0 where
@@ -274,7 +274,7 @@ numbers x s e = not-false-yes (hasNumbers x) (rw s at (when-none (not (stays x |
 pub record Crossed (x : Crossing) : Type 0 where
   pub from : x .table .from ≡ x .domain
   pub to : x .table .to ≡ x .leaving .domain
-  pub carried : carriedBy x ≡ done (leavingLabel x)
+  pub carried : carriedBy x ≡ renumberedAs (leavingLabel x)
 
 pub crossed : (x : Crossing) → stays x ≡ false → firstOf (crossingChecks x) ≡ none → Crossed x
 crossed x s e = go (eqb (carriedBy x .number) 0) refl

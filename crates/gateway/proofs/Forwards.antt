@@ -13,7 +13,7 @@ use Rattle.label.specs.declared.Run.{Run}
 use Rattle.label.specs.declared.Label.{Label}
 use Rattle.label.specs.Label.{used, wellFormed}
 use Rattle.label.specs.Range.{setInRange}
-use Rattle.label.proofs.Bools.{and-left, and-right}
+use Rattle.label.proofs.Bools.{and-left, and-right, or-none}
 use Rattle.label.proofs.Labels.{used-of}
 use Rattle.option.specs.Spelling.{spellingOf, spelledOf}
 use Rattle.spelling.specs.Spelling.{lacking, lengthOf}
@@ -28,10 +28,10 @@ use Rattle.table.specs.Table.{tableSound}
 use Rattle.arrival.specs.declared.Decision.{Decision}
 use Rattle.arrival.specs.Checks.{Refusal, silent, barred, when, firstOf, badArea, arrivingLabel}
 use Rattle.arrival.specs.Decision.{silenced, refused, done, decided, arrivalChecks}
-use Rattle.arrival.proofs.First.{orElse, first-append, first-none, none-first, when-none, Real, real-first, real-when, not-false-yes, or-none, real-else}
+use Rattle.arrival.proofs.First.{orElse, first-append, first-none, none-first, when-none, Real, real-first, real-when, not-false-yes, real-else}
 use Rattle.arrival.proofs.Arrival.{arrival-held, arrival-real}
 use Rattle.gateway.specs.Crossing.{Forwarding, sameDomain, sizes, records, Crossing, crossing, stays, hasNumbers, numberCheck, leavingLevel, leavingRuns, leavingCheck, leavingLabel, leavingOption, noRoom, spellingCheck}
-use Rattle.gateway.specs.Forward.{forwardChecks, leavingCount, forwardOf, octetsOf, outputOf}
+use Rattle.gateway.specs.Forward.{forwardChecks, leavingCount, forwardOf, optionOctets, outputOf}
 use Rattle.gateway.specs.Stages.{crossingChecks, hasRoomFor}
 use Rattle.gateway.proofs.Crossings.{crossing-real, crossing-formed}
 

@@ -31,9 +31,9 @@ leavingCount f = roundUp (lengthOf (leavingOption (crossing f)) + length (keptOf
 unfoldable pub forwardOf : Forwarding → Decision
 forwardOf f = decided (silenced (f .facts)) (firstOf (forwardChecks f)) (leavingLabel (crossing f)) (leavingCount f)
 
-abbrev pub octetsOf : Option (List ℕ) → List ℕ
-octetsOf none = []
-octetsOf (some s) = s
+abbrev pub optionOctets : Option (List ℕ) → List ℕ
+optionOctets none = []
+optionOctets (some s) = s
 
 abbrev pub written : Option Refusal → List ℕ → List ℕ → List ℕ → List ℕ
 written (some r) option kept out = out
@@ -41,4 +41,4 @@ written none option kept out = leavingOf option kept out
 
 -- the output at the end: a refusal writes nothing
 unfoldable pub outputOf : Forwarding → List ℕ → List ℕ
-outputOf f out = written (firstOf (forwardChecks f)) (octetsOf (leavingOption (crossing f))) (keptOf (f .area)) out
+outputOf f out = written (firstOf (forwardChecks f)) (optionOctets (leavingOption (crossing f))) (keptOf (f .area)) out

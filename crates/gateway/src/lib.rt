@@ -12,6 +12,7 @@ use label::look_between;
 use label::runs_between;
 use leaving::count_kept;
 use leaving::write_rest;
+use lists::copy_keys;
 use port::Port;
 use port::port_sound;
 use renumber::Carried;
@@ -22,9 +23,8 @@ use table::Table;
 use table::table_sound;
 ghost use mathlib.Core.Path.{_≡_};
 ghost use mathlib.Core.Bool.{cond};
-ghost use mathlib.Core.List.{_++_};
 ghost use Prim.Native.Nat.{ℕ, _≤_};
-ghost use lib.ListN.{length, take, drop};
+ghost use lib.ListN.{length};
 ghost use lib.Dec.{eqb};
 ghost use Rattle.leaving.specs.Kept.{keptOf};
 ghost use Rattle.gateway.specs.Forward.{forwardOf, outputOf};
@@ -95,7 +95,8 @@ fn cross(
     ensures { λ r. ⌜ Crosses arrived domain leaving table levels (now (own .entry)) (now (far .entry)) (now (far .exit)) r ⌝ }
 {
     if domain == leaving {
-        copy_keys(own, far);
+        // as many keys as a label has runs
+        copy_keys(&own[..Label::MAX_RUNS], far);
         return arrived;
     }
     if arrived.number != 0 {
@@ -104,18 +105,6 @@ fn cross(
     // carrying checks the table itself
     let carried = carry(own, arrived.count, arrived.level, table, levels, far);
     number_over(carried, table.from == domain, table.to == leaving)
-}
-
-// As many keys as a label has runs.
-fn copy_keys(own: &[u32], far: &mut [u32])
-    requires { ⌜ (120 ≤ length (now own)) × (120 ≤ length (now far)) ⌝ }
-    ensures { λ _. ⌜ now (far .exit) ≡ take 120 (now (own .entry)) ++ drop 120 (now (far .entry)) ⌝ }
-{
-    let mut i: usize = 0;
-    while i < Label::MAX_RUNS {
-        far[i] = own[i];
-        i += 1;
-    }
 }
 
 // Check 2 of the table, where another check applies: before 3 to 14.

@@ -26,7 +26,7 @@ use Rattle.renumber.specs.Renumber as far
 use Rattle.renumber.specs.Theorems.{Join}
 use Rattle.renumber.proofs.Sets.{set-covers, set-spaced, the-runs}
 use Rattle.renumber.proofs.Theorems as renumber-theorems
-use Rattle.join.specs.Join.{done, either, eitherRuns, joinedOf}
+use Rattle.join.specs.Join.{joinedAs, either, eitherRuns, joinedOf}
 use Rattle.join.specs.Theorems.{Joining, LeastAbove, Keeping}
 use Rattle.join.proofs.Answers.{led, joined-fitted}
 
@@ -49,7 +49,7 @@ either-covers a b wa wb c =
         (λ u. omega (arith, covers-top 0 (used b) c (formed b wb .runs) u))
         (or-cases (covers (used a) c) (covers (used b) c) h)
 
-right : (a b j : Label) → joinedOf a b ≡ done j → Join a b j
+right : (a b j : Label) → joinedOf a b ≡ joinedAs j → Join a b j
 right a b j e =
     let k = led a b j e in
     let fa = formed a (k .first) in
@@ -75,7 +75,7 @@ only : (a b j k : Label) → Join a b j → Join a b k → j ≡ k
 only a b j k f g =
     label-theorems.one-form j k (f .formed) (g .formed) (f .domain ∙ sym (g .domain)) (f .level ∙ sym (g .level)) (λ c. f .categories c ∙ sym (g .categories c))
 
-found : (a b j : Label) → wellFormed a ≡ true → wellFormed b ≡ true → Join a b j → joinedOf a b ≡ done j
+found : (a b j : Label) → wellFormed a ≡ true → wellFormed b ≡ true → Join a b j → joinedOf a b ≡ joinedAs j
 found a b j wa wb f =
     let g = formed j (f .formed) in
     let u : used j ≡ eitherRuns a b =
@@ -84,14 +84,14 @@ found a b j wa wb f =
     let n : length (eitherRuns a b) ≤ 120 = omega (arith, ap length (sym u), used-length j g, g .held) in
     let same : labelOf (a .domain) (max (a .level) (b .level)) (eitherRuns a b) ≡ j =
     (λ i. labelOf (sym (f .domain) i) (sym (f .level) i) (sym u i)) ∙ sym (of-used j g) in
-    sym (joined-fitted a b wa wb (sym (f .same))) ∙ simp (le-leb (length (eitherRuns a b)) 120 n) (ap done same)
+    sym (joined-fitted a b wa wb (sym (f .same))) ∙ simp (le-leb (length (eitherRuns a b)) 120 n) (ap joinedAs same)
 
 pub joining : Joining
 joining = record { right = right; only = only; found = found }
 
 -- The least label above both.
 
-above-first : (a b j : Label) → joinedOf a b ≡ done j → leq a j ≡ true
+above-first : (a b j : Label) → joinedOf a b ≡ joinedAs j → leq a j ≡ true
 above-first a b j e =
     let f = right a b j e in
     leq-said a j
@@ -103,7 +103,7 @@ above-first a b j e =
       categories = λ c m. f .categories c ∙ or-true-left (member a c) (member b c) m;
     })
 
-above-second : (a b j : Label) → joinedOf a b ≡ done j → leq b j ≡ true
+above-second : (a b j : Label) → joinedOf a b ≡ joinedAs j → leq b j ≡ true
 above-second a b j e =
     let f = right a b j e in
     leq-said b j
@@ -115,7 +115,7 @@ above-second a b j e =
       categories = λ c m. f .categories c ∙ or-true-right (member a c) m;
     })
 
-least : (a b j k : Label) → joinedOf a b ≡ done j → leq a k ≡ true → leq b k ≡ true → leq j k ≡ true
+least : (a b j k : Label) → joinedOf a b ≡ joinedAs j → leq a k ≡ true → leq b k ≡ true → leq j k ≡ true
 least a b j k e h l =
     let f = right a b j e in
     let x = leq-says a k h in
@@ -135,11 +135,11 @@ least-above = record { first = above-first; second = above-second; least = least
 -- Renumbering keeps joins.
 
 joined-first : (a b j : Label) (t : Table) (ls : List (List ℕ)) (m n k : Label)
-    → far.renumberedOf a t ls ≡ far.done m
-    → far.renumberedOf b t ls ≡ far.done n
-    → joinedOf a b ≡ done j
-    → far.renumberedOf j t ls ≡ far.done k
-    → joinedOf m n ≡ done k
+    → far.renumberedOf a t ls ≡ far.renumberedAs m
+    → far.renumberedOf b t ls ≡ far.renumberedAs n
+    → joinedOf a b ≡ joinedAs j
+    → far.renumberedOf j t ls ≡ far.renumberedAs k
+    → joinedOf m n ≡ joinedAs k
 joined-first a b j t ls m n k ea eb ej ek =
     found m n k
     (renumber-theorems.renumbering .right a t ls m ea .formed)
@@ -163,11 +163,11 @@ higher-partner ps u v p q e h k =
     (less-or u v)
 
 renumbered-first : (a b j : Label) (t : Table) (ls : List (List ℕ)) (m n k : Label)
-    → far.renumberedOf a t ls ≡ far.done m
-    → far.renumberedOf b t ls ≡ far.done n
-    → joinedOf a b ≡ done j
-    → joinedOf m n ≡ done k
-    → far.renumberedOf j t ls ≡ far.done k
+    → far.renumberedOf a t ls ≡ far.renumberedAs m
+    → far.renumberedOf b t ls ≡ far.renumberedAs n
+    → joinedOf a b ≡ joinedAs j
+    → joinedOf m n ≡ joinedAs k
+    → far.renumberedOf j t ls ≡ far.renumberedAs k
 renumbered-first a b j t ls m n k ea eb ej ek =
     let la = renumber-theorems.led a t ls m ea in
     let lb = renumber-theorems.led b t ls n eb in

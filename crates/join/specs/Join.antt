@@ -13,11 +13,11 @@ use Rattle.renumber.specs.Sets.{runsOf}
 use Rattle.join.specs.declared.Joined.{Joined}
 
 -- a refusal comes with an all-zero label
-abbrev pub refusal : ℕ → Joined
-refusal n = record { number = n; label = zeroLabel }
+abbrev pub notJoined : ℕ → Joined
+notJoined n = record { number = n; label = zeroLabel }
 
-abbrev pub done : Label → Joined
-done l = record { number = 0; label = l }
+abbrev pub joinedAs : Label → Joined
+joinedAs l = record { number = 0; label = l }
 
 -- the category is one of either label
 abbrev pub either : Label → Label → ℕ → Bool
@@ -28,11 +28,11 @@ abbrev pub eitherRuns : Label → Label → List Run
 eitherRuns a b = runsOf (either a b)
 
 -- 18 over 120 runs, else the label
-abbrev pub fitted : ℕ → ℕ → List Run → Joined
-fitted d v rs = cond (leb (length rs) 120) (done (labelOf d v rs)) (refusal 18)
+abbrev pub fittedJoin : ℕ → ℕ → List Run → Joined
+fittedJoin d v rs = cond (leb (length rs) 120) (joinedAs (labelOf d v rs)) (notJoined 18)
 
 unfoldable pub joinedOf : Label → Label → Joined
 joinedOf a b =
     cond (wellFormed a && (wellFormed b && eqb (a .domain) (b .domain)))
-    (fitted (a .domain) (max (a .level) (b .level)) (eitherRuns a b))
-    (refusal 2)
+    (fittedJoin (a .domain) (max (a .level) (b .level)) (eitherRuns a b))
+    (notJoined 2)

@@ -5,7 +5,7 @@ use mathlib.Core.Logic.{_⊎_, inl, inr, ⊎-elim}
 use Prim.Native.Nat.{ℕ, zero, suc, _≤_, _<_}
 use native.Mathlib.Omega.{arith}
 use lib.Dec.{leb}
-use borrow.Author.Tests.{leb-true, leb-false}
+use borrow.Author.Tests.{le-leb, leb-true, leb-false}
 use Rattle.label.specs.Runs.{allBelow}
 
 pub never : true ≡ false → ⊥
@@ -50,6 +50,10 @@ less-or a b = go (leb b a) refl
     go : (t : Bool) → leb b a ≡ t → (a < b) ⊎ (b ≤ a)
     go true p = inr (leb-true _ _ p)
     go false p = inl (leb-false _ _ p)
+
+-- two comparisons that pass together are one
+pub same-leb : (a b c d : ℕ) → (a ≤ b → c ≤ d) → (c ≤ d → a ≤ b) → leb a b ≡ leb c d
+same-leb a b c d h k = same-yes (leb a b) (leb c d) (λ e. le-leb c d (h (leb-true a b e))) (λ e. le-leb a b (k (leb-true c d e)))
 
 pub all-below : (n : ℕ) (p : ℕ → Bool) → allBelow n p ≡ true → (c : ℕ) → c < n → p c ≡ true
 unfolding allBelow

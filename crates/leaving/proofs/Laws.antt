@@ -1,44 +1,27 @@
--- Laws of the kept options and of writing over a list.
-use Prim.Native.Nat.{ℕ, zero, suc, _+_, _-_, _*_, _/_, _≤_, _<_}
+-- Laws of the kept options and of writing them.
+use Prim.Native.Nat.{ℕ, zero, suc, _+_, _-_, _*_, _/_, _≤_, _<_, min}
 use mathlib.Core.Path.{_≡_, refl, sym, ap, _∙_}
 use mathlib.Core.List.{List, [], _∷_, _++_, append-assoc, append-nil}
-use native.Mathlib.Nat.{add-assoc, add-zero, zero-add, min-le-left}
-use native.Mathlib.Numerals.{add-one}
+use native.Mathlib.Nat.{min-le-left}
+use native.Mathlib.Decide.{decLe}
 use native.Mathlib.Omega.{arith}
 use mathlib.Core.Bool.{Bool, true, false, cond, and-false}
 use lib.Dec.{leb}
 use borrow.Author.Tests.{le-leb, lt-leb, leb-true, leb-false}
 use lib.ListN.{length, getD, set, take, drop, replicate, length-drop, length-take, length-append, drop-of-length-le, take-append-drop}
-use lib.Seq.{take-all, take-append-le, take-append-add, take-take, take-suc, drop-cons, set-at, append-snoc, length-take-le, take-suc-set, drop-set-lt, drop-drop, take-at, drop-at}
+use lib.Seq.{take-all, take-append-le, take-append-add, take-take, length-take-le, drop-drop}
 use Rattle.area.specs.declared.Kind.{Kind}
 use Rattle.area.specs.declared.Kind.the-variants.{End, NoOperation, Basic, Extended, Cipso, Other}
 use Rattle.area.specs.declared.Size.{Size}
 use Rattle.area.specs.declared.Size.the-variants.{Whole, Bad}
 use Rattle.area.specs.Area.{kindOf, sizeOf, spanOf, frontOf, metFrom}
-use Rattle.area.proofs.Laws.{span-on, behind, met-turn, met-end, tail-is}
+use Rattle.lists.specs.Lists.{paint, copied}
+use Rattle.lists.proofs.Laws.{tail-is, copied-whole, Back, back-written, back-zeroed, paint-two, paint-none, paint-length}
+use Rattle.area.proofs.Laws.{span-on, behind, met-turn, met-end}
 use Rattle.leaving.specs.declared.Next.{Next}
 use Rattle.leaving.specs.declared.Next.the-variants.{Stop, Over}
 use Rattle.leaving.specs.Kept.{keptLen, keptAmong, roundUp, leavingOf, hasRoom, restCount, restOf}
-use Rattle.leaving.specs.Stages.{overOf, nextOf, lesserOf, paint, zeroed}
-
--- a turn of the loop that copies
-pub copy-more : (s d : List ℕ) (i : ℕ) → i < length s → i < length d
-    → set (take i s ++ drop i d) i (getD s i 0) ≡ take (i + 1) s ++ drop (i + 1) d
-copy-more s d i hs hd =
-    rw (add-one, take-suc s i 0, drop-cons d i 0)
-    (set-at (take i s) (getD d i 0) (drop (suc i) d) (getD s i 0) i (length-take-le i s (omega arith))
-    ∙ sym (append-snoc (take i s) (getD s i 0) (drop (suc i) d)))
-
--- a turn of the loop that fills with zeros
-pub zero-more : (out : List ℕ) (i : ℕ) → i < 40 → 40 ≤ length out → zeroed (i + 1) (set out i 0) ≡ zeroed i out
-zero-more out i h l =
-    let e : 40 - i ≡ suc (40 - suc i) = omega arith in
-    let hl : i < length out = omega arith in
-    rw (add-one, take-suc-set out i 0 hl, drop-set-lt 40 out i 0 h, e)
-    (append-assoc (take i out) (0 ∷ []) (replicate (40 - suc i) 0 ++ drop 40 out))
-
-pub zero-last : (out : List ℕ) (i : ℕ) → i ≡ 40 → zeroed i out ≡ out
-zero-last out i e = rw e (take-append-drop 40 out)
+use Rattle.leaving.specs.Stages.{overOf, nextOf}
 
 kept-short : (k : Kind) (n : ℕ) → keptLen k n ≤ n
 kept-short End n = omega arith
@@ -109,29 +92,26 @@ pub kept-end : (area : List ℕ) (at : ℕ) → length area ≤ at → keptFrom 
 kept-end area at h = ap (keptAmong area) (met-end area at h)
 
 -- of a list that starts with the first m of `rest`, the first `left`: those of the first m, and then of what follows
-pub take-both : (m left : ℕ) (rest ks : List ℕ) → m ≤ length rest
-    → take left (take m rest ++ ks) ≡ take (lesserOf m left) rest ++ take (left - lesserOf m left) ks
-take-both m left rest ks h = go (leb m left) refl
+pub take-both : (m left k : ℕ) (rest ks : List ℕ) → k ≡ min m left → m ≤ length rest
+    → take left (take m rest ++ ks) ≡ take k rest ++ take (left - k) ks
+take-both m left k rest ks e h = elim (decLe m left) [
+  | yes u ↦ (let q : k ≡ m = omega arith in rw q (all u))
+  | no u ↦ (let q : k ≡ left = omega arith in rw q (some (omega arith)))
+]
   where
     len : length (take m rest) ≡ m
     len = length-take-le m rest h
 
-    go : (b : Bool) → leb m left ≡ b → take left (take m rest ++ ks) ≡ take (cond b m left) rest ++ take (left - cond b m left) ks
-    go true e =
-        let s : left ≡ length (take m rest) + (left - m) = omega (arith, len, leb-true m left e) in
+    all : m ≤ left → take left (take m rest ++ ks) ≡ take m rest ++ take (left - m) ks
+    all u =
+        let s : left ≡ length (take m rest) + (left - m) = omega (arith, len) in
         ap (λ (i : ℕ). take i (take m rest ++ ks)) s ∙ take-append-add (take m rest) ks (left - m)
-    go false e =
-        let f : left ≤ m = omega (arith, leb-false m left e) in
-        let z : left - left ≡ 0 = omega arith in
-        take-append-le left (take m rest) ks (omega (arith, len)) ∙ take-take left m rest f
-        ∙ sym (append-nil (take left rest)) ∙ ap (λ (i : ℕ). take left rest ++ take i ks) (sym z)
 
-pub lesser-both : (a b : ℕ) → (lesserOf a b ≤ a) × (lesserOf a b ≤ b)
-lesser-both a b = go (leb a b) refl
-  where
-    go : (t : Bool) → leb a b ≡ t → (cond t a b ≤ a) × (cond t a b ≤ b)
-    go true e = (omega arith, omega (arith, leb-true a b e))
-    go false e = (omega (arith, leb-false a b e), omega arith)
+    some : left ≤ m → take left (take m rest ++ ks) ≡ take left rest ++ take (left - left) ks
+    some u =
+        let z : left - left ≡ 0 = omega arith in
+        take-append-le left (take m rest) ks (omega (arith, len)) ∙ take-take left m rest u
+        ∙ sym (append-nil (take left rest)) ∙ ap (λ (i : ℕ). take left rest ++ take i ks) (sym z)
 
 pub take-none : (n : ℕ) (ks : List ℕ) → ks ≡ [] → take n ks ≡ []
 take-none zero ks e = refl
@@ -140,59 +120,24 @@ take-none (suc n) ks e = rw e
 pub take-short : (n : ℕ) (l : List ℕ) → length (take n l) ≤ n
 take-short n l = simp length-take (min-le-left n (length l))
 
--- writing over a list, in two goes
-pub paint-two : (w : ℕ) (xs ys out : List ℕ) → w + length xs ≤ length out
-    → paint (w + length xs) ys (paint w xs out) ≡ paint w (xs ++ ys) out
-paint-two w xs ys out h =
-    let a : List ℕ = take w out ++ xs in
-    let d : List ℕ = drop (w + length xs) out in
-    let p : length (take w out ++ xs) ≡ w + length xs =
-    length-append (take w out) xs ∙ ap (λ (k : ℕ). k + length xs) (length-take-le w out (omega arith)) in
-    let q : drop (w + length xs + length ys) (take w out ++ xs ++ drop (w + length xs) out) ≡ drop (w + length xs + length ys) out =
-    sym (drop-drop (length ys) (w + length xs) (a ++ d)) ∙ ap (drop (length ys)) (drop-at a d (w + length xs) p)
-    ∙ drop-drop (length ys) (w + length xs) out in
-    rw (← append-assoc (take w out) xs (drop (w + length xs) out), take-at (take w out ++ xs) (drop (w + length xs) out) (w + length xs) p, q)
-    (simp (append-assoc, length-append, add-assoc))
-
--- the part `&mut out[w..]` has come back from a callee that wrote xs at its start
-pub paint-back : (w m : ℕ) (xs ys out : List ℕ) → w ≤ length out → length xs ≡ m
-    → ys ≡ xs ++ drop m (take (length out - w) (drop w out))
-    → take w out ++ (ys ++ drop (length out - w) (drop w out)) ≡ paint w xs out
-paint-back w m xs ys out h e ey =
-    let z : drop (length out - w) (drop w out) ≡ [] = drop-of-length-le (drop w out) {i = length out - w} (simp length-drop (omega arith)) in
-    rw (z, append-nil, ey, tail-is, drop-drop, ← e)
-
 pub next-is : (l : List ℕ) (k : Kind) (z u : Size) → k ≡ kindOf (getD l 0 0) → z ≡ sizeOf l → u ≡ spanOf k z → overOf k u ≡ nextOf l
 next-is l k z u ek ez eu = rw (eu, ez, ek)
 
-pub paint-none : (w : ℕ) (out xs : List ℕ) → xs ≡ [] → out ≡ paint w xs out
-paint-none w out xs e = rw (e, add-zero) (sym (take-append-drop w out))
+pub paint-nothing : (w : ℕ) (out xs : List ℕ) → xs ≡ [] → out ≡ paint w xs out
+paint-nothing w out xs e = rw e (sym (paint-none w out))
 
 -- a turn of the loop that copies the kept options: it wrote xs at w, and ks is still to be written
-module _ (w m : ℕ) (xs ys out : List ℕ) (h : w + m ≤ length out) (e : length xs ≡ m)
-    (ey : ys ≡ xs ++ drop m (take (length out - w) (drop w out))) where
-  back : take w out ++ (ys ++ drop (length out - w) (drop w out)) ≡ paint w xs out
-  back = paint-back w m xs ys out (omega arith) e ey
+module _ (w : ℕ) (xs ys out : List ℕ) (h : w + length xs ≤ length out) (ey : ys ≡ copied xs (take (length out - w) (drop w out))) where
+  back : Back w (length out) out ys ≡ paint w xs out
+  back =
+      let part : length (take (length out - w) (drop w out)) ≡ length out - w = rw (tail-is, length-drop) in
+      back-written w (length out) out ys xs h (omega arith) (ey ∙ copied-whole xs (take (length out - w) (drop w out)) (omega arith))
 
-  pub turn-length : length (take w out ++ (ys ++ drop (length out - w) (drop w out))) ≡ length out
-  turn-length =
-      rw (back, length-append, length-append, length-drop, length-take-le w out (omega arith)) (omega arith)
+  pub turn-length : length (Back w (length out) out ys) ≡ length out
+  turn-length = rw back (paint-length w xs out h)
 
-  pub turn-paint : (ks : List ℕ) → paint (w + m) ks (take w out ++ (ys ++ drop (length out - w) (drop w out))) ≡ paint w (xs ++ ks) out
-  turn-paint ks = rw (back, ← e) (paint-two w xs ks out (omega arith))
-
--- zeros behind a list that was written at the front
-zero-paint : (xs out : List ℕ) → length xs ≤ 40 → zeroed (length xs) (paint 0 xs out) ≡ xs ++ (replicate (40 - length xs) 0 ++ drop 40 out)
-zero-paint xs out h =
-    let k : ℕ = 40 - length xs in
-    let e : 40 ≡ length xs + k = omega arith in
-    let q : drop 40 (xs ++ drop (length xs) out) ≡ drop 40 out =
-    ap (λ (i : ℕ). drop i (xs ++ drop (length xs) out)) e
-    ∙ sym (drop-drop k (length xs) (xs ++ drop (length xs) out))
-    ∙ ap (drop k) (drop-at xs (drop (length xs) out) (length xs) refl)
-    ∙ drop-drop k (length xs) out
-    ∙ ap (λ (i : ℕ). drop i out) (sym e) in
-    rw (zero-add, take-at xs (drop (length xs) out) (length xs) refl, q)
+  pub turn-paint : (ks : List ℕ) → paint (w + length xs) ks (Back w (length out) out ys) ≡ paint w (xs ++ ks) out
+  turn-paint ks = rw back (paint-two w xs ks out h)
 
 -- Writing the rest of the area, return by return.
 module _ (from kept : ℕ) (ks out : List ℕ) where
@@ -204,23 +149,21 @@ module _ (from kept : ℕ) (ks out : List ℕ) where
   unfolding restCount restOf
   rest-over h = (simp (lt-leb (from + kept) 40 h, and-false), simp (lt-leb (from + kept) 40 h, and-false))
 
-  pub rest-written : (w : ℕ) (a b : List ℕ) → 40 ≤ length out → from + kept ≤ 40
-      → w ≡ from + length (take kept ks) → a ≡ paint from (take kept ks) out → b ≡ zeroed w a
-      → ((w + 3) / 4 * 4 ≡ restCount from kept ks (length out)) × (b ≡ restOf from kept ks out)
+  pub rest-written : (w : ℕ) (a z : List ℕ) → 40 ≤ length out → from + kept ≤ 40
+      → w ≡ from + length (take kept ks) → a ≡ paint from (take kept ks) out → z ≡ replicate (length (take (40 - w) (drop w a))) 0
+      → ((w + 3) / 4 * 4 ≡ restCount from kept ks (length out)) × (Back w 40 a z ≡ restOf from kept ks out)
   unfolding restCount restOf
-  rest-written w a b h k ew ea eb =
+  rest-written w a z h k ew ea ez =
       let o : List ℕ = take from out in
       let x : List ℕ = take kept ks in
       let lx : length x ≤ kept = take-short kept ks in
       let lo : length o ≡ from = length-take-le from out (omega arith) in
-      let z : 0 + length o ≡ from = omega arith in
-      let id : paint 0 o out ≡ out = ap (λ (i : ℕ). o ++ drop i out) z ∙ take-append-drop from out in
-      let p : paint from x out ≡ paint 0 (o ++ x) out =
-      ap (λ (i : ℕ). paint i x out) (sym z) ∙ ap (paint (0 + length o) x) (sym id) ∙ paint-two 0 o x out (omega arith) in
       let lk : length (o ++ x) ≡ length o + length x = length-append o x in
       let e : w ≡ length (o ++ x) = omega arith in
-      let q : b ≡ leavingOf o x out =
-      eb ∙ ap (zeroed w) (ea ∙ p) ∙ ap (λ (i : ℕ). zeroed i (paint 0 (o ++ x) out)) e ∙ zero-paint (o ++ x) out (omega arith) ∙ rw (lk, append-assoc) in
+      let la : length a ≡ length out = rw ea (paint-length from x out (omega arith)) in
+      let p : a ≡ (o ++ x) ++ drop w out = ea ∙ sym (append-assoc o x (drop (from + length x) out)) ∙ ap (λ (i : ℕ). (o ++ x) ++ drop i out) (sym ew) in
+      let q : Back w 40 a z ≡ leavingOf o x out =
+      back-zeroed w 40 a z (o ++ x) out e (omega arith) (omega arith) p ez ∙ rw (e, lk, append-assoc) in
       (rw (le-leb 40 (length out) h, le-leb (from + kept) 40 k, ew), rw (le-leb 40 (length out) h, le-leb (from + kept) 40 k) q)
 
 -- with the number of all kept octets

@@ -1,13 +1,16 @@
 // The leaving options area (document 01, "The leaving area"): the kept options are written behind the option 134, and zeros pad the area.
 use area::Kind;
 use area::Size;
+use lists::copy_octets;
+use lists::lesser;
+use lists::zero_all;
 ghost use mathlib.Core.Path.{_≡_};
-ghost use mathlib.Core.List.{_++_};
-ghost use Prim.Native.Nat.{_+_, _-_, _≤_, _<_};
-ghost use lib.ListN.{length, take, drop};
+ghost use Prim.Native.Nat.{_+_, _≤_, _<_};
+ghost use lib.ListN.{length, take};
+ghost use Rattle.lists.specs.Lists.{paint};
 ghost use Rattle.area.specs.Area.{spanOf};
 ghost use Rattle.leaving.specs.Kept.{keptLen, keptOf, restCount, restOf};
-ghost use Rattle.leaving.specs.Stages.{nextOf, lesserOf, paint, zeroed};
+ghost use Rattle.leaving.specs.Stages.{nextOf};
 
 // How far the walk goes on: over a whole option, or not at all.
 fn step(kind: Kind, size: Size) -> Size
@@ -58,18 +61,6 @@ fn next_option(rest: &[u8]) -> Next
     }
 }
 
-// Copies the first n octets of src, one kept option, to the start of dst, the rest of the output.
-fn copy_one(src: &[u8], n: usize, dst: &mut [u8])
-    requires { ⌜ (n ≤ length (now src)) × (n ≤ length (now dst)) ⌝ }
-    ensures { λ _. ⌜ now (dst .exit) ≡ take n (now (src .entry)) ++ drop n (now (dst .entry)) ⌝ }
-{
-    let mut i = 0;
-    while i < n {
-        dst[i] = src[i];
-        i = i + 1;
-    }
-}
-
 // How many octets the kept options of an area have.
 pub fn count_kept(area: &[u8]) -> usize
     ensures { λ r. ⌜ r ≡ length (keptOf (now (area .entry))) ⌝ }
@@ -87,12 +78,6 @@ pub fn count_kept(area: &[u8]) -> usize
         }
     }
     w
-}
-
-fn lesser(a: usize, b: usize) -> usize
-    ensures { λ r. ⌜ r ≡ lesserOf a b ⌝ }
-{
-    if a <= b { a } else { b }
 }
 
 // Writes the first `most` octets of the kept options of an area into out, from an octet on, and answers the octet behind them.
@@ -113,7 +98,7 @@ fn copy_kept(area: &[u8], out: &mut [u8], from: usize, most: usize) -> usize
             Next::Stop => return w,
             Next::Over { n, kept } => {
                 let m = lesser(kept, left);
-                copy_one(rest, m, &mut out[w..]);
+                copy_octets(&rest[..m], &mut out[w..]);
                 w = w + m;
                 left = left - m;
                 at = at + n;
@@ -121,18 +106,6 @@ fn copy_kept(area: &[u8], out: &mut [u8], from: usize, most: usize) -> usize
         }
     }
     w
-}
-
-// Zeros from an octet up to octet 39.
-fn zero_from(out: &mut [u8], from: usize)
-    requires { ⌜ (from ≤ 40) × (40 ≤ length (now out)) ⌝ }
-    ensures { λ _. ⌜ now (out .exit) ≡ zeroed from (now (out .entry)) ⌝ }
-{
-    let mut i = from;
-    while i < 40 {
-        out[i] = 0;
-        i = i + 1;
-    }
 }
 
 // Writes the first `kept` octets of the kept options of an area behind the first `from` octets of the output, and zeros up to octet 39; answers the
@@ -151,6 +124,6 @@ pub fn write_rest(area: &[u8], from: usize, kept: usize, out: &mut [u8]) -> usiz
         return 0;
     }
     let w = copy_kept(area, &mut out[..], from, kept);
-    zero_from(&mut out[..], w);
+    zero_all(&mut out[w..40]);
     (w + 3) / 4 * 4
 }

@@ -10,11 +10,11 @@ use lib.Dec.{eqb}
 use Rattle.lines.specs.Put.{Puts}
 use Rattle.lines.specs.Text.{leading, decimal, hexOf}
 use Rattle.lines.specs.Line.{forwardWord, dropWord, brokenLine, next, shown, forwardLine, dropLine}
-use Rattle.lines.specs.Theorems.{Whole, Fits, Longest}
+use Rattle.lines.specs.Theorems.{Whole, PutsWhole, Longest}
 use Rattle.lines.proofs.Laws.{put-sets, place-room}
 
-pub fits : Fits
-fits before n octets after answer h p =
+pub puts-whole : PutsWhole
+puts-whole before n octets after answer h p =
     record {
       buffer = p .buffer ∙ put-sets before n octets h ∙ sets-eq octets before n h;
       place = p .place ∙ place-room before n octets h;

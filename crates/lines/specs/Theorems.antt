@@ -11,8 +11,8 @@ pub record Whole (before : List ℕ) (n : ℕ) (octets : List ℕ) (after : List
   pub buffer : after ≡ take n before ++ octets ++ drop (n + length octets) before
   pub place : answer ≡ n + length octets
 
-abbrev pub Fits : Type 0
-Fits =
+abbrev pub PutsWhole : Type 0
+PutsWhole =
     (before : List ℕ) (n : ℕ) (octets after : List ℕ) (answer : ℕ)
     → n + length octets ≤ length before
     → Puts before n octets after answer

@@ -15,7 +15,7 @@ use Rattle.label.proofs.Bools.{and-left, and-right, not-yes}
 use Rattle.option.specs.Option.{domainOf, tagOf, tagLengthOf, levelOf, isEven}
 use Rattle.option.specs.Reading.{pieces}
 use Rattle.reading.specs.declared.Reading.{Reading}
-use Rattle.reading.specs.Reading.{found, refusal, firstOf, knownTag, goodLength, categoriesIn, badPlace, tagChecks, labelIn, readingBy, framed, readingOf, readingFor}
+use Rattle.reading.specs.Reading.{found, notRead, checkedReading, knownTag, goodLength, categoriesIn, badPlace, tagChecks, labelIn, readingBy, framed, readingOf, readingFor}
 
 -- What a good length says.
 pub record Lengths (t n m : ℕ) : Type 0 where
@@ -68,42 +68,42 @@ module _ (o : List ℕ) where
       let m : size + 6 - 10 ≡ tagLengthOf o - 4 = omega arith in
       ap (λ (n : ℕ). take n (drop 10 o)) m
 
-  pub stops9 : knownTag (tagOf o) ≡ false → firstOf (tagChecks o) (labelIn o) ≡ refusal 9 6
+  pub stops9 : knownTag (tagOf o) ≡ false → checkedReading (tagChecks o) (labelIn o) ≡ notRead 9 6
   unfolding tagChecks
   stops9 e = rw e
 
-  pub stops10 : knownTag (tagOf o) ≡ true → (goodLength (tagOf o) (tagLengthOf o) && leb (tagLengthOf o + 6) (length o)) ≡ false → firstOf (tagChecks o) (labelIn o) ≡ refusal 10 7
+  pub stops10 : knownTag (tagOf o) ≡ true → (goodLength (tagOf o) (tagLengthOf o) && leb (tagLengthOf o + 6) (length o)) ≡ false → checkedReading (tagChecks o) (labelIn o) ≡ notRead 10 7
   unfolding tagChecks
   stops10 e f = rw (e, f)
 
-  pub stops11 : knownTag (tagOf o) ≡ true → (goodLength (tagOf o) (tagLengthOf o) && leb (tagLengthOf o + 6) (length o)) ≡ true → (getD o 8 0 ≡ 0 → ⊥) → firstOf (tagChecks o) (labelIn o) ≡ refusal 11 8
+  pub stops11 : knownTag (tagOf o) ≡ true → (goodLength (tagOf o) (tagLengthOf o) && leb (tagLengthOf o + 6) (length o)) ≡ true → (getD o 8 0 ≡ 0 → ⊥) → checkedReading (tagChecks o) (labelIn o) ≡ notRead 11 8
   unfolding tagChecks
   stops11 e f n = rw (e, f, ne-eqb (getD o 8 0) 0 n)
 
   module _ (p : Past o) where
-    pub stops12 : (k : ℕ) → k ≡ badPlace (tagOf o) (categoriesIn o) → k < length (categoriesIn o) → firstOf (tagChecks o) (labelIn o) ≡ refusal 12 (10 + k)
+    pub stops12 : (k : ℕ) → k ≡ badPlace (tagOf o) (categoriesIn o) → k < length (categoriesIn o) → checkedReading (tagChecks o) (labelIn o) ≡ notRead 12 (10 + k)
     unfolding tagChecks
     stops12 k e h = rw (p .known, p .sized, eq-eqb (getD o 8 0) 0 (p .aligned), ← e, lt-ltb k (length (categoriesIn o)) h)
 
-    pub stops13 : length (categoriesIn o) ≤ badPlace (tagOf o) (categoriesIn o) → tagLengthOf o + 6 < length o → firstOf (tagChecks o) (labelIn o) ≡ refusal 13 (tagLengthOf o + 6)
+    pub stops13 : length (categoriesIn o) ≤ badPlace (tagOf o) (categoriesIn o) → tagLengthOf o + 6 < length o → checkedReading (tagChecks o) (labelIn o) ≡ notRead 13 (tagLengthOf o + 6)
     unfolding tagChecks
     stops13 g h = rw (p .known, p .sized, eq-eqb (getD o 8 0) 0 (p .aligned), le-ltb (badPlace (tagOf o) (categoriesIn o)) (length (categoriesIn o)) g, lt-ltb (tagLengthOf o + 6) (length o) h)
 
-    pub passes : length (categoriesIn o) ≤ badPlace (tagOf o) (categoriesIn o) → length o ≤ tagLengthOf o + 6 → firstOf (tagChecks o) (labelIn o) ≡ found (labelIn o)
+    pub passes : length (categoriesIn o) ≤ badPlace (tagOf o) (categoriesIn o) → length o ≤ tagLengthOf o + 6 → checkedReading (tagChecks o) (labelIn o) ≡ found (labelIn o)
     unfolding tagChecks
     passes g h = rw (p .known, p .sized, eq-eqb (getD o 8 0) 0 (p .aligned), le-ltb (badPlace (tagOf o) (categoriesIn o)) (length (categoriesIn o)) g, le-ltb (tagLengthOf o + 6) (length o) h)
 
 -- Rows 7 and 8.
 module _ (o : List ℕ) where
-  pub stops7 : (foreign : Bool) → length o < 10 → readingBy foreign o ≡ refusal 7 1
+  pub stops7 : (foreign : Bool) → length o < 10 → readingBy foreign o ≡ notRead 7 1
   unfolding readingBy
   stops7 foreign h = rw (lt-ltb (length o) 10 h)
 
-  pub stops8 : (foreign : Bool) → foreign ≡ true → 10 ≤ length o → readingBy foreign o ≡ refusal 8 2
+  pub stops8 : (foreign : Bool) → foreign ≡ true → 10 ≤ length o → readingBy foreign o ≡ notRead 8 2
   unfolding readingBy
   stops8 foreign e h = rw (le-ltb (length o) 10 h, e)
 
-  pub goes-on : (foreign : Bool) → foreign ≡ false → 10 ≤ length o → readingBy foreign o ≡ firstOf (tagChecks o) (labelIn o)
+  pub goes-on : (foreign : Bool) → foreign ≡ false → 10 ≤ length o → readingBy foreign o ≡ checkedReading (tagChecks o) (labelIn o)
   unfolding readingBy
   goes-on foreign e h = rw (le-ltb (length o) 10 h, e)
 
@@ -125,7 +125,7 @@ framed-parts o e =
 pub parts-framed : (o : List ℕ) → Framed o → framed o ≡ true
 parts-framed o f = rw (le-leb 2 (length o) (f .long), eq-eqb (getD o 0 0) 134 (f .kind), eq-eqb (getD o 1 0) (length o) (f .size))
 
-pub stops3 : (o : List ℕ) → (Framed o → ⊥) → readingOf o ≡ refusal 3 0
+pub stops3 : (o : List ℕ) → (Framed o → ⊥) → readingOf o ≡ notRead 3 0
 unfolding readingOf
 stops3 o n = rw (not-yes (framed o) (λ e. n (framed-parts o e)))
 

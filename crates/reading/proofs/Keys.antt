@@ -19,7 +19,7 @@ use Rattle.option.specs.Index.{firstTrue, badNumber, badPair, pairsOf}
 use Rattle.reading.specs.declared.Reading.{Reading}
 use Rattle.reading.specs.declared.KeyReading.{KeyReading}
 use Rattle.reading.specs.declared.Pass.{Pass}
-use Rattle.reading.specs.Reading.{found, refusal, firstOf, categoriesIn, badPlace, tagChecks, labelIn, readingOf, readingFor}
+use Rattle.reading.specs.Reading.{found, notRead, checkedReading, categoriesIn, badPlace, tagChecks, labelIn, readingOf, readingFor}
 use Rattle.reading.specs.Keys.{runsIn, keysIn, atFront, keyed, withLabel, labelled, early, keysWith, keyReadingFor, keysAfter, ReadsKeys}
 use Rattle.reading.specs.Stages.{PassOver, ReadsTag, AloneRead}
 use Rattle.reading.proofs.Loops.{runs-joined}
@@ -39,14 +39,14 @@ pass-five t b n m p =
     place = λ i. cond (ne-eqb t 1 n i) (length b) (cond (ne-eqb t 2 m i) 2 4 * firstTrue (λ k. cond (ne-eqb t 2 m i) (badNumber b k) (badPair b k)) (cond (ne-eqb t 2 m i) (length b / 2) (pairsOf b)))
 
 -- a refusal has the all-zero label, whatever the keys are
-pub refused-label : (d : ℕ) (keys : List ℕ) (n p : ℕ) → (n ≡ 0 → ⊥) → labelled d (keyed (refusal n p)) keys ≡ refusal n p
+pub refused-label : (d : ℕ) (keys : List ℕ) (n p : ℕ) → (n ≡ 0 → ⊥) → labelled d (keyed (notRead n p)) keys ≡ notRead n p
 refused-label d keys n p z = rw (ne-eqb n 0 z)
 
-module _ (o keys keys′ : List ℕ) (n p : ℕ) (z : n ≡ 0 → ⊥) (f : firstOf (tagChecks o) (labelIn o) ≡ refusal n p) (r : KeyReading) (q : r ≡ keyed (refusal n p)) where
+module _ (o keys keys′ : List ℕ) (n p : ℕ) (z : n ≡ 0 → ⊥) (f : checkedReading (tagChecks o) (labelIn o) ≡ notRead n p) (r : KeyReading) (q : r ≡ keyed (notRead n p)) where
   zero-count : r .count ≡ 0
   zero-count = ap (λ (x : KeyReading). x .count) q
 
-  pub refused-tag : keys′ ≡ atFront (keysWith (refusal n p) o) keys → ReadsTag o keys keys′ r
+  pub refused-tag : keys′ ≡ atFront (keysWith (notRead n p) o) keys → ReadsTag o keys keys′ r
   refused-tag e =
       record {
         answer = q ∙ ap keyed (sym f);
@@ -57,7 +57,7 @@ module _ (o keys keys′ : List ℕ) (n p : ℕ) (z : n ≡ 0 → ⊥) (f : firs
 
 -- The categories are read: the keys stand for the runs of the label.
 module _ (o keys keys′ : List ℕ) (pass : Pass) (p : PassOver (tagOf o) (categoriesIn o) keys keys′ pass) (even : (tagOf o ≡ 1 → ⊥) → length (categoriesIn o) % 2 ≡ 0)
-    (fine : length (categoriesIn o) ≤ badPlace (tagOf o) (categoriesIn o)) (f : firstOf (tagChecks o) (labelIn o) ≡ found (labelIn o)) where
+    (fine : length (categoriesIn o) ≤ badPlace (tagOf o) (categoriesIn o)) (f : checkedReading (tagChecks o) (labelIn o) ≡ found (labelIn o)) where
   whole : runsIn (tagOf o) (categoriesIn o) ≡ joined (pieces (tagOf o) (categoriesIn o))
   whole = runs-joined (tagOf o) (categoriesIn o) even fine
 
@@ -82,11 +82,11 @@ module _ (o keys keys′ : List ℕ) (pass : Pass) (p : PassOver (tagOf o) (cate
       }
 
 -- An option alone.
-module _ (o keys : List ℕ) (n p : ℕ) (z : n ≡ 0 → ⊥) (r : KeyReading) (q : r ≡ keyed (refusal n p)) where
+module _ (o keys : List ℕ) (n p : ℕ) (z : n ≡ 0 → ⊥) (r : KeyReading) (q : r ≡ keyed (notRead n p)) where
   none-held : r .count ≤ 120
   none-held = let e : r .count ≡ 0 = ap (λ (x : KeyReading). x .count) q in omega arith
 
-  pub refused-alone : readingOf o ≡ refusal n p → AloneRead o keys r
+  pub refused-alone : readingOf o ≡ notRead n p → AloneRead o keys r
   refused-alone f =
       record {
         held = none-held;
@@ -95,7 +95,7 @@ module _ (o keys : List ℕ) (n p : ℕ) (z : n ≡ 0 → ⊥) (r : KeyReading) 
       }
 
   -- For a port: refused before the categories.
-  pub refused-for : (d : ℕ) → 120 ≤ length keys → readingFor d o ≡ refusal n p → early n ≡ true → ReadsKeys d o keys keys r
+  pub refused-for : (d : ℕ) → 120 ≤ length keys → readingFor d o ≡ notRead n p → early n ≡ true → ReadsKeys d o keys keys r
   unfolding keyReadingFor keysAfter
   refused-for d h f e =
       record {
@@ -117,10 +117,10 @@ module _ (o keys : List ℕ) (n p : ℕ) (z : n ≡ 0 → ⊥) (r : KeyReading) 
       }
 
 module _ (o keys keys′ : List ℕ) (r : KeyReading) (t : ReadsTag o keys keys′ r) where
-  pub tag-alone : readingOf o ≡ firstOf (tagChecks o) (labelIn o) → 10 ≤ length o → AloneRead o keys′ r
+  pub tag-alone : readingOf o ≡ checkedReading (tagChecks o) (labelIn o) → 10 ≤ length o → AloneRead o keys′ r
   tag-alone f h = record { held = t .held; long = λ e. h; reading = t .reading ∙ sym f }
 
-  pub tag-for : (d : ℕ) → 120 ≤ length keys → domainOf o ≡ d → readingFor d o ≡ firstOf (tagChecks o) (labelIn o) → ReadsKeys d o keys keys′ r
+  pub tag-for : (d : ℕ) → 120 ≤ length keys → domainOf o ≡ d → readingFor d o ≡ checkedReading (tagChecks o) (labelIn o) → ReadsKeys d o keys keys′ r
   unfolding keyReadingFor keysAfter
   tag-for d h e f =
       record {

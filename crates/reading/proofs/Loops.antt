@@ -10,7 +10,7 @@ use native.Mathlib.Omega.{arith}
 use native.Mathlib.Numerals.{add-one}
 use Rattle.label.specs.declared.Run.{Run}
 use Rattle.label.specs.Runs.{pushRun, joined, topOf}
-use Rattle.label.proofs.Bools.{less-or}
+use Rattle.label.proofs.Bools.{less-or, same-leb}
 use Rattle.label.proofs.Canon.{canon-length}
 use Rattle.label.proofs.Push.{push-length, push-more, push-some, push-top}
 use borrow.Author.Tests.{eq-eqb, ne-eqb, eqb-false, le-leb, lt-leb, lt-ltb, le-ltb}
@@ -74,10 +74,7 @@ bad-number-is b zero next e = rw e (ap (λ (z : Bool). eqb (numberAt b zero) 655
 bad-number-is b (suc k) next e =
     let top : next ≡ numberAt b k + 1 = e ∙ push-top (numberAt b k) (numberAt b k) (rangeRuns (numberAt b) (numberAt b) k) in
     let k-is : suc k - 1 ≡ k = omega arith in
-    rw (top, k-is, lt-ltb 0 (suc k) (omega arith)) (ap (λ (z : Bool). eqb (numberAt b (suc k)) 65535 || z) (same-leb (numberAt b (suc k)) (numberAt b k)))
-  where
-    same-leb : (x y : ℕ) → leb (x + 1) (y + 1) ≡ leb x y
-    same-leb x y = ⊎-elim (λ w. lt-leb (x + 1) (y + 1) (omega arith) ∙ sym (lt-leb x y (omega arith))) (λ w. le-leb (x + 1) (y + 1) (omega arith) ∙ sym (le-leb x y w)) (less-or y x)
+    rw (top, k-is, lt-ltb 0 (suc k) (omega arith)) (ap (λ (z : Bool). eqb (numberAt b (suc k)) 65535 || z) (same-leb (numberAt b (suc k) + 1) (numberAt b k + 1) (numberAt b (suc k)) (numberAt b k) (λ h. omega arith) (λ h. omega arith)))
 
 -- Tag 5: the first bad pair of those from j on, met from the last to the first.
 pub record FirstFrom (f : ℕ → Bool) (n j bad : ℕ) : Type 0 where

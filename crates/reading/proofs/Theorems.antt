@@ -16,7 +16,7 @@ use Rattle.option.specs.Option.{Octets, domainOf, levelOf, valid, Means}
 use Rattle.option.specs.Reading.{pieces, optionRuns}
 use Rattle.option.proofs.Meaning.{parts}
 use Rattle.reading.specs.declared.Reading.{Reading}
-use Rattle.reading.specs.Reading.{found, refusal, firstOf, tagChecks, labelIn, readingBy, framed, readingOf, readingFor}
+use Rattle.reading.specs.Reading.{found, notRead, checkedReading, tagChecks, labelIn, readingBy, framed, readingOf, readingFor}
 use Rattle.reading.specs.Theorems.{ReadsAlone, ReadsFor, Reads}
 use Rattle.reading.specs.Examples.{examples, Holds}
 use Rattle.reading.proofs.Checks.{Framed, parts-framed, framed-parts, stops3, alone, for-port, stops7, stops8, goes-on}
@@ -103,7 +103,7 @@ reads-for d =
     }
 
 -- an option of another domain is refused as such
-pub port-foreign : (d : ℕ) (o : List ℕ) → valid o ≡ true → (domainOf o ≡ d → ⊥) → readingFor d o ≡ refusal 8 2
+pub port-foreign : (d : ℕ) (o : List ℕ) → valid o ≡ true → (domainOf o ≡ d → ⊥) → readingFor d o ≡ notRead 8 2
 port-foreign d o v n = for-port d o ∙ stops8 o (not (eqb (domainOf o) d)) (ap not (ne-eqb (domainOf o) d n)) (parts o v .long)
 
 pub reads : Reads

@@ -23,7 +23,7 @@ use Rattle.option.proofs.Meaning.{Parts, parts, parts-valid, Tagged, one, two, 
 use Rattle.option.proofs.Bad.{good-numbers, good-pairs}
 use Rattle.option.proofs.Only.{octet-at, octets-drop}
 use Rattle.reading.specs.declared.Reading.{Reading}
-use Rattle.reading.specs.Reading.{Check, check, found, refusal, firstOf, knownTag, goodLength, categoriesIn, countIn, badIn, badPlace, tagChecks, labelIn, framed}
+use Rattle.reading.specs.Reading.{Check, check, found, notRead, checkedReading, knownTag, goodLength, categoriesIn, countIn, badIn, badPlace, tagChecks, labelIn, framed}
 use Rattle.reading.proofs.Loops.{first-most}
 use Rattle.reading.proofs.Checks.{Lengths, lengths, good-lengths, Past, Framed, framed-parts, parts-framed, passes}
 
@@ -107,16 +107,16 @@ abbrev NoneApplies : List Check → Type 0
 NoneApplies [] = Unit {0}
 NoneApplies (c ∷ cs) = (c .applies ≡ false) × NoneApplies cs
 
-zero-none : (cs : List Check) (l : Label) → Numbered cs → firstOf cs l .number ≡ 0 → NoneApplies cs
+zero-none : (cs : List Check) (l : Label) → Numbered cs → checkedReading cs l .number ≡ 0 → NoneApplies cs
 zero-none [] l h e = tt
 zero-none (c ∷ cs) l h e = go (c .applies) refl (zero-none cs l (h .1)) e
   where
-    go : (b : Bool) → c .applies ≡ b → (firstOf cs l .number ≡ 0 → NoneApplies cs) → (cond b (refusal (c .number) (c .pointer)) (firstOf cs l)) .number ≡ 0 → NoneApplies (c ∷ cs)
+    go : (b : Bool) → c .applies ≡ b → (checkedReading cs l .number ≡ 0 → NoneApplies cs) → (cond b (notRead (c .number) (c .pointer)) (checkedReading cs l)) .number ≡ 0 → NoneApplies (c ∷ cs)
     go true p rest q = absurd (omega arith)
     go false p rest q = (p, rest q)
 
 module _ (o : List ℕ) where
-  pub zero-passed : firstOf (tagChecks o) (labelIn o) .number ≡ 0 → Passed o
+  pub zero-passed : checkedReading (tagChecks o) (labelIn o) .number ≡ 0 → Passed o
   unfolding tagChecks
   zero-passed e =
       let n = zero-none (tagChecks o) (labelIn o) (omega arith, (omega arith, (omega arith, (omega arith, (omega arith, tt))))) e in
@@ -172,7 +172,7 @@ module _ (o : List ℕ) where
           ends = omega arith;
         }
 
-    pub valid-passes : valid o ≡ true → firstOf (tagChecks o) (labelIn o) ≡ found (labelOf (domainOf o) (levelOf o) (optionRuns o))
+    pub valid-passes : valid o ≡ true → checkedReading (tagChecks o) (labelIn o) ≡ found (labelOf (domainOf o) (levelOf o) (optionRuns o))
     valid-passes v =
         let q = valid-passed v in
         passes o (q .past) (q .fine) (q .ends) ∙ ap found (label-of (parts o v .tag-size))

@@ -14,7 +14,7 @@ use Rattle.option.specs.Index.{setRuns, rangeRuns, firstTrue, numberAt, badNumb
 use Rattle.reading.specs.declared.Reading.{Reading}
 use Rattle.reading.specs.declared.KeyReading.{KeyReading}
 use Rattle.reading.specs.declared.Pass.{Pass}
-use Rattle.reading.specs.Reading.{categoriesIn, badPlace, firstOf, tagChecks, labelIn, readingOf, readingFor}
+use Rattle.reading.specs.Reading.{categoriesIn, badPlace, checkedReading, tagChecks, labelIn, readingOf, readingFor}
 
 -- the runs that are written of a tag's categories: tag 2 ends before its first bad number, tags 1 and 5 go on to their end
 abbrev pub runsIn : ℕ → List ℕ → List Run

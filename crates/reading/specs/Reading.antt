@@ -18,8 +18,8 @@ abbrev pub found : Label → Reading
 found l = record { number = 0; pointer = 0; label = l }
 
 -- a refusal: its number, its place, and the all-zero label
-abbrev pub refusal : ℕ → ℕ → Reading
-refusal n p = record { number = n; pointer = p; label = zeroLabel }
+abbrev pub notRead : ℕ → ℕ → Reading
+notRead n p = record { number = n; pointer = p; label = zeroLabel }
 
 -- a row of the table: when it applies, its number and its pointer
 pub record Check : Type 0 where
@@ -31,9 +31,9 @@ abbrev pub check : Bool → ℕ → ℕ → Check
 check b n p = record { applies = b; number = n; pointer = p }
 
 -- the first check that applies decides; where none does, the label is found
-abbrev pub firstOf : List Check → Label → Reading
-firstOf [] l = found l
-firstOf (c ∷ cs) l = cond (c .applies) (refusal (c .number) (c .pointer)) (firstOf cs l)
+abbrev pub checkedReading : List Check → Label → Reading
+checkedReading [] l = found l
+checkedReading (c ∷ cs) l = cond (c .applies) (notRead (c .number) (c .pointer)) (checkedReading cs l)
 
 abbrev pub knownTag : ℕ → Bool
 knownTag t = eqb t 1 || (eqb t 2 || eqb t 5)
@@ -75,7 +75,7 @@ labelIn o = labelOf (domainOf o) (levelOf o) (joined (pieces (tagOf o) (categori
 
 -- rows 7 to 13, in the numbers' order whatever the octet's place
 unfoldable pub readingBy : Bool → List ℕ → Reading
-readingBy foreign o = firstOf (check (ltb (length o) 10) 7 1 ∷ check foreign 8 2 ∷ tagChecks o) (labelIn o)
+readingBy foreign o = checkedReading (check (ltb (length o) 10) 7 1 ∷ check foreign 8 2 ∷ tagChecks o) (labelIn o)
 
 -- begins with 134 and fills its buffer
 abbrev pub framed : List ℕ → Bool
@@ -83,7 +83,7 @@ framed o = leb 2 (length o) && (eqb (getD o 0 0) 134 && eqb (getD o 1 0) (length
 
 -- one option read alone: 3 where it does not begin with 134 or fill its buffer; 8 for domain 0 only
 unfoldable pub readingOf : List ℕ → Reading
-readingOf o = cond (framed o) (readingBy (eqb (domainOf o) 0) o) (refusal 3 0)
+readingOf o = cond (framed o) (readingBy (eqb (domainOf o) 0) o) (notRead 3 0)
 
 -- the option 134 of an area, read for a port of this domain
 unfoldable pub readingFor : ℕ → List ℕ → Reading

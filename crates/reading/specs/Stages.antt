@@ -14,7 +14,7 @@ use Rattle.option.specs.Index.{bottomAt}
 use Rattle.reading.specs.declared.Last.{Last}
 use Rattle.reading.specs.declared.KeyReading.{KeyReading}
 use Rattle.reading.specs.declared.Pass.{Pass}
-use Rattle.reading.specs.Reading.{badPlace, firstOf, tagChecks, labelIn, readingOf}
+use Rattle.reading.specs.Reading.{badPlace, checkedReading, tagChecks, labelIn, readingOf}
 use Rattle.reading.specs.Keys.{runsIn, keysIn, atFront, keyed, labelled, keysWith}
 
 -- the low of the last run, or 0 where there is none
@@ -40,10 +40,10 @@ limitAt b j = cond (eqb j 0) 65535 (bottomAt b (j - 1))
 
 -- what rows 9 to 13 answer and leave, as `ReadsKeys` says it of an area's option
 pub record ReadsTag (o keys keys′ : List ℕ) (r : KeyReading) : Type 0 where
-  pub answer : r ≡ keyed (firstOf (tagChecks o) (labelIn o))
-  pub left : keys′ ≡ atFront (keysWith (firstOf (tagChecks o) (labelIn o)) o) keys
+  pub answer : r ≡ keyed (checkedReading (tagChecks o) (labelIn o))
+  pub left : keys′ ≡ atFront (keysWith (checkedReading (tagChecks o) (labelIn o)) o) keys
   pub held : r .count ≤ 120
-  pub reading : labelled (domainOf o) r keys′ ≡ firstOf (tagChecks o) (labelIn o)
+  pub reading : labelled (domainOf o) r keys′ ≡ checkedReading (tagChecks o) (labelIn o)
 
 -- and of an option alone
 pub record AloneRead (o keys′ : List ℕ) (r : KeyReading) : Type 0 where

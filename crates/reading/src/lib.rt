@@ -10,7 +10,7 @@ ghost use Rattle.label.specs.Keys.{runKey};
 ghost use Rattle.option.specs.Option.{domainOf};
 ghost use Rattle.option.specs.Index.{numberAt, bottomAt};
 ghost use Rattle.reading.specs.Stages.{afterPiece, limitAt, PassOver, ReadsTag, AloneRead};
-ghost use Rattle.reading.specs.Reading.{refusal, knownTag, goodLength, readingOf};
+ghost use Rattle.reading.specs.Reading.{notRead, knownTag, goodLength, readingOf};
 ghost use Rattle.reading.specs.Keys.{keyed, withLabel, ReadsKeys};
 use bitmap::read_bitmap;
 use label::Label;
@@ -49,7 +49,7 @@ pub struct Last {
 }
 
 fn refuse(number: u8, pointer: usize) -> KeyReading
-    ensures { λ r. ⌜ r ≡ keyed (refusal number pointer) ⌝ }
+    ensures { λ r. ⌜ r ≡ keyed (notRead number pointer) ⌝ }
 {
     KeyReading {
         number: number,

@@ -23,7 +23,7 @@ use Rattle.table.proofs.Sound.{sound}
 use Rattle.table.proofs.Order.{order-length}
 use Rattle.renumber.specs.declared.Renumbered.{Renumbered}
 use Rattle.renumber.specs.declared.Carried.{Carried}
-use Rattle.renumber.specs.Renumber.{refusal, fitted, imageOf, imageRuns, whenNumbered, renumberedOf, carriedOf}
+use Rattle.renumber.specs.Renumber.{notRenumbered, fitted, imageOf, imageRuns, whenNumbered, renumberedOf, carriedOf}
 use Rattle.renumber.specs.Carry.{labelRuns, carriedTo}
 use Rattle.renumber.specs.Stages.{Ready}
 use Rattle.renumber.proofs.Carrying.{runs-label}
@@ -32,7 +32,7 @@ image-length : (n : ℕ) (ks : List ℕ) (xs : List Run) → keyRuns (take n ks)
 image-length n ks xs e h = ap length (sym e) ∙ rw length-map (length-take-le n ks h)
 
 module _ (d v n : ℕ) (ks : List ℕ) (h : n ≤ length ks) where
-  pub fitted-many : 120 < n → refusal 18 ≡ fitted d v (keyRuns (take n ks))
+  pub fitted-many : 120 < n → notRenumbered 18 ≡ fitted d v (keyRuns (take n ks))
   fitted-many m = let z = image-length n ks (keyRuns (take n ks)) refl h in simp (lt-leb (length (keyRuns (take n ks))) 120 (omega arith))
 
   pub fitted-done : n ≤ 120 → _≡_ {A = Renumbered} (record { number = 0; label = labelFrom d v (keyRuns (take n ks)) }) (fitted d v (keyRuns (take n ks)))
@@ -41,7 +41,7 @@ module _ (d v n : ℕ) (ks : List ℕ) (h : n ≤ length ks) where
 
 -- What was carried, and what was not.
 module _ (image : List Run) (c : Carried) where
-  missed : (p : Partner) (all : Bool) → c ≡ carriedTo p all image → (f : ℕ → Renumbered) → (c .number ≡ 0 → ⊥) → refusal 16 ≡ whenNumbered p all f
+  missed : (p : Partner) (all : Bool) → c ≡ carriedTo p all image → (f : ℕ → Renumbered) → (c .number ≡ 0 → ⊥) → notRenumbered 16 ≡ whenNumbered p all f
   unfolding carriedTo
   missed Missing all k f h = refl
   missed (Level v) true k f h = absurd (h (ap (λ (z : Carried). z .number) k))
@@ -60,16 +60,16 @@ module _ (image : List Run) (c : Carried) where
   found-count (Level v) false k h = let z : c .number ≡ 16 = ap (λ (z : Carried). z .number) k in absurd (omega arith)
 
 module _ (l : Label) (t : Table) (ls : List (List ℕ)) where
-  pub renumbered-unsound : tableSound t ls ≡ false → refusal 2 ≡ renumberedOf l t ls
+  pub renumbered-unsound : tableSound t ls ≡ false → notRenumbered 2 ≡ renumberedOf l t ls
   unfolding renumberedOf
   renumbered-unsound s = simp s
 
-  pub renumbered-ill : wellFormed l ≡ false → refusal 2 ≡ renumberedOf l t ls
+  pub renumbered-ill : wellFormed l ≡ false → notRenumbered 2 ≡ renumberedOf l t ls
   unfolding renumberedOf
   renumbered-ill w = simp (w, and-false)
 
   module _ (s : tableSound t ls ≡ true) (w : wellFormed l ≡ true) where
-    pub renumbered-foreign : (l .domain ≡ t .from → ⊥) → refusal 16 ≡ renumberedOf l t ls
+    pub renumbered-foreign : (l .domain ≡ t .from → ⊥) → notRenumbered 16 ≡ renumberedOf l t ls
     unfolding renumberedOf
     renumbered-foreign d = simp (s, w, ne-eqb _ _ d)
 
@@ -87,7 +87,7 @@ module _ (l : Label) (t : Table) (ls : List (List ℕ)) where
         here : c ≡ carriedTo (partnerOf (take (t .pairs) ls) (l .level)) (numbered (usedRows t) (used l)) (imageRuns l t)
         here = rw q at k
 
-        pub renumbered-missed : (c .number ≡ 0 → ⊥) → refusal 16 ≡ renumberedOf l t ls
+        pub renumbered-missed : (c .number ≡ 0 → ⊥) → notRenumbered 16 ≡ renumberedOf l t ls
         renumbered-missed h = missed (imageRuns l t) c _ _ here (λ v. fitted (t .to) v (imageRuns l t)) h ∙ renumbered-as
 
         pub renumbered-found : c .number ≡ 0 → fitted (t .to) (c .level) (imageRuns l t) ≡ renumberedOf l t ls
@@ -95,7 +95,7 @@ module _ (l : Label) (t : Table) (ls : List (List ℕ)) where
 
   -- Toward a range.
   module _ (lowest highest : Label) (v : ℕ) (p : partnerOf (take (t .pairs) ls) (l .level) ≡ Level v) where
-    pub carried-outside : numbered (usedRows t) (used l) ≡ true → setInRange lowest highest v (imageRuns l t) ≡ false → refusal 17 ≡ carriedOf l t ls lowest highest
+    pub carried-outside : numbered (usedRows t) (used l) ≡ true → setInRange lowest highest v (imageRuns l t) ≡ false → notRenumbered 17 ≡ carriedOf l t ls lowest highest
     unfolding carriedOf
     carried-outside n r = simp (p, n, r)
 

@@ -12,7 +12,7 @@ use lib.Seq.{take-suc, getD-drop}
 use borrow.Author.Tests.{le-leb, lt-leb, leb-true, leb-false}
 use Rattle.label.specs.declared.Run.{Run}
 use Rattle.label.specs.Runs.{inRun, covers, spaced}
-use Rattle.label.proofs.Bools.{and-left, and-right, and-both}
+use Rattle.label.proofs.Bools.{and-left, and-right, and-both, same-leb}
 use Rattle.label.proofs.Runs.{first, lower, covers-append}
 use Rattle.table.specs.declared.Row.{Row}
 use Rattle.table.specs.Table.{noRow, targetEnd, rising, targetsApart}
@@ -39,9 +39,6 @@ partHigh r x = min (x .high) (r .high)
 
 abbrev pub part : Row → Run → ℕ
 part r x = pieceKey r (partLow r x) (partHigh r x)
-
-same-leb : (a b c d : ℕ) → (a ≤ b → c ≤ d) → (c ≤ d → a ≤ b) → leb a b ≡ leb c d
-same-leb a b c d h k = elim (decLe a b) [ yes u ↦ simp (le-leb a b u, le-leb c d (h u)) | no u ↦ simp (lt-leb a b (omega arith), lt-leb c d (let n : (c ≤ d → ⊥) = λ v. u (k v) in omega arith)) ]
 
 -- over plain numbers
 first-from : (t base f a b lo : ℕ) → base ≤ f → f ≤ a → lo ≤ (t + (f - base)) * 65536 → lo ≤ (t + (a - base)) * 65536 + (t + (b - base))

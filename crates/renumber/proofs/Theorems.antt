@@ -25,7 +25,7 @@ use Rattle.table.specs.Numbers.{partnerOf, sends, numbered, inImage}
 use Rattle.table.proofs.Sound.{sound, Rows, sound-rows}
 use Rattle.table.proofs.Numbers.{one-category, one-number, has-number, number-has, partners-order, partner-level, Ordered}
 use Rattle.renumber.specs.declared.Renumbered.{Renumbered}
-use Rattle.renumber.specs.Renumber.{refusal, done, imageRuns, fitted, whenNumbered, renumberedOf, carriedOf}
+use Rattle.renumber.specs.Renumber.{notRenumbered, renumberedAs, imageRuns, fitted, whenNumbered, renumberedOf, carriedOf}
 use Rattle.renumber.specs.Theorems.{Far, Renumbering, Agrees, Carried, Carrying, KeepsOrder, KeepsJoins}
 use Rattle.renumber.proofs.Sets.{set-covers, set-spaced, the-runs}
 use Rattle.renumber.proofs.Pass.{numbered-yes, numbered-all, image-hits, sends-hits, hits-sends}
@@ -41,29 +41,29 @@ pub record Led (l : Label) (t : Table) (ls : List (List ℕ)) (m : Label) : Type
   pub fits : length (imageRuns l t) ≤ 120
   pub label : m ≡ labelOf (t .to) (m .level) (imageRuns l t)
 
-not-done : (n : ℕ) (m : Label) → (n ≡ 0 → ⊥) → refusal n ≡ done m → ⊥
+not-done : (n : ℕ) (m : Label) → (n ≡ 0 → ⊥) → notRenumbered n ≡ renumberedAs m → ⊥
 not-done n m h e = h (ap (λ (r : Renumbered). r .number) e)
 
-fitted-led : (d v : ℕ) (rs : List Run) (m : Label) → fitted d v rs ≡ done m → (length rs ≤ 120) × (m ≡ labelOf d v rs)
+fitted-led : (d v : ℕ) (rs : List Run) (m : Label) → fitted d v rs ≡ renumberedAs m → (length rs ≤ 120) × (m ≡ labelOf d v rs)
 fitted-led d v rs m e = go (leb (length rs) 120) refl e
   where
-    go : (b : Bool) → leb (length rs) 120 ≡ b → cond b (done (labelOf d v rs)) (refusal 18) ≡ done m → (length rs ≤ 120) × (m ≡ labelOf d v rs)
+    go : (b : Bool) → leb (length rs) 120 ≡ b → cond b (renumberedAs (labelOf d v rs)) (notRenumbered 18) ≡ renumberedAs m → (length rs ≤ 120) × (m ≡ labelOf d v rs)
     go true q k = (leb-true _ _ q, sym (ap (λ (r : Renumbered). r .label) k))
     go false q k = absurd (not-done 18 m (λ z. omega arith) k)
 
-when-led : (p : Partner) (b : Bool) (f : ℕ → Renumbered) (m : Label) → whenNumbered p b f ≡ done m → (v : ℕ) × (p ≡ Level v) × (b ≡ true) × (f v ≡ done m)
+when-led : (p : Partner) (b : Bool) (f : ℕ → Renumbered) (m : Label) → whenNumbered p b f ≡ renumberedAs m → (v : ℕ) × (p ≡ Level v) × (b ≡ true) × (f v ≡ renumberedAs m)
 when-led Missing b f m e = absurd (not-done 16 m (λ z. omega arith) e)
 when-led (Level v) true f m e = (v, refl, refl, e)
 when-led (Level v) false f m e = absurd (not-done 16 m (λ z. omega arith) e)
 
-pub led : (l : Label) (t : Table) (ls : List (List ℕ)) (m : Label) → renumberedOf l t ls ≡ done m → Led l t ls m
+pub led : (l : Label) (t : Table) (ls : List (List ℕ)) (m : Label) → renumberedOf l t ls ≡ renumberedAs m → Led l t ls m
 unfolding renumberedOf
 led l t ls m e = go (tableSound t ls) (wellFormed l) (eqb (l .domain) (t .from)) refl refl refl e
   where
     rest : Renumbered
     rest = whenNumbered (partnerOf (take (t .pairs) ls) (l .level)) (numbered (usedRows t) (used l)) (λ v. fitted (t .to) v (imageRuns l t))
 
-    go : (a b c : Bool) → tableSound t ls ≡ a → wellFormed l ≡ b → eqb (l .domain) (t .from) ≡ c → cond (a && b) (cond c rest (refusal 16)) (refusal 2) ≡ done m → Led l t ls m
+    go : (a b c : Bool) → tableSound t ls ≡ a → wellFormed l ≡ b → eqb (l .domain) (t .from) ≡ c → cond (a && b) (cond c rest (notRenumbered 16)) (notRenumbered 2) ≡ renumberedAs m → Led l t ls m
     go true true true p q r k =
         let w = when-led (partnerOf (take (t .pairs) ls) (l .level)) (numbered (usedRows t) (used l)) (λ v. fitted (t .to) v (imageRuns l t)) m k in
         let f = fitted-led (t .to) (w .0) (imageRuns l t) m (w .3) in
@@ -120,7 +120,7 @@ module _ (l : Label) (t : Table) (ls : List (List ℕ)) (s : tableSound t ls ≡
   far-numbered : (m : Label) → Far l t ls m → numbered (usedRows t) (used l) ≡ true
   far-numbered m f = numbered-yes (usedRows t) (used l) (λ c h. f .whole c (member-is l w c ∙ h))
 
-right : (l : Label) (t : Table) (ls : List (List ℕ)) (m : Label) → renumberedOf l t ls ≡ done m → Far l t ls m
+right : (l : Label) (t : Table) (ls : List (List ℕ)) (m : Label) → renumberedOf l t ls ≡ renumberedAs m → Far l t ls m
 right l t ls m e =
     let k = led l t ls m e in
     let s = sound t ls (k .sound) in
@@ -152,14 +152,14 @@ only l t ls m n f g =
     same-level : {p : Partner} {a b : ℕ} → p ≡ Level a → p ≡ Level b → a ≡ b
     same-level x y = cc
 
-found : (l : Label) (t : Table) (ls : List (List ℕ)) (m : Label) → tableSound t ls ≡ true → wellFormed l ≡ true → l .domain ≡ t .from → Far l t ls m → renumberedOf l t ls ≡ done m
+found : (l : Label) (t : Table) (ls : List (List ℕ)) (m : Label) → tableSound t ls ≡ true → wellFormed l ≡ true → l .domain ≡ t .from → Far l t ls m → renumberedOf l t ls ≡ renumberedAs m
 found l t ls m s w d f =
     let u = far-runs l t ls s w m f in
     let g = formed m (f .formed) in
     let n : length (imageRuns l t) ≤ 120 = omega (arith, ap length (sym u), used-length m g, g .held) in
     let same : labelOf (t .to) (m .level) (imageRuns l t) ≡ m = (λ i. labelOf (sym (f .domain) i) (m .level) (sym u i)) ∙ sym (of-used m g) in
     sym (renumbered-fitted l t ls s w d (m .level) (f .level) (far-numbered l t ls s w m f))
-    ∙ simp (le-leb (length (imageRuns l t)) 120 n) (ap done same)
+    ∙ simp (le-leb (length (imageRuns l t)) 120 n) (ap renumberedAs same)
 
 pub renumbering : Renumbering
 renumbering = record { right = right; only = only; found = found }
@@ -183,7 +183,7 @@ held-label lo hi m wl wh wm p q =
 
 -- the same with the runs of the far set
 held-image : (l : Label) (t : Table) (ls : List (List ℕ)) (lowest highest m : Label) → wellFormed lowest ≡ true → wellFormed highest ≡ true → lowest .domain ≡ t .to → highest .domain ≡ t .to
-    → renumberedOf l t ls ≡ done m → setInRange lowest highest (m .level) (imageRuns l t) ≡ inRange lowest highest m
+    → renumberedOf l t ls ≡ renumberedAs m → setInRange lowest highest (m .level) (imageRuns l t) ≡ inRange lowest highest m
 held-image l t ls lo hi m wl wh p q e =
     let k = led l t ls m e in
     let f = right l t ls m e in
@@ -193,7 +193,7 @@ held-image l t ls lo hi m wl wh p q e =
 pub agrees : Agrees
 agrees l t ls lo hi m wl wh p q e = go (inRange lo hi m) refl
   where
-    go : (b : Bool) → inRange lo hi m ≡ b → carriedOf l t ls lo hi ≡ cond b (done m) (refusal 17)
+    go : (b : Bool) → inRange lo hi m ≡ b → carriedOf l t ls lo hi ≡ cond b (renumberedAs m) (notRenumbered 17)
     go true r =
         let k = led l t ls m e in
         let h = held-image l t ls lo hi m wl wh p q e ∙ r in
@@ -208,13 +208,13 @@ agrees l t ls lo hi m wl wh p q e = go (inRange lo hi m) refl
 pub carrying : Carrying
 unfolding carriedOf
 carrying l t ls lo hi m w s d wl wh p q e =
-    let k = when-led (partnerOf (take (t .pairs) ls) (l .level)) (numbered (usedRows t) (used l)) (λ v. cond (setInRange lo hi v (imageRuns l t)) (fitted (t .to) v (imageRuns l t)) (refusal 17)) m e in
+    let k = when-led (partnerOf (take (t .pairs) ls) (l .level)) (numbered (usedRows t) (used l)) (λ v. cond (setInRange lo hi v (imageRuns l t)) (fitted (t .to) v (imageRuns l t)) (notRenumbered 17)) m e in
     go (k .0) (k .1) (k .2) (setInRange lo hi (k .0) (imageRuns l t)) refl (k .3)
   where
     go : (v : ℕ) → partnerOf (take (t .pairs) ls) (l .level) ≡ Level v → numbered (usedRows t) (used l) ≡ true
-        → (b : Bool) → setInRange lo hi v (imageRuns l t) ≡ b → cond b (fitted (t .to) v (imageRuns l t)) (refusal 17) ≡ done m → Carried l t ls lo hi m
+        → (b : Bool) → setInRange lo hi v (imageRuns l t) ≡ b → cond b (fitted (t .to) v (imageRuns l t)) (notRenumbered 17) ≡ renumberedAs m → Carried l t ls lo hi m
     go v x n true r z =
-        let a : renumberedOf l t ls ≡ done m = sym (renumbered-fitted l t ls s w d v x n) ∙ z in
+        let a : renumberedOf l t ls ≡ renumberedAs m = sym (renumbered-fitted l t ls s w d v x n) ∙ z in
         let u : m .level ≡ v = ap (λ (y : Label). y .level) (fitted-led (t .to) v (imageRuns l t) m z .1) in
         record {
           far = right l t ls m a;

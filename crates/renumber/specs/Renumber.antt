@@ -17,11 +17,11 @@ use Rattle.renumber.specs.declared.Renumbered.{Renumbered}
 use Rattle.renumber.specs.Sets.{runsOf}
 
 -- a refusal comes with an all-zero label
-abbrev pub refusal : ℕ → Renumbered
-refusal n = record { number = n; label = zeroLabel }
+abbrev pub notRenumbered : ℕ → Renumbered
+notRenumbered n = record { number = n; label = zeroLabel }
 
-abbrev pub done : Label → Renumbered
-done l = record { number = 0; label = l }
+abbrev pub renumberedAs : Label → Renumbered
+renumberedAs l = record { number = 0; label = l }
 
 -- the numbers of the runs' categories, the whole set: it may have more runs than a label holds
 abbrev pub imageOf : Table → List Run → List Run
@@ -33,12 +33,12 @@ imageRuns l t = imageOf t (used l)
 
 -- 18 over 120 runs, else the label of the far domain and level
 abbrev pub fitted : ℕ → ℕ → List Run → Renumbered
-fitted d v rs = cond (leb (length rs) 120) (done (labelOf d v rs)) (refusal 18)
+fitted d v rs = cond (leb (length rs) 120) (renumberedAs (labelOf d v rs)) (notRenumbered 18)
 
 -- 16 where the level has no partner or a category has no number, else the answer for the level's partner
 abbrev pub whenNumbered : Partner → Bool → (ℕ → Renumbered) → Renumbered
-whenNumbered Missing all answer = refusal 16
-whenNumbered (Level v) all answer = cond all (answer v) (refusal 16)
+whenNumbered Missing all answer = notRenumbered 16
+whenNumbered (Level v) all answer = cond all (answer v) (notRenumbered 16)
 
 -- renumbering asked alone: 2 for an unsound table or an ill-formed label, then 16 (also for a foreign domain), then 18
 unfoldable pub renumberedOf : Label → Table → List (List ℕ) → Renumbered
@@ -46,12 +46,12 @@ renumberedOf l t ls =
     cond (tableSound t ls && wellFormed l)
     (cond (eqb (l .domain) (t .from))
     (whenNumbered (partnerOf (take (t .pairs) ls) (l .level)) (numbered (usedRows t) (used l)) (λ v. fitted (t .to) v (imageRuns l t)))
-    (refusal 16))
-    (refusal 2)
+    (notRenumbered 16))
+    (notRenumbered 2)
 
 -- forward's renumbering of a well-formed label by a sound table from its domain, toward a range of the far domain: 16, then 17, then 18.
 -- "An over-large renumbered set is 18 unless 17 applies": the whole set is held against the range
 unfoldable pub carriedOf : Label → Table → List (List ℕ) → Label → Label → Renumbered
 carriedOf l t ls lowest highest =
     whenNumbered (partnerOf (take (t .pairs) ls) (l .level)) (numbered (usedRows t) (used l))
-    (λ v. cond (setInRange lowest highest v (imageRuns l t)) (fitted (t .to) v (imageRuns l t)) (refusal 17))
+    (λ v. cond (setInRange lowest highest v (imageRuns l t)) (fitted (t .to) v (imageRuns l t)) (notRenumbered 17))

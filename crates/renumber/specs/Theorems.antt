@@ -10,7 +10,7 @@ use Rattle.table.specs.declared.Table.{Table}
 use Rattle.table.specs.declared.Partner.the-variants.{Level}
 use Rattle.table.specs.Table.{usedRows, tableSound}
 use Rattle.table.specs.Numbers.{partnerOf, hasNumber, sends}
-use Rattle.renumber.specs.Renumber.{refusal, done, renumberedOf, carriedOf}
+use Rattle.renumber.specs.Renumber.{notRenumbered, renumberedAs, renumberedOf, carriedOf}
 
 -- m is the label l in the far domain: well formed, of that domain, at the partner of its level, every category of l has a number, and a
 -- category is in m exactly when it is the number of a category of l
@@ -24,14 +24,14 @@ pub record Far (l : Label) (t : Table) (ls : List (List ℕ)) (m : Label) : Type
 
 -- renumbering gives that label, it is the only one, and it is given wherever there is one: nothing is cut and nothing refused without need
 pub record Renumbering : Type 0 where
-  pub right : (l : Label) (t : Table) (ls : List (List ℕ)) (m : Label) → renumberedOf l t ls ≡ done m → Far l t ls m
+  pub right : (l : Label) (t : Table) (ls : List (List ℕ)) (m : Label) → renumberedOf l t ls ≡ renumberedAs m → Far l t ls m
   pub only : (l : Label) (t : Table) (ls : List (List ℕ)) (m n : Label) → Far l t ls m → Far l t ls n → m ≡ n
   pub found : (l : Label) (t : Table) (ls : List (List ℕ)) (m : Label)
       → tableSound t ls ≡ true
       → wellFormed l ≡ true
       → l .domain ≡ t .from
       → Far l t ls m
-      → renumberedOf l t ls ≡ done m
+      → renumberedOf l t ls ≡ renumberedAs m
 
 -- where the set fits a label, forward's renumbering is renumbering, and then the test of the range
 abbrev pub Agrees : Type 0
@@ -41,8 +41,8 @@ Agrees =
     → wellFormed highest ≡ true
     → lowest .domain ≡ t .to
     → highest .domain ≡ t .to
-    → renumberedOf l t ls ≡ done m
-    → carriedOf l t ls lowest highest ≡ cond (inRange lowest highest m) (done m) (refusal 17)
+    → renumberedOf l t ls ≡ renumberedAs m
+    → carriedOf l t ls lowest highest ≡ cond (inRange lowest highest m) (renumberedAs m) (notRenumbered 17)
 
 -- what forward's renumbering gives is the label in the far domain, and lies in the range
 pub record Carried (l : Label) (t : Table) (ls : List (List ℕ)) (lowest highest m : Label) : Type 0 where
@@ -59,15 +59,15 @@ Carrying =
     → wellFormed highest ≡ true
     → lowest .domain ≡ t .to
     → highest .domain ≡ t .to
-    → carriedOf l t ls lowest highest ≡ done m
+    → carriedOf l t ls lowest highest ≡ renumberedAs m
     → Carried l t ls lowest highest m
 
 -- one label is at most another before exactly when it is after
 abbrev pub KeepsOrder : Type 0
 KeepsOrder =
     (a b : Label) (t : Table) (ls : List (List ℕ)) (m n : Label)
-    → renumberedOf a t ls ≡ done m
-    → renumberedOf b t ls ≡ done n
+    → renumberedOf a t ls ≡ renumberedAs m
+    → renumberedOf b t ls ≡ renumberedAs n
     → leq a b ≡ leq m n
 
 -- j has the higher level and all categories of either
@@ -83,7 +83,7 @@ abbrev pub KeepsJoins : Type 0
 KeepsJoins =
     (a b j : Label) (t : Table) (ls : List (List ℕ)) (m n k : Label)
     → Join a b j
-    → renumberedOf a t ls ≡ done m
-    → renumberedOf b t ls ≡ done n
-    → renumberedOf j t ls ≡ done k
+    → renumberedOf a t ls ≡ renumberedAs m
+    → renumberedOf b t ls ≡ renumberedAs n
+    → renumberedOf j t ls ≡ renumberedAs k
     → Join m n k

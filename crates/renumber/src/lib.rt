@@ -7,7 +7,7 @@ ghost use Rattle.label.specs.Runs.{spaced};
 ghost use Rattle.label.specs.Keys.{keyRuns};
 ghost use Rattle.table.specs.Table.{usedRows, targetEnd, rowsSound};
 ghost use Rattle.table.specs.Numbers.{partnerOf, numbered};
-ghost use Rattle.renumber.specs.Renumber.{refusal, fitted, imageOf, renumberedOf};
+ghost use Rattle.renumber.specs.Renumber.{notRenumbered, fitted, imageOf, renumberedOf};
 ghost use Rattle.renumber.specs.Carry.{labelRuns, notCarried, carriedTo, carriedKeys, carryOf};
 ghost use Rattle.renumber.specs.Stages.{stretched, pushKey, joinOnto, pieceKey, rowPieces, Ready, Starts, Gathered};
 use label::Label;
@@ -134,7 +134,7 @@ fn fewer(a: usize, b: usize) -> usize
 }
 
 fn refused(number: u8) -> Renumbered
-    ensures { λ r. ⌜ r ≡ refusal number ⌝ }
+    ensures { λ r. ⌜ r ≡ notRenumbered number ⌝ }
 {
     let none = Label::empty(0, 0);
     Renumbered {

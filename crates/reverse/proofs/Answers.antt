@@ -15,7 +15,7 @@ use Rattle.table.proofs.Order.{order-length}
 use Rattle.renumber.proofs.Answers.{order-sized}
 use Rattle.reverse.specs.declared.Reversed.{Reversed}
 use Rattle.reverse.specs.declared.Head.{Head}
-use Rattle.reverse.specs.Reverse.{turnedRows, reverseTable, zeroTable, reversedOf, noHead, headOf, rowNumbers, withRows}
+use Rattle.reverse.specs.Reverse.{turnedRows, reverseTable, zeroTable, reversedOf, noHead, reverseHead, rowNumbers, withRows}
 use Rattle.reverse.specs.Stages.{InOrder}
 use Rattle.reverse.proofs.Tables.{used-length}
 
@@ -40,16 +40,16 @@ module _ (t : Table) (ls : List (List ℕ)) where
   unfolding reversedOf
   reversed-sound b s e = sym (rw s (λ i. record { number = 0; table = sym e i }))
 
-  pub head-unsound : (room : ℕ) → tableSound t ls ≡ false → noHead 2 ≡ headOf t ls room
-  unfolding headOf
+  pub head-unsound : (room : ℕ) → tableSound t ls ≡ false → noHead 2 ≡ reverseHead t ls room
+  unfolding reverseHead
   head-unsound room s = sym (rw s)
 
   pub rows-unsound : (was : List ℕ) → tableSound t ls ≡ false → was ≡ withRows t ls was
   unfolding withRows
   rows-unsound was s = sym (rw s)
 
-  pub head-short : (room : ℕ) → tableSound t ls ≡ true → room < t .count → noHead 24 ≡ headOf t ls room
-  unfolding headOf
+  pub head-short : (room : ℕ) → tableSound t ls ≡ true → room < t .count → noHead 24 ≡ reverseHead t ls room
+  unfolding reverseHead
   head-short room s h = sym (rw (s, lt-leb (t .count) room h))
 
   pub rows-short : (was : List ℕ) → tableSound t ls ≡ true → length was / 3 < t .count → was ≡ withRows t ls was
@@ -57,8 +57,8 @@ module _ (t : Table) (ls : List (List ℕ)) where
   rows-short was s h = sym (rw (s, lt-leb (t .count) (length was / 3) h))
 
   pub head-done : (room : ℕ) → tableSound t ls ≡ true → t .count ≤ room
-      → _≡_ {A = Head} (record { number = 0; from = t .to; to = t .from; pairs = t .pairs; count = t .count }) (headOf t ls room)
-  unfolding headOf
+      → _≡_ {A = Head} (record { number = 0; from = t .to; to = t .from; pairs = t .pairs; count = t .count }) (reverseHead t ls room)
+  unfolding reverseHead
   head-done room s h = sym (rw (s, le-leb (t .count) room h))
 
   pub rows-done : (was rows : List ℕ) → tableSound t ls ≡ true → t .count ≤ length was / 3

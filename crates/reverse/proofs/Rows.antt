@@ -18,7 +18,7 @@ use Rattle.table.specs.Order.{orderKeys, rowOrder, rowAt, inOrder}
 use Rattle.table.specs.Stages.{chain}
 use Rattle.table.proofs.Rows.{good, order-rows, apart-sorted, targets-chain}
 use Rattle.table.proofs.Order.{order-length}
-use Rattle.reverse.specs.Reverse.{turned, turnedRows}
+use Rattle.reverse.specs.Reverse.{turnedRow, turnedRows}
 
 -- Tests of every row.
 
@@ -30,7 +30,7 @@ tests-keys : (p : Row → Bool) (f : ℕ → Row) (ks : List ℕ) → allRows p 
 tests-keys p f [] = refl
 tests-keys p f (k ∷ ks) = rw (tests-keys p f ks)
 
-tests-turned : (p : Row → Bool) (rs : List Row) → allRows p (map turned rs) ≡ allRows (λ r. p (turned r)) rs
+tests-turned : (p : Row → Bool) (rs : List Row) → allRows p (map turnedRow rs) ≡ allRows (λ r. p (turnedRow r)) rs
 tests-turned p [] = refl
 tests-turned p (r ∷ rs) = rw (tests-turned p rs)
 
@@ -82,27 +82,27 @@ order-fine rs h e = tests-ordered fine rs h ∙ rising-fine 0 rs e
 
 -- Rows turned round are sound.
 
-chain-rises : (f : ℕ) (rs : List Row) → chain f rs ≡ true → allRows fine rs ≡ true → rising f (map turned rs) ≡ true
+chain-rises : (f : ℕ) (rs : List Row) → chain f rs ≡ true → allRows fine rs ≡ true → rising f (map turnedRow rs) ≡ true
 chain-rises f [] e g = refl
 chain-rises f (r ∷ rs) e g =
     let x = is-fine r (and-left (fine r) _ g) in
     let a : f ≤ r .target = leb-true _ _ (and-left (leb f (r .target)) _ e) in
-    let b : targetEnd (turned r) ≤ 65534 = omega (arith, x .ordered, x .top) in
-    simp (le-leb f (r .target) a, le-leb (r .target) (targetEnd r) (omega arith), le-leb (targetEnd r) 65534 (x .end), le-leb (targetEnd (turned r)) 65534 b)
+    let b : targetEnd (turnedRow r) ≤ 65534 = omega (arith, x .ordered, x .top) in
+    simp (le-leb f (r .target) a, le-leb (r .target) (targetEnd r) (omega arith), le-leb (targetEnd r) 65534 (x .end), le-leb (targetEnd (turnedRow r)) 65534 b)
     (chain-rises (targetEnd r + 1) rs (and-right (leb f (r .target)) _ e) (and-right (fine r) _ g))
 
 pub turned-rise : (rs : List Row) → length rs ≤ 65536 → rising 0 rs ≡ true → targetsApart rs ≡ true → rising 0 (turnedRows rs) ≡ true
 turned-rise rs h e a = chain-rises 0 (inOrder rs) (targets-chain rs h ∙ a) (order-fine rs h e)
 
 -- sources that rise are disjoint
-above-apart : (r : Row) (f : ℕ) (rs : List Row) → rising f rs ≡ true → r .low ≤ r .high → r .high < f → apartFrom (turned r) (map turned rs) ≡ true
+above-apart : (r : Row) (f : ℕ) (rs : List Row) → rising f rs ≡ true → r .low ≤ r .high → r .high < f → apartFrom (turnedRow r) (map turnedRow rs) ≡ true
 above-apart r f [] e o h = refl
 above-apart r f (s ∷ rs) e o h =
     let g = good f s rs e in
-    let a : targetEnd (turned r) < s .low = omega (arith, g .floor) in
-    simp (lt-ltb (targetEnd (turned r)) (s .low) a) (above-apart r (s .high + 1) rs (g .rest) o (omega (arith, g .floor, g .ordered)))
+    let a : targetEnd (turnedRow r) < s .low = omega (arith, g .floor) in
+    simp (lt-ltb (targetEnd (turnedRow r)) (s .low) a) (above-apart r (s .high + 1) rs (g .rest) o (omega (arith, g .floor, g .ordered)))
 
-rising-apart : (f : ℕ) (rs : List Row) → rising f rs ≡ true → targetsApart (map turned rs) ≡ true
+rising-apart : (f : ℕ) (rs : List Row) → rising f rs ≡ true → targetsApart (map turnedRow rs) ≡ true
 rising-apart f [] e = refl
 rising-apart f (r ∷ rs) e =
     let g = good f r rs e in
@@ -110,14 +110,14 @@ rising-apart f (r ∷ rs) e =
 
 pub turned-apart : (rs : List Row) → length rs ≤ 65536 → rising 0 rs ≡ true → targetsApart (turnedRows rs) ≡ true
 turned-apart rs h e =
-    ap targetsApart (map-map turned (rowAt rs) (rowOrder rs))
-    ∙ apart-sorted (λ k. turned (rowAt rs k)) (orderKeys 0 rs)
-    ∙ ap targetsApart (sym (map-map turned (rowAt rs) (orderKeys 0 rs)))
-    ∙ ap (λ (z : List Row). targetsApart (map turned z)) (order-rows rs h)
+    ap targetsApart (map-map turnedRow (rowAt rs) (rowOrder rs))
+    ∙ apart-sorted (λ k. turnedRow (rowAt rs k)) (orderKeys 0 rs)
+    ∙ ap targetsApart (sym (map-map turnedRow (rowAt rs) (orderKeys 0 rs)))
+    ∙ ap (λ (z : List Row). targetsApart (map turnedRow z)) (order-rows rs h)
     ∙ rising-apart 0 rs e
 
 pub turned-length : (rs : List Row) → length (turnedRows rs) ≡ length rs
-turned-length rs = length-map (inOrder rs) turned ∙ length-map (rowOrder rs) (rowAt rs) ∙ order-length rs
+turned-length rs = length-map (inOrder rs) turnedRow ∙ length-map (rowOrder rs) (rowAt rs) ∙ order-length rs
 
 -- Rows that rise and pass the same tests are the same.
 
@@ -187,9 +187,9 @@ same-rows f g (x ∷ xs) (y ∷ ys) d e h =
     let t = same-rows (x .high + 1) (y .high + 1) xs ys (good f x xs d .rest) (good g y ys e .rest) (rest-same f g x xs y ys d e s h) in
     λ i. s i ∷ t i
 
-turned-back : (r : Row) → r .low ≤ r .high → turned (turned r) ≡ r
+turned-back : (r : Row) → r .low ≤ r .high → turnedRow (turnedRow r) ≡ r
 turned-back r h =
-    let e : targetEnd (turned r) ≡ r .high = omega arith in
+    let e : targetEnd (turnedRow r) ≡ r .high = omega arith in
     λ i. record { low = r .low; high = e i; target = r .target }
 
 -- Rows turned round twice.
@@ -200,10 +200,10 @@ turned-twice rs h e a =
     same-rows 0 0 (turnedRows us) rs (turned-rise us n (turned-rise rs h e a) (turned-apart rs h e)) e
     (λ p.
     tests-turned p (inOrder us)
-    ∙ tests-ordered (λ r. p (turned r)) us n
-    ∙ tests-turned (λ r. p (turned r)) (inOrder rs)
-    ∙ tests-ordered (λ r. p (turned (turned r))) rs h
-    ∙ tests-same (λ r. p (turned (turned r))) p 0 rs e (λ r o. ap p (turned-back r o)))
+    ∙ tests-ordered (λ r. p (turnedRow r)) us n
+    ∙ tests-turned (λ r. p (turnedRow r)) (inOrder rs)
+    ∙ tests-ordered (λ r. p (turnedRow (turnedRow r))) rs h
+    ∙ tests-same (λ r. p (turnedRow (turnedRow r))) p 0 rs e (λ r o. ap p (turned-back r o)))
 
 -- What rows turned round give.
 
@@ -219,7 +219,7 @@ sends-tests (r ∷ rs) c d = rw (sends-tests rs c d) (go (gives c d r) (allRows 
     go true b = refl
     go false b = refl
 
-gives-turned : (c d : ℕ) (r : Row) → r .low ≤ r .high → gives c d r ≡ true → gives d c (turned r) ≡ true
+gives-turned : (c d : ℕ) (r : Row) → r .low ≤ r .high → gives c d r ≡ true → gives d c (turnedRow r) ≡ true
 gives-turned c d r o e =
     let e1 = and-right (leb (r .low) c) _ e in
     let a : r .low ≤ c = leb-true _ _ (and-left (leb (r .low) c) _ e) in
@@ -228,10 +228,10 @@ gives-turned c d r o e =
     let y : r .low + (d - r .target) ≡ c = omega arith in
     simp (le-leb (r .target) d (omega arith), le-leb d (targetEnd r) (omega arith), eq-eqb (r .low + (d - r .target)) c y)
 
-gives-same : (c d : ℕ) (r : Row) → r .low ≤ r .high → gives d c (turned r) ≡ gives c d r
+gives-same : (c d : ℕ) (r : Row) → r .low ≤ r .high → gives d c (turnedRow r) ≡ gives c d r
 gives-same c d r o =
     same-yes _ _
-    (λ e. ap (gives c d) (sym (turned-back r o)) ∙ gives-turned d c (turned r) (omega arith) e)
+    (λ e. ap (gives c d) (sym (turned-back r o)) ∙ gives-turned d c (turnedRow r) (omega arith) e)
     (gives-turned c d r o)
 
 pub sends-turned : (rs : List Row) (c d : ℕ) → length rs ≤ 65536 → rising 0 rs ≡ true → sends (turnedRows rs) d c ≡ sends rs c d
@@ -239,6 +239,6 @@ sends-turned rs c d h e =
     sends-tests (turnedRows rs) d c
     ∙ ap not
     (tests-turned (λ r. not (gives d c r)) (inOrder rs)
-    ∙ tests-ordered (λ r. not (gives d c (turned r))) rs h
-    ∙ tests-same (λ r. not (gives d c (turned r))) (λ r. not (gives c d r)) 0 rs e (λ r o. ap not (gives-same c d r o)))
+    ∙ tests-ordered (λ r. not (gives d c (turnedRow r))) rs h
+    ∙ tests-same (λ r. not (gives d c (turnedRow r))) (λ r. not (gives c d r)) 0 rs e (λ r o. ap not (gives-same c d r o)))
     ∙ sym (sends-tests rs c d)

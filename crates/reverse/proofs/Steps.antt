@@ -13,7 +13,7 @@ use Rattle.table.specs.declared.Table.{Table}
 use Rattle.table.specs.Table.{noRow, usedRows}
 use Rattle.table.specs.Order.{rowAt, rowOrder, inOrder}
 use Rattle.table.proofs.Order.{Turn, order-turn, order-length}
-use Rattle.reverse.specs.Reverse.{turned, turnedRows, turnedPair, turnedLevels, reverseTable, rowNumbers}
+use Rattle.reverse.specs.Reverse.{turnedRow, turnedRows, turnedPair, turnedLevels, reverseTable, rowNumbers}
 use Rattle.reverse.specs.Stages.{InOrder}
 use Rattle.reverse.proofs.Rows.{Fine, fine, is-fine, test-at, order-fine}
 
@@ -67,19 +67,19 @@ map-next {A} {B} f xs zs i x ts d e h =
 -- A table takes one row more.
 abbrev pub partTable : Table → ℕ → Table
 partTable t i =
-    record { from = t .to; to = t .from; pairs = t .pairs; count = t .count; rows = map turned (take i (inOrder (usedRows t))) ++ drop i (replicate 64 noRow) }
+    record { from = t .to; to = t .from; pairs = t .pairs; count = t .count; rows = map turnedRow (take i (inOrder (usedRows t))) ++ drop i (replicate 64 noRow) }
 
 drop-same : (n m : ℕ) → drop n (replicate m noRow) ≡ replicate (m - n) noRow
 drop-same zero m = let e : m - 0 ≡ m = omega arith in rw e
 drop-same (suc n) zero = let e : 0 - suc n ≡ 0 = omega arith in rw e
 drop-same (suc n) (suc m) = let e : suc m - suc n ≡ m - n = omega arith in rw e (drop-same n m)
 
-pub table-next : (t out : Table) (i : ℕ) (r x : Row) (ts : List Row) → out ≡ partTable t i → drop i (inOrder (usedRows t)) ≡ r ∷ ts → x ≡ turned r → i < 64
+pub table-next : (t out : Table) (i : ℕ) (r x : Row) (ts : List Row) → out ≡ partTable t i → drop i (inOrder (usedRows t)) ≡ r ∷ ts → x ≡ turnedRow r → i < 64
     → _≡_ {A = Table} (record { from = out .from; to = out .to; pairs = out .pairs; count = out .count; rows = set (out .rows) i x }) (partTable t (i + 1))
 table-next t out i r x ts e n q h =
     let l : i < length (replicate 64 noRow) = rw (length-replicate 64 noRow) h in
     let g : set (out .rows) i x ≡ partTable t (i + 1) .rows =
-    (λ j. set (e j .rows) i (q j)) ∙ map-next turned (inOrder (usedRows t)) (replicate 64 noRow) i r ts noRow n l in
+    (λ j. set (e j .rows) i (q j)) ∙ map-next turnedRow (inOrder (usedRows t)) (replicate 64 noRow) i r ts noRow n l in
     λ j. record { from = e j .from; to = e j .to; pairs = e j .pairs; count = e j .count; rows = g j }
 
 pub table-whole : (t : Table) (i : ℕ) → length (inOrder (usedRows t)) ≡ i → t .count ≡ i → partTable t i ≡ reverseTable t
@@ -87,7 +87,7 @@ unfolding reverseTable
 table-whole t i n m =
     let a : take i (inOrder (usedRows t)) ≡ inOrder (usedRows t) = take-all i (inOrder (usedRows t)) (omega arith) in
     let b : drop i (replicate 64 noRow) ≡ replicate (64 - t .count) noRow = drop-same i 64 ∙ ap (λ (k : ℕ). replicate (64 - k) noRow) (sym m) in
-    λ j. record { from = t .to; to = t .from; pairs = t .pairs; count = t .count; rows = map turned (a j) ++ b j }
+    λ j. record { from = t .to; to = t .from; pairs = t .pairs; count = t .count; rows = map turnedRow (a j) ++ b j }
 
 -- A lent list takes one row more.
 numbers-snoc : (rs : List Row) (r : Row) → rowNumbers (rs ++ (r ∷ [])) ≡ rowNumbers rs ++ (r .low ∷ r .high ∷ r .target ∷ [])
@@ -117,21 +117,21 @@ put-three ys zs n a b c e h =
     ∙ ap (λ (z : List ℕ). z ++ drop (n + 3) zs) w
 
 abbrev pub partRows : List Row → List ℕ → ℕ → List ℕ
-partRows xs was i = rowNumbers (map turned (take i xs)) ++ drop (i * 3) was
+partRows xs was i = rowNumbers (map turnedRow (take i xs)) ++ drop (i * 3) was
 
 part-next : (xs : List Row) (was : List ℕ) (i : ℕ) (r : Row) (ts : List Row) → drop i xs ≡ r ∷ ts → i * 3 + 3 ≤ length was
-    → set (set (set (partRows xs was i) (i * 3) (turned r .low)) (i * 3 + 1) (turned r .high)) (i * 3 + 2) (turned r .target) ≡ partRows xs was (i + 1)
+    → set (set (set (partRows xs was i) (i * 3) (turnedRow r .low)) (i * 3 + 1) (turnedRow r .high)) (i * 3 + 2) (turnedRow r .target) ≡ partRows xs was (i + 1)
 part-next xs was i r ts e h =
-    let ys : List ℕ = rowNumbers (map turned (take i xs)) in
+    let ys : List ℕ = rowNumbers (map turnedRow (take i xs)) in
     let n : length ys ≡ i * 3 =
-    numbers-length (map turned (take i xs)) ∙ ap (λ (k : ℕ). k * 3) (length-map (take i xs) turned ∙ length-take-le i xs (inside xs i r ts e)) in
+    numbers-length (map turnedRow (take i xs)) ∙ ap (λ (k : ℕ). k * 3) (length-map (take i xs) turnedRow ∙ length-take-le i xs (inside xs i r ts e)) in
     let m : i * 3 + 3 ≡ (i + 1) * 3 = omega arith in
-    let t : rowNumbers (map turned (take (i + 1) xs)) ≡ ys ++ (turned r .low ∷ turned r .high ∷ turned r .target ∷ []) =
-    rw (add-one i, take-next xs i r ts e, map-append turned (take i xs) (r ∷ [])) (numbers-snoc (map turned (take i xs)) (turned r)) in
-    put-three ys was (i * 3) (turned r .low) (turned r .high) (turned r .target) n h
+    let t : rowNumbers (map turnedRow (take (i + 1) xs)) ≡ ys ++ (turnedRow r .low ∷ turnedRow r .high ∷ turnedRow r .target ∷ []) =
+    rw (add-one i, take-next xs i r ts e, map-append turnedRow (take i xs) (r ∷ [])) (numbers-snoc (map turnedRow (take i xs)) (turnedRow r)) in
+    put-three ys was (i * 3) (turnedRow r .low) (turnedRow r .high) (turnedRow r .target) n h
     ∙ (λ j. sym t j ++ drop (m j) was)
 
-pub rows-next : (xs : List Row) (was rows : List ℕ) (i : ℕ) (r x : Row) (ts : List Row) → rows ≡ partRows xs was i → drop i xs ≡ r ∷ ts → x ≡ turned r → i * 3 + 3 ≤ length was
+pub rows-next : (xs : List Row) (was rows : List ℕ) (i : ℕ) (r x : Row) (ts : List Row) → rows ≡ partRows xs was i → drop i xs ≡ r ∷ ts → x ≡ turnedRow r → i * 3 + 3 ≤ length was
     → set (set (set rows (i * 3) (x .low)) (i * 3 + 1) (x .high)) (i * 3 + 2) (x .target) ≡ partRows xs was (i + 1)
 rows-next xs was rows i r x ts e n q h =
     (λ j. set (set (set (e j) (i * 3) (q j .low)) (i * 3 + 1) (q j .high)) (i * 3 + 2) (q j .target)) ∙ part-next xs was i r ts n h
@@ -139,8 +139,8 @@ rows-next xs was rows i r x ts e n q h =
 pub rows-long : (rows : List ℕ) (i j k a b c : ℕ) → length (set (set (set rows i a) j b) k c) ≡ length rows
 rows-long rows i j k a b c = length-set (set (set rows i a) j b) k c ∙ length-set (set rows i a) j b ∙ length-set rows i a
 
-pub rows-whole : (xs : List Row) (was : List ℕ) (i : ℕ) → length xs ≡ i → partRows xs was i ≡ rowNumbers (map turned xs) ++ drop (i * 3) was
-rows-whole xs was i n = ap (λ (z : List Row). rowNumbers (map turned z) ++ drop (i * 3) was) (take-all i xs (omega arith))
+pub rows-whole : (xs : List Row) (was : List ℕ) (i : ℕ) → length xs ≡ i → partRows xs was i ≡ rowNumbers (map turnedRow xs) ++ drop (i * 3) was
+rows-whole xs was i n = ap (λ (z : List Row). rowNumbers (map turnedRow z) ++ drop (i * 3) was) (take-all i xs (omega arith))
 
 -- Level pairs.
 abbrev pub noPairs : List (List ℕ)

@@ -12,7 +12,7 @@ use Rattle.table.specs.Table.{usedRows, tableSound}
 use Rattle.table.specs.Numbers.{partnerOf, sends}
 use Rattle.table.proofs.Sound.{sound, sound-rows}
 use Rattle.table.proofs.Numbers.{has-number, number-has, one-category}
-use Rattle.renumber.specs.Renumber.{done, renumberedOf}
+use Rattle.renumber.specs.Renumber.{renumberedAs, renumberedOf}
 use Rattle.renumber.specs.Theorems.{Far}
 use Rattle.renumber.proofs.Theorems.{Led, led, renumbering}
 use Rattle.reverse.specs.Reverse.{turnedRows, turnedLevels, reverseTable}
@@ -55,11 +55,11 @@ home : (t : Table) (d : ℕ) → d ≡ t .to → d ≡ reverseTable t .from
 unfolding reverseTable
 home t d h = h
 
-out-and-back : (l : Label) (t : Table) (ls : List (List ℕ)) (m : Label) → renumberedOf l t ls ≡ done m → renumberedOf m (reverseTable t) (turnedLevels ls) ≡ done l
+out-and-back : (l : Label) (t : Table) (ls : List (List ℕ)) (m : Label) → renumberedOf l t ls ≡ renumberedAs m → renumberedOf m (reverseTable t) (turnedLevels ls) ≡ renumberedAs l
 out-and-back l t ls m e =
     let k = led l t ls m e in
     let f = renumbering .right l t ls m e in
     renumbering .found m (reverseTable t) (turnedLevels ls) l (back-sound t ls (k .sound)) (f .formed) (home t (m .domain) (f .domain)) (far-back l t ls m k f)
 
 pub reversing : Reversing
-reversing = record { sound = back-sound; twice = back-twice; pairs = levels-twice; turned = turned-round; back = out-and-back }
+reversing = record { sound = back-sound; twice = back-twice; pairs = levels-twice; turnedRow = turned-round; back = out-and-back }

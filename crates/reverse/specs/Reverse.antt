@@ -13,12 +13,12 @@ use Rattle.reverse.specs.declared.Reversed.{Reversed}
 use Rattle.reverse.specs.declared.Head.{Head}
 
 -- a row turned round: the numbers that it gave go back to their categories
-abbrev pub turned : Row → Row
-turned r = record { low = r .target; high = targetEnd r; target = r .low }
+abbrev pub turnedRow : Row → Row
+turnedRow r = record { low = r .target; high = targetEnd r; target = r .low }
 
 -- rows turned round, in the order of their new sources: these are the targets that they had
 abbrev pub turnedRows : List Row → List Row
-turnedRows rs = map turned (inOrder rs)
+turnedRows rs = map turnedRow (inOrder rs)
 
 abbrev pub turnedPair : List ℕ → List ℕ
 turnedPair p = getD p 1 0 ∷ getD p 0 0 ∷ []
@@ -49,8 +49,8 @@ abbrev pub noHead : ℕ → Head
 noHead n = record { number = n; from = 0; to = 0; pairs = 0; count = 0 }
 
 -- 2 for an unsound table, then 24 where the lent room has a place for fewer rows
-unfoldable pub headOf : Table → List (List ℕ) → ℕ → Head
-headOf t ls room =
+unfoldable pub reverseHead : Table → List (List ℕ) → ℕ → Head
+reverseHead t ls room =
     cond (tableSound t ls)
     (cond (leb (t .count) room) (record { number = 0; from = t .to; to = t .from; pairs = t .pairs; count = t .count }) (noHead 24))
     (noHead 2)

@@ -9,7 +9,7 @@ use Rattle.table.specs.declared.Table.{Table}
 use Rattle.table.specs.declared.Partner.the-variants.{Level}
 use Rattle.table.specs.Table.{usedRows, tableSound}
 use Rattle.table.specs.Numbers.{partnerOf, sends}
-use Rattle.renumber.specs.Renumber.{done, renumberedOf}
+use Rattle.renumber.specs.Renumber.{renumberedAs, renumberedOf}
 use Rattle.reverse.specs.Reverse.{inTwos, reverseTable, turnedLevels}
 
 -- a row of the reverse gives number d the category c exactly when one of the table gives c the number d; levels likewise
@@ -23,8 +23,8 @@ pub record Reversing : Type 0 where
   -- reversed twice it is the table
   pub twice : (t : Table) (ls : List (List ℕ)) → tableSound t ls ≡ true → reverseTable (reverseTable t) ≡ t
   pub pairs : (ls : List (List ℕ)) → inTwos ls ≡ true → turnedLevels (turnedLevels ls) ≡ ls
-  pub turned : (t : Table) (ls : List (List ℕ)) → tableSound t ls ≡ true → TurnedRound t ls
+  pub turnedRow : (t : Table) (ls : List (List ℕ)) → tableSound t ls ≡ true → TurnedRound t ls
   -- "going out, where 120 runs allow, and back gives the first label"
   pub back : (l : Label) (t : Table) (ls : List (List ℕ)) (m : Label)
-      → renumberedOf l t ls ≡ done m
-      → renumberedOf m (reverseTable t) (turnedLevels ls) ≡ done l
+      → renumberedOf l t ls ≡ renumberedAs m
+      → renumberedOf m (reverseTable t) (turnedLevels ls) ≡ renumberedAs l

@@ -4,7 +4,7 @@ ghost use mathlib.Core.List.{_++_};
 ghost use Prim.Native.Nat.{_*_, _/_, _≤_};
 ghost use lib.ListN.{length, drop};
 ghost use Rattle.table.specs.Table.{usedRows, targetEnd};
-ghost use Rattle.reverse.specs.Reverse.{turned, turnedRows, turnedLevels, reverseTable, reversedOf, headOf, noHead, rowNumbers, withRows};
+ghost use Rattle.reverse.specs.Reverse.{turnedRow, turnedRows, turnedLevels, reverseTable, reversedOf, reverseHead, noHead, rowNumbers, withRows};
 ghost use Rattle.reverse.specs.Stages.{InOrder};
 use table::Row;
 use table::Table;
@@ -70,7 +70,7 @@ pub fn reverse_levels(levels: [[u8; 2]; 16]) -> [[u8; 2]; 16]
 // The reverse table with its rows in the lent list, three numbers each: low, high and target. 2 for an unsound table, then 24 where the list has
 // too few places; then it stays as it was, as does what lies past the rows.
 pub fn reverse_rows(table: Table, levels: [[u8; 2]; 16], rows: &mut [u16]) -> Head
-    ensures { λ r. ⌜ (r ≡ headOf table levels (length (now (rows .entry)) / 3)) × (now (rows .exit) ≡ withRows table levels (now (rows .entry))) ⌝ }
+    ensures { λ r. ⌜ (r ≡ reverseHead table levels (length (now (rows .entry)) / 3)) × (now (rows .exit) ≡ withRows table levels (now (rows .entry))) ⌝ }
 {
     let mut order = [0u32; 64];
     if !table_order(table, levels, &mut order) {
@@ -105,7 +105,7 @@ fn no_head(number: u8) -> Head
 // A row turned round.
 fn turn(row: Row) -> Row
     requires { ⌜ (row .low ≤ row .high) × (targetEnd row ≤ 65534) ⌝ }
-    ensures { λ r. ⌜ r ≡ turned row ⌝ }
+    ensures { λ r. ⌜ r ≡ turnedRow row ⌝ }
 {
     Row {
         low: row.target,

@@ -11,7 +11,7 @@ use Rattle.gateway.specs.Forward.{forwardOf, outputOf}
 use Rattle.lines.specs.Put.{Puts}
 use Rattle.lines.specs.Line.{forwardLine, dropLine}
 use Rattle.lines.specs.Theorems.{Whole}
-use Rattle.lines.proofs.Theorems.{fits, longest-forward, longest-drop}
+use Rattle.lines.proofs.Theorems.{puts-whole, longest-forward, longest-drop}
 use Rattle.sample.specs.Sample.{decisionLine, forwardingLine}
 
 refused-line : (f : Forwarding) (d : Decision) → d ≡ forwardOf f → (d .number ≡ 0 → ⊥)
@@ -31,7 +31,7 @@ pub refused-whole : (f : Forwarding) (d : Decision) (out : List ℕ) (n : ℕ) (
 refused-whole f d out n after r h e t p =
     let line = dropLine (d .number) (d .kind) (d .code) (d .pointer) in
     let room : n + length line ≤ length out = omega (arith, longest-drop (d .number) (d .kind) (d .code) (d .pointer)) in
-    rw (refused-line f d e t) (fits out n line after r room p)
+    rw (refused-line f d e t) (puts-whole out n line after r room p)
 
 pub forwarded-whole : (f : Forwarding) (d : Decision) (area out : List ℕ) (n : ℕ) (after : List ℕ) (r : ℕ)
     → n + 110 ≤ length out → length area ≤ 40 → d ≡ forwardOf f → area ≡ outputOf f (replicate 40 0) → d .number ≡ 0
@@ -40,4 +40,4 @@ pub forwarded-whole : (f : Forwarding) (d : Decision) (area out : List ℕ) (n :
 forwarded-whole f d area out n after r h l e a t p =
     let line = forwardLine (d .count) area in
     let room : n + length line ≤ length out = omega (arith, longest-forward (d .count) area l) in
-    rw (forwarded-line f d area e a t) (fits out n line after r room p)
+    rw (forwarded-line f d area e a t) (puts-whole out n line after r room p)

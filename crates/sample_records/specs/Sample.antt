@@ -6,8 +6,8 @@ use lib.ListN.{replicate}
 use Rattle.label.specs.Runs.{run}
 use Rattle.label.specs.Label.{labelOf, zeroLabel}
 use Rattle.port.specs.declared.Port.{Port}
-use Rattle.table.specs.declared.Row.{Row}
 use Rattle.table.specs.declared.Table.{Table}
+use Rattle.table.specs.Table.{row}
 
 -- "both ports require labels. Arriving: domain 5, level 1 with no categories to level 5 with 0..300. Leaving: domain 9, level 0 with none to
 -- level 255 with all."
@@ -16,9 +16,6 @@ arriving = record { domain = 5; lowest = labelOf 5 1 []; highest = labelOf 5 5 (
 
 abbrev pub leaving : Port
 leaving = record { domain = 9; lowest = labelOf 9 0 []; highest = labelOf 9 255 (run 0 65534 ∷ []); required = true; assigned = zeroLabel }
-
-abbrev pub row : ℕ → ℕ → ℕ → Row
-row l h t = record { low = l; high = h; target = t }
 
 -- "Table: levels 1→2, 3→4, 5→6; rows 0..99→1000, 100..300→0."
 abbrev pub table : Table

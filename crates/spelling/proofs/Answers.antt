@@ -2,23 +2,22 @@
 use Prim.Native.Nat.{ℕ, _+_, _-_, _≤_, _<_}
 use mathlib.Core.Path.{_≡_, refl, ap, sym, _∙_}
 use mathlib.Core.Bool.{true, false}
-use mathlib.Core.List.{List, _++_}
+use mathlib.Core.List.{List, _++_, append-assoc}
 use mathlib.Core.Option.{Option, none, some}
-use lib.ListN.{length, drop}
+use lib.ListN.{length, take, drop, replicate, length-append, length-drop}
 use native.Mathlib.Omega.{arith}
 use borrow.Author.Tests.{lt-ltb, le-ltb, ne-eqb}
+use Rattle.lists.proofs.Laws.{Back, back-zeroed}
 use Rattle.label.specs.declared.Run.{Run}
 use Rattle.label.specs.declared.Label.{Label}
 use Rattle.label.specs.Label.{used, wellFormed}
 use Rattle.option.specs.Spelling.{tagFor, bodyFor, spelledBy, spellingOf, padded}
 use Rattle.option.proofs.Theorems.{spelled-is, spelled-none, spelled-some}
 use Rattle.spelling.specs.declared.Spelling.{Spelling}
-use Rattle.spelling.specs.Stages.{zeroed}
 use Rattle.option.specs.Spelling.{spelledOf}
 use Rattle.spelling.specs.Spelling.{lengthOf, spellingNumber, spellingAnswer, spellingOut}
 use Rattle.spelling.specs.Keys.{inFront}
 use Rattle.spelling.proofs.Bodies.{body-short}
-use Rattle.spelling.proofs.Writing.{zero-after}
 
 -- How long a spelling is.
 
@@ -128,8 +127,8 @@ module _ (l : Label) (out out′ : List ℕ) (r : ℕ) (f : wellFormed l ≡ tru
   written-short n = let p = written n in omega (arith, w .0, ap lengthOf (p .spelled), p .short)
 
   -- done: the option's length, the option and zeros
-  pub completed : (z : List ℕ) → z ≡ zeroed r out′ → (r ≡ 0 → ⊥)
-      → (_≡_ {A = Spelling} (record { number = 0; count = r }) (spellingAnswer l (length out))) × (z ≡ spellingOut l out)
+  pub completed : (z : List ℕ) → z ≡ replicate (length (take (40 - r) (drop r out′))) 0 → (r ≡ 0 → ⊥)
+      → (_≡_ {A = Spelling} (record { number = 0; count = r }) (spellingAnswer l (length out))) × (Back r 40 out′ z ≡ spellingOut l out)
   completed z e m =
       let p = written m in
       let n : spellingNumber l (length out) ≡ 0 = number-done l (length out) long f (p .option) (p .spelled) in
@@ -137,5 +136,9 @@ module _ (l : Label) (out out′ : List ℕ) (r : ℕ) (f : wellFormed l ≡ tru
       let o : out′ ≡ p .option ++ drop (length (p .option)) out = w .1 ∙ ap (λ (x : Option (List ℕ)). inFront x out) (p .spelled) in
       let a : _≡_ {A = Spelling} (record { number = 0; count = r }) (record { number = 0; count = length (p .option) }) = λ i. record { number = 0; count = k i } in (
         a ∙ sym (answer-done l (length out) (p .option) n (p .spelled)),
-        e ∙ (λ i. zeroed (k i) (o i)) ∙ zero-after (p .option) out (p .short) ∙ sym (out-done l out (p .option) n (p .spelled)),
+        back-zeroed r 40 out′ z (p .option) out k (written-short m) (omega (arith, ap length o, length-append (p .option) (drop (length (p .option)) out), length-drop (length (p .option)) out))
+            (o ∙ ap (λ (j : ℕ). p .option ++ drop j out) (sym k)) e
+            ∙ ap (λ (j : ℕ). p .option ++ (replicate (40 - j) 0 ++ drop 40 out)) k
+            ∙ sym (append-assoc (p .option) (replicate (40 - length (p .option)) 0) (drop 40 out))
+            ∙ sym (out-done l out (p .option) n (p .spelled)),
       )

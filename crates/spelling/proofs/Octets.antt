@@ -13,18 +13,12 @@ use native.Mathlib.Decide.{decLe}
 use borrow.Author.Tests.{le-leb, lt-leb, leb-true, eqb-true}
 use Rattle.label.specs.declared.Run.{Run}
 use Rattle.label.specs.Runs.{run, inRun, covers, allBelow}
-use Rattle.label.proofs.Bools.{all-below, implies-yes, less-or}
+use Rattle.label.proofs.Bools.{all-below, implies-yes, less-or, same-leb}
 use Rattle.option.specs.Spelling.{bitOf, bitsOf, octetsOf}
 use Rattle.option.proofs.Bits.{bit-le}
 use Rattle.label.specs.Keys.{keyRun, keyRuns}
 use Rattle.spelling.specs.Stages.{RunAdded}
 use Rattle.spelling.proofs.Numbers.{keys-taken}
-
-same-leb : (x y x′ y′ : ℕ) → (x ≤ y → x′ ≤ y′) → (x′ ≤ y′ → x ≤ y) → leb x y ≡ leb x′ y′
-same-leb x y x′ y′ f g = elim (decLe x y) [ yes u ↦ le-leb x y u ∙ sym (le-leb x′ y′ (f u)) | no u ↦ lt-leb x y (omega arith) ∙ sym (lt-leb x′ y′ (lt-of-not y′ x′ (λ v. u (g v)))) ]
-  where
-    lt-of-not : (a b : ℕ) → (b ≤ a → ⊥) → a < b
-    lt-of-not a b n = omega arith
 
 -- the octet depends on its own bits alone
 bits-same : (f g : ℕ → Bool) (base base′ k : ℕ) → ((j : ℕ) → j < k → f (base + j) ≡ g (base′ + j)) → bitsOf f base k ≡ bitsOf g base′ k

@@ -1,11 +1,11 @@
--- What the private functions answer, in the terms of crate `option`: the chosen tag with its size, the octets before the categories, zeros,
+-- What the private functions answer, in the terms of crate `option`: the chosen tag with its size, the octets before the categories,
 -- the bits of a run. Nothing here is said by a public contract.
-use Prim.Native.Nat.{ℕ, _+_, _-_, _*_, _/_, _%_, _<_}
+use Prim.Native.Nat.{ℕ, _+_, _*_, _/_, _%_, _<_}
 use mathlib.Core.Path.{_≡_}
 use mathlib.Core.Bool.{cond}
-use mathlib.Core.List.{List, [], _∷_, _++_}
+use mathlib.Core.List.{List, [], _∷_}
 use lib.Bits.{bitOr}
-use lib.ListN.{length, getD, take, drop, replicate}
+use lib.ListN.{length, getD, drop}
 use lib.Dec.{leb, eqb}
 use Rattle.label.specs.declared.Run.{Run}
 use Rattle.label.specs.Runs.{inRun}
@@ -30,10 +30,6 @@ choiceOf rs = leastOf (size1 rs) (size2 rs) (size5 rs)
 -- the ten octets before n octets of categories
 abbrev pub headOf : ℕ → ℕ → ℕ → ℕ → List ℕ
 headOf d v t n = 134 ∷ (10 + n) ∷ d / 256 / 256 / 256 ∷ d / 256 / 256 % 256 ∷ d / 256 % 256 ∷ d % 256 ∷ t ∷ (4 + n) ∷ 0 ∷ v ∷ []
-
--- zeros from an octet up to octet 39
-abbrev pub zeroed : ℕ → List ℕ → List ℕ
-zeroed from out = take from out ++ (replicate (40 - from) 0 ++ drop 40 out)
 
 -- a run's bits are added to the first n octets of a bitmap
 pub record RunAdded (r : Run) (n : ℕ) (out out′ : List ℕ) : Type 0 where

@@ -4,7 +4,7 @@ ghost use mathlib.Core.Bool.{true, cond, _&&_};
 ghost use mathlib.Core.List.{map, _++_};
 ghost use Prim.Native.Nat.{ℕ, _+_, _-_, _*_, _/_, _%_, _^_, _≤_, _<_};
 ghost use lib.Dec.{leb, eqb};
-ghost use lib.ListN.{length, take, drop, set, replicate};
+ghost use lib.ListN.{length, take, drop, set};
 ghost use Rattle.label.specs.Runs.{spaced, unused, covers, countOf};
 ghost use Rattle.label.specs.Label.{used, wellFormed};
 ghost use Rattle.label.specs.Keys.{keyRun, keyRuns, runKey};
@@ -12,9 +12,10 @@ ghost use Rattle.option.specs.Spelling.{octetsOf, octetsOut, numbersOf, tagFor,
 ghost use Rattle.option.specs.Index.{numbersOut, pairNumber};
 ghost use Rattle.spelling.specs.Spelling.{lengthOf, spellingAnswer, spellingOut};
 ghost use Rattle.spelling.specs.Keys.{keysSpelled, keysCount, keysWritten};
-ghost use Rattle.spelling.specs.Stages.{capped, leastOf, choiceOf, headOf, zeroed, RunAdded};
+ghost use Rattle.spelling.specs.Stages.{capped, leastOf, choiceOf, headOf, RunAdded};
 use label::Label;
 use label::Run;
+use lists::zero_all;
 use option::ALIGNMENT_AT;
 use option::CATEGORIES_AT;
 use option::DOMAIN_AT;
@@ -74,7 +75,7 @@ pub fn spell_label(label: Label, out: &mut [u8]) -> Spelling
             count: 0,
         };
     }
-    zero_from(&mut out[..], length);
+    zero_all(&mut out[length..OPTION_OCTETS]);
     Spelling {
         number: 0,
         count: length,
@@ -293,18 +294,6 @@ fn write_body(keys: &[u32], tag: u8, size: usize, out: &mut [u8])
     write_pairs(keys, size / 2, out);
 }
 
-// Zeros in the first n octets.
-fn clear_front(n: usize, out: &mut [u8])
-    requires { ⌜ n ≤ length (now out) ⌝ }
-    ensures { λ _. ⌜ now (out .exit) ≡ replicate n 0 ++ drop n (now (out .entry)) ⌝ }
-{
-    let mut i: usize = 0;
-    while i < n {
-        out[i] = 0;
-        i += 1;
-    }
-}
-
 // An octet's ones from a bit on; bit 0 is the top one.
 fn ones_from(bit: usize) -> u8
     requires { ⌜ bit < 8 ⌝ }
@@ -344,7 +333,7 @@ fn write_bitmap(keys: &[u32], n: usize, out: &mut [u8])
     requires { ⌜ (n ≤ 30) × (n ≤ length (now out)) ⌝ }
     ensures { λ _. ⌜ now (out .exit) ≡ octetsOf (covers (keyRuns (now (keys .entry)))) n ++ drop n (now (out .entry)) ⌝ }
 {
-    clear_front(n, &mut out[..]);
+    zero_all(&mut out[..n]);
     let m = keys.len();
     let mut i: usize = 0;
     while i < m {
@@ -429,16 +418,4 @@ fn write_head(domain: u32, level: u8, tag: u8, size: usize, out: &mut [u8])
     out[TAG_LENGTH_AT] = (4 + size) as u8;
     out[ALIGNMENT_AT] = 0;
     out[LEVEL_AT] = level;
-}
-
-// Zeros from an octet up to octet 39.
-fn zero_from(out: &mut [u8], from: usize)
-    requires { ⌜ (from ≤ 40) × (40 ≤ length (now out)) ⌝ }
-    ensures { λ _. ⌜ now (out .exit) ≡ zeroed from (now (out .entry)) ⌝ }
-{
-    let mut i = from;
-    while i < OPTION_OCTETS {
-        out[i] = 0;
-        i += 1;
-    }
 }

@@ -7,8 +7,11 @@ use lib.ListN.{length, take, drop, getD}
 use Rattle.table.specs.declared.Row.{Row}
 use Rattle.table.specs.declared.Table.{Table}
 
+abbrev pub row : ℕ → ℕ → ℕ → Row
+row l h t = record { low = l; high = h; target = t }
+
 abbrev pub noRow : Row
-noRow = record { low = 0; high = 0; target = 0 }
+noRow = row 0 0 0
 
 -- the rows in use: the first `count` places
 abbrev pub usedRows : Table → List Row

@@ -6,7 +6,7 @@ use mathlib.Core.Path.{_≡_, refl, ap, _∙_}
 use mathlib.Core.List.{List, _++_}
 use lib.ListN.{length, take, drop, getD, set, length-set}
 use lib.Seq.{take-all}
-use Rattle.leaving.proofs.Laws.{copy-more}
+use Rattle.lists.proofs.Laws.{copy-more}
 use Rattle.exports.specs.Answers.{headed}
 use Rattle.exports.proofs.put_numbers.Statement.{statement}
 use Rattle.exports.proofs.put_numbers.Tie as tie

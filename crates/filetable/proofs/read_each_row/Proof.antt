@@ -7,10 +7,10 @@ use mathlib.Core.Bool.{true}
 use mathlib.Core.Path.{_≡_, refl, sym}
 use mathlib.Core.List.{List, [], _∷_, _++_}
 use Rattle.table.specs.declared.Row.{Row}
-use Rattle.table.specs.Table.{noRow}
+use Rattle.table.specs.Table.{row, noRow}
 use Rattle.format.proofs.Places.{Held, held-none, held-more, held-used, held-fills}
 use Rattle.format.proofs.Told.{stopped, went}
-use Rattle.filetable.specs.TableFormat.{row, floorOf}
+use Rattle.filetable.specs.TableFormat.{floorOf}
 use Rattle.filetable.proofs.Apart.{floor-last}
 use Rattle.filetable.proofs.Rows.{RowsSeen, seen-begins, seen-turns, seen-refuses, seen-ends, seen-passed}
 use Rattle.filetable.proofs.read_each_row.Statement.{statement}

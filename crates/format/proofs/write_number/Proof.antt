@@ -4,9 +4,11 @@ use native.Mathlib.Omega.{arith}
 use Prim.Native.Nat.{ℕ, _+_, _-_, _≤_, _<_}
 use mathlib.Core.Path.{_≡_, refl, sym, ap, _∙_}
 use lib.ListN.{length, length-set}
-use Rattle.format.specs.Format.{digits, paint}
+use Rattle.lists.specs.Lists.{paint}
+use Rattle.format.specs.Format.{digits}
 use Rattle.format.proofs.Numbers.{digits-length}
-use Rattle.format.proofs.Writing.{paint-none, number-turn}
+use Rattle.lists.proofs.Laws.{paint-none}
+use Rattle.format.proofs.Writing.{number-turn}
 use Rattle.format.proofs.write_number.Statement.{statement}
 use Rattle.format.proofs.write_number.Tie as tie
 use Rattle.format.proofs.write_number.Reads as reads

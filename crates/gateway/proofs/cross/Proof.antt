@@ -1,8 +1,15 @@
 -- `gateway::cross` meets its contract.
 use borrow.Author.Needs.{needs}
-use mathlib.Core.Path.{refl}
+use mathlib.Core.Path.{refl, sym, _∙_}
+use lib.Seq.{length-take-le}
+use Rattle.lists.proofs.Laws.{copied-first}
 use Rattle.gateway.proofs.cross.Statement.{statement}
 use Rattle.gateway.proofs.cross.Tie as tie
+
+slice-aggregate-copy-keys : tie.Need-slice-aggregate-copy-keys
+slice-aggregate-copy-keys c =
+    let s = c .before .before .before .before in
+    sym (length-take-le 120 (s .args .own .now) (s .pre .0))
 
 copy-keys-requires : tie.Need-copy-keys-requires
 copy-keys-requires c κs = search needs
@@ -13,9 +20,10 @@ same-length c = search needs
 returns : tie.Need-returns
 returns c =
     let k = c .before .before in
-    let t = k .before .before in
+    let t = k .before .before .before in
+    let s = t .before .before .before in
     record {
-      same = λ d. (refl, k .copy-keys .ensures);
+      same = λ d. (refl, k .copy-keys .ensures ∙ copied-first 120 (s .args .own .now) (s .args .far .now) (s .pre .0) (s .pre .1));
       refused = λ d. absurd (d (t .if1 .taken));
       carried = λ d. absurd (d (t .if1 .taken));
     }
@@ -57,6 +65,7 @@ pub cross-spec : {M : Type 1} → statement M
 cross-spec =
     tie.close
     (tie.spec
+    slice-aggregate-copy-keys
     copy-keys-requires
     same-length
     returns

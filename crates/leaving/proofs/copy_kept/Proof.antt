@@ -7,10 +7,10 @@ use borrow.Author.Needs.{needs}
 use lib.ListN.{length, drop, take, length-drop, length-append}
 use lib.Seq.{length-take-le}
 use Rattle.area.specs.Area.{metOf}
-use Rattle.area.proofs.Laws.{tail-is}
+use Rattle.lists.specs.Lists.{paint}
+use Rattle.lists.proofs.Laws.{tail-is, Back}
 use Rattle.leaving.specs.Kept.{keptOf}
-use Rattle.leaving.specs.Stages.{paint}
-use Rattle.leaving.proofs.Laws.{keptFrom, kept-stop, kept-over, over-moves, kept-end, take-both, take-none, lesser-both, paint-none, turn-length, turn-paint}
+use Rattle.leaving.proofs.Laws.{keptFrom, kept-stop, kept-over, over-moves, kept-end, take-both, take-none, paint-nothing, turn-length, turn-paint}
 use Rattle.leaving.proofs.copy_kept.Statement.{statement}
 use Rattle.leaving.proofs.copy_kept.Tie as tie
 
@@ -34,10 +34,18 @@ moved c =
     let l = i .before in
     over-moves (l .before .before .before .args .area .now) (l .loop .at) (t .next-option .result) (i .loop-test .taken) (t .next-option .ensures) _ _ (c .n .given .1)
 
--- how many octets are copied
+-- how many octets are copied, of those that are left
 few : (c : tie.After-lesser Inv-loop μ-loop)
-    → (c .lesser .result ≤ c .before .before .n .given .0 .1 .0) × (c .lesser .result ≤ c .before .before .before .before .before .before .before .before .loop .left)
-few c = rw (c .lesser .ensures) (lesser-both (c .before .before .n .given .0 .1 .0) (c .before .before .before .before .before .before .before .before .loop .left))
+    → let l = c .before .before .before .before .before .before .before .before in
+    let area = l .before .before .before .args .area .now in
+    (c .lesser .result ≤ c .before .before .n .given .0 .1 .0)
+    × (c .lesser .result ≤ l .loop .left)
+    × (c .lesser .result ≤ length (take (length area - l .loop .at) (drop (l .loop .at) area)))
+few c =
+    let l = c .before .before .before .before .before .before .before .before in
+    let area = l .before .before .before .args .area .now in
+    let v = moved (c .before .before) in
+    (omega (arith, c .lesser .ensures), omega (arith, c .lesser .ensures), simp (tail-is, length-drop) (omega (arith, c .lesser .ensures)))
 
 loop-holds : tie.Need-loop-holds Inv-loop μ-loop
 unfolding keptOf metOf
@@ -53,7 +61,7 @@ returns c =
     let area = l .before .before .before .args .area .now in
     let z : l .loop .left ≡ 0 = omega arith in
     let e : take (l .loop .left) (keptFrom area (l .loop .at)) ≡ [] = rw z in
-    (omega (arith, ap length e, l .loop .inv .3), paint-none (l .loop .w) (l .loop .out) _ e ∙ l .loop .inv .4)
+    (omega (arith, ap length e, l .loop .inv .3), paint-nothing (l .loop .w) (l .loop .out) _ e ∙ l .loop .inv .4)
 
 sub-rest : tie.Need-sub-rest Inv-loop μ-loop
 sub-rest c = search needs
@@ -80,7 +88,7 @@ returns-2 c =
     let l = i .before in
     let area = l .before .before .before .args .area .now in
     let e = take-none (l .loop .left) (keptFrom area (l .loop .at)) (kept-stop area (l .loop .at) (t .next-option .result) (i .loop-test .taken) (t .next-option .ensures) (c .enum-told .given .1)) in
-    (omega (arith, ap length e, l .loop .inv .3), paint-none (l .loop .w) (l .loop .out) _ e ∙ l .loop .inv .4)
+    (omega (arith, ap length e, l .loop .inv .3), paint-nothing (l .loop .w) (l .loop .out) _ e ∙ l .loop .inv .4)
 
 enum-known-n : tie.Need-enum-known-n Inv-loop μ-loop
 enum-known-n c = search needs
@@ -88,33 +96,36 @@ enum-known-n c = search needs
 lesser-requires : tie.Need-lesser-requires Inv-loop μ-loop
 lesser-requires c κs = search needs
 
-sub-copy-one : tie.Need-sub-copy-one Inv-loop μ-loop
-sub-copy-one c = search needs
+slice-aggregate-copy-octets : tie.Need-slice-aggregate-copy-octets Inv-loop μ-loop
+slice-aggregate-copy-octets c = sym (length-take-le _ _ (few (c .before) .2))
 
-part-copy-one-start : tie.Need-part-copy-one-start Inv-loop μ-loop
-part-copy-one-start c = search needs
+sub-copy-octets : tie.Need-sub-copy-octets Inv-loop μ-loop
+sub-copy-octets c = search needs
 
-part-copy-one-end : tie.Need-part-copy-one-end Inv-loop μ-loop
-part-copy-one-end c = search needs
+part-copy-octets-start : tie.Need-part-copy-octets-start Inv-loop μ-loop
+part-copy-octets-start c = search needs
 
-copy-one-requires : tie.Need-copy-one-requires Inv-loop μ-loop
-copy-one-requires c κs = simp (tail-is, length-drop) (omega (arith, moved (c .before .before .before), few (c .before)))
+part-copy-octets-end : tie.Need-part-copy-octets-end Inv-loop μ-loop
+part-copy-octets-end c = search needs
+
+copy-octets-requires : tie.Need-copy-octets-requires Inv-loop μ-loop
+copy-octets-requires c κs = search needs
 
 add-w : tie.Need-add-w Inv-loop μ-loop
-add-w c = omega (arith, few (c .before .before .before .before), c .before .before .before .before .before .before .before .before .before .before .before .before .loop .inv, c .before .before .before .before .before .before .before .before .before .before .before .before .before .before .before)
+add-w c = omega (arith, few (c .before .before .before .before .before), c .before .before .before .before .before .before .before .before .before .before .before .before .before .loop .inv, c .before .before .before .before .before .before .before .before .before .before .before .before .before .before .before .before)
 
 sub-left : tie.Need-sub-left Inv-loop μ-loop
-sub-left c = omega (arith, few (c .before .before .before .before))
+sub-left c = omega (arith, few (c .before .before .before .before .before))
 
 add-at : tie.Need-add-at Inv-loop μ-loop
-add-at c = omega (arith, moved (c .before .before .before .before .before .before), c .before .before .before .before .before .before .before .before .before .before .before .before .before .before .before)
+add-at c = omega (arith, moved (c .before .before .before .before .before .before .before), c .before .before .before .before .before .before .before .before .before .before .before .before .before .before .before .before)
 
 loop-less : tie.Need-loop-less Inv-loop μ-loop
-loop-less c = omega (arith, moved (c .before .before .before .before .before .before))
+loop-less c = omega (arith, moved (c .before .before .before .before .before .before .before))
 
 loop-again : tie.Need-loop-again Inv-loop μ-loop
 loop-again c =
-    let x = c .before .before .before .before in
+    let x = c .before .before .before .before .before in
     let n = x .before .before in
     let t = n .before .before in
     let i = t .before .before .before in
@@ -125,23 +136,23 @@ loop-again c =
     let m = x .lesser .result in
     let v = moved n in
     let f = few x in
-    let room : l .loop .w + m ≤ length (l .loop .out) = omega (arith, l .loop .inv) in
     let short : kept ≤ length rest = simp (tail-is, length-drop) (omega arith) in
     let xs : List ℕ = take m rest in
     let len : length xs ≡ m = length-take-le m rest (omega arith) in
+    let room : l .loop .w + length xs ≤ length (l .loop .out) = omega (arith, l .loop .inv) in
     let ks : List ℕ = take (l .loop .left - m) (keptFrom area (l .loop .at + n .n .given .0 .0)) in
     let here : take (l .loop .left) (keptFrom area (l .loop .at)) ≡ xs ++ ks =
     ap (take (l .loop .left)) (kept-over area (l .loop .at) (t .next-option .result) (i .loop-test .taken) (t .next-option .ensures) _ _ (n .n .given .1))
-    ∙ take-both kept (l .loop .left) rest (keptFrom area (l .loop .at + n .n .given .0 .0)) short
-    ∙ ap (λ (j : ℕ). take j rest ++ take (l .loop .left - j) (keptFrom area (l .loop .at + n .n .given .0 .0))) (sym (x .lesser .ensures)) in
-    let ys = c .before .before .copy-one .last .1 .1 .0 in
-    let wrote = c .before .before .copy-one .ensures in
-    let whole = turn-length (l .loop .w) m xs ys (l .loop .out) room len wrote in (
+    ∙ take-both kept (l .loop .left) m rest (keptFrom area (l .loop .at + n .n .given .0 .0)) (x .lesser .ensures) short in
+    let ys = c .before .before .copy-octets .last .1 .0 in
+    let wrote = c .before .before .copy-octets .ensures in
+    let whole = turn-length (l .loop .w) xs ys (l .loop .out) room wrote in (
       v .1,
       whole ∙ l .loop .inv .1,
       omega (arith, whole, l .loop .inv .2),
       omega (arith, ap length here, length-append xs ks, l .loop .inv .3),
-      turn-paint (l .loop .w) m xs ys (l .loop .out) room len wrote ks
+      ap (λ (k : ℕ). paint (l .loop .w + k) ks (Back (l .loop .w) (length (l .loop .out)) (l .loop .out) ys)) (sym len)
+          ∙ turn-paint (l .loop .w) xs ys (l .loop .out) room wrote ks
           ∙ ap (λ (y : List ℕ). paint (l .loop .w) y (l .loop .out)) (sym here)
           ∙ l .loop .inv .4,
     )
@@ -154,7 +165,7 @@ returns-3 c =
     let l = c .before in
     let area = l .before .before .before .args .area .now in
     let e = take-none (l .loop .left) (keptFrom area (l .loop .at)) (kept-end area (l .loop .at) (c .loop-test .left)) in
-    (omega (arith, ap length e, l .loop .inv .3), paint-none (l .loop .w) (l .loop .out) _ e ∙ l .loop .inv .4)
+    (omega (arith, ap length e, l .loop .inv .3), paint-nothing (l .loop .w) (l .loop .out) _ e ∙ l .loop .inv .4)
 
 pub copy-kept-spec : {M : Type 1} → statement M
 copy-kept-spec =
@@ -174,10 +185,11 @@ copy-kept-spec =
     returns-2
     enum-known-n
     lesser-requires
-    sub-copy-one
-    part-copy-one-start
-    part-copy-one-end
-    copy-one-requires
+    slice-aggregate-copy-octets
+    sub-copy-octets
+    part-copy-octets-start
+    part-copy-octets-end
+    copy-octets-requires
     add-w
     sub-left
     add-at

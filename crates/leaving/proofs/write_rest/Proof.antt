@@ -33,8 +33,17 @@ returns-3 c =
 copy-kept-requires : tie.Need-copy-kept-requires
 copy-kept-requires c κs = search needs
 
-zero-from-requires : tie.Need-zero-from-requires
-zero-from-requires c κs = (omega (arith, short (c .before .before .before)), search needs)
+sub-zero-all : tie.Need-sub-zero-all
+sub-zero-all c = omega (arith, short (c .before .before))
+
+part-zero-all-start : tie.Need-part-zero-all-start
+part-zero-all-start c = omega (arith, short (c .before .before))
+
+part-zero-all-end : tie.Need-part-zero-all-end
+part-zero-all-end c = search needs
+
+zero-all-requires : tie.Need-zero-all-requires
+zero-all-requires c κs = search needs
 
 add-result : tie.Need-add-result
 add-result c = record { fits = omega (arith, short (c .before .before .before .before .before .before)) }
@@ -51,8 +60,8 @@ returns-4 c =
     let w = z .before .before .before .before in
     let e = w .before .before in
     let s = e .before .before .before .before .before in
-    rest-written (s .args .from) (s .args .kept) (keptOf (s .args .area .now)) (s .args .out .now) (w .copy-kept .result) (w .copy-kept .last .1 .0) (z .zero-from .last .0)
-    (omega arith) (omega arith) (w .copy-kept .ensures .0) (w .copy-kept .ensures .1) (z .zero-from .ensures)
+    rest-written (s .args .from) (s .args .kept) (keptOf (s .args .area .now)) (s .args .out .now) (w .copy-kept .result) (w .copy-kept .last .1 .0) (z .zero-all .last .0)
+    (omega arith) (omega arith) (w .copy-kept .ensures .0) (w .copy-kept .ensures .1) (z .zero-all .ensures)
 
 pub write-rest-spec : {M : Type 1} → statement M
 write-rest-spec =
@@ -62,7 +71,10 @@ write-rest-spec =
     returns-2
     returns-3
     copy-kept-requires
-    zero-from-requires
+    sub-zero-all
+    part-zero-all-start
+    part-zero-all-end
+    zero-all-requires
     add-result
     mul-result
     same-length

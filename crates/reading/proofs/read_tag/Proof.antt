@@ -9,7 +9,7 @@ use mathlib.Core.List.{List}
 use lib.ListN.{length, take, drop}
 use lib.Dec.{leb}
 use Rattle.option.specs.Option.{tagOf, tagLengthOf}
-use Rattle.reading.specs.Reading.{refusal, knownTag, goodLength, categoriesIn, badPlace}
+use Rattle.reading.specs.Reading.{notRead, knownTag, goodLength, categoriesIn, badPlace}
 use Rattle.reading.specs.Keys.{keyed}
 use Rattle.reading.specs.Stages.{PassOver}
 use Rattle.reading.proofs.Keys.{refused-tag, found-tag}
@@ -166,7 +166,7 @@ returns-5 c =
     let s = k .before .before .before .before .before .before .before .before .before .before .before in
     refused-tag (o k) (s .args .keys .now) _ 13 (tagLengthOf (o k) + 6) (λ z. omega arith)
     (stops13 (o k) (past k) (none-bad (c .before .before)) (omega (arith, c .before .if5 .taken, size-is k)))
-    _ (c .refuse5 .ensures ∙ ap (λ (n : ℕ). keyed (refusal 13 (n + 6))) (size-is k)) (pass p .left)
+    _ (c .refuse5 .ensures ∙ ap (λ (n : ℕ). keyed (notRead 13 (n + 6))) (size-is k)) (pass p .left)
 
 shared-slice-read-t11 : tie.Need-shared-slice-read-t11
 shared-slice-read-t11 c = search needs

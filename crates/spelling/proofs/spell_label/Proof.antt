@@ -77,11 +77,24 @@ returns-3 c =
     let e = w .before .before .before in
     unwritten (label-of e) (out-of e) _ _ (well e) (long e) (put w) (c .if3 .taken)
 
-zero-from-requires : tie.Need-zero-from-requires
-zero-from-requires c κs =
-    let w = c .before .before .before .before in
+-- the option's length
+short : (c : tie.Else3) → c .before .before .before .write-keys .result ≤ 40
+short c =
+    let w = c .before .before .before in
     let e = w .before .before .before in
-    (written-short (label-of e) (out-of e) _ _ (well e) (long e) (put w) (c .before .if3 .left), search needs)
+    written-short (label-of e) (out-of e) _ _ (well e) (long e) (put w) (c .if3 .left)
+
+sub-zero-all : tie.Need-sub-zero-all
+sub-zero-all c = omega (arith, short c)
+
+part-zero-all-start : tie.Need-part-zero-all-start
+part-zero-all-start c = omega (arith, short c)
+
+part-zero-all-end : tie.Need-part-zero-all-end
+part-zero-all-end c = search needs
+
+zero-all-requires : tie.Need-zero-all-requires
+zero-all-requires c κs = search needs
 
 same-length-2 : tie.Need-same-length-2
 same-length-2 c = search needs
@@ -91,7 +104,7 @@ returns-4 c =
     let z = c .before .before in
     let w = z .before .before .before .before .before in
     let e = w .before .before .before in
-    completed (label-of e) (out-of e) _ _ (well e) (long e) (put w) _ (z .zero-from .ensures) (z .before .before .if3 .left)
+    completed (label-of e) (out-of e) _ _ (well e) (long e) (put w) _ (z .zero-all .ensures) (z .before .before .if3 .left)
 
 pub spell-label-spec : {M : Type 1} → statement M
 spell-label-spec =
@@ -106,6 +119,9 @@ spell-label-spec =
     write-keys-requires
     same-length
     returns-3
-    zero-from-requires
+    sub-zero-all
+    part-zero-all-start
+    part-zero-all-end
+    zero-all-requires
     same-length-2
     returns-4)

@@ -1,11 +1,11 @@
 -- `spelling::write_bitmap` meets its contract.
 use borrow.Author.Needs.{needs}
 use native.Mathlib.Omega.{arith}
-use Prim.Native.Nat.{_-_, _≤_}
-use mathlib.Core.Path.{_≡_, _∙_}
-use mathlib.Core.List.{_++_}
-use lib.ListN.{length, take}
-use lib.Seq.{take-all}
+use Prim.Native.Nat.{ℕ, _-_, _≤_}
+use mathlib.Core.Path.{_≡_, sym, ap, _∙_}
+use mathlib.Core.List.{List, _++_}
+use lib.ListN.{length, take, drop, replicate}
+use lib.Seq.{take-all, length-take-le}
 use Rattle.label.specs.Runs.{covers}
 use Rattle.label.specs.Keys.{keyRuns}
 use Rattle.option.specs.Spelling.{octetsOf}
@@ -19,13 +19,27 @@ Inv-loop keys n out₀ m i₀ out i = (i ≤ m) × (n ≤ length out₀) × Bitm
 abbrev μ-loop : tie.MeasureT-loop
 μ-loop keys n out₀ m i₀ out i = m - i
 
-clear-front-requires : tie.Need-clear-front-requires Inv-loop μ-loop
-clear-front-requires c κs = search needs
+-- the first n octets are 0
+cleared : (c : tie.After-zero-all Inv-loop μ-loop)
+    → let a = c .before .before .before .before .args in c .zero-all .last .0 ++ drop (a .n) (a .out .now) ≡ replicate (a .n) 0 ++ drop (a .n) (a .out .now)
+cleared c =
+    let s = c .before .before .before .before in
+    ap (λ (z : List ℕ). z ++ drop (s .args .n) (s .args .out .now)) (c .zero-all .ensures ∙ ap (λ (k : ℕ). replicate k 0) (length-take-le (s .args .n) (s .args .out .now) (s .pre .1)))
+
+slice-relend-prefix-zero-all : tie.Need-slice-relend-prefix-zero-all Inv-loop μ-loop
+slice-relend-prefix-zero-all c = search needs
+
+slice-aggregate-zero-all : tie.Need-slice-aggregate-zero-all Inv-loop μ-loop
+slice-aggregate-zero-all c = sym (length-take-le _ _ (c .before .before .before .pre .1))
+
+zero-all-requires : tie.Need-zero-all-requires Inv-loop μ-loop
+zero-all-requires c κs = search needs
 
 loop-holds : tie.Need-loop-holds Inv-loop μ-loop
 loop-holds c =
     let s = c .before .before .before .before .before .before in
-    (omega arith, omega (arith, cleared-length (s .args .n) (s .args .out .now) _ (c .before .before .clear-front .ensures) (s .pre .1), s .pre .1), cleared-bitmap (s .args .n) (s .args .out .now) _ (c .before .before .clear-front .ensures))
+    let e = cleared (c .before .before) in
+    (omega arith, omega (arith, cleared-length (s .args .n) (s .args .out .now) _ e (s .pre .1), s .pre .1), cleared-bitmap (s .args .n) (s .args .out .now) _ e)
 
 mul-add-run : tie.Need-mul-add-run Inv-loop μ-loop
 mul-add-run c = search needs
@@ -54,7 +68,7 @@ same-length : tie.Need-same-length Inv-loop μ-loop
 same-length c =
     let p = c .before .before .before .before in
     let s = p .before .before .before .before in
-    c .before .loop .inv .2 .sized ∙ cleared-length (s .args .n) (s .args .out .now) _ (p .clear-front .ensures) (s .pre .1)
+    c .before .loop .inv .2 .sized ∙ cleared-length (s .args .n) (s .args .out .now) _ (cleared p) (s .pre .1)
 
 returns : tie.Need-returns Inv-loop μ-loop
 returns c =
@@ -63,7 +77,7 @@ returns c =
     let l = c .before .loop in
     let ks = s .args .keys .now in
     let e : take (l .i) ks ≡ ks = take-all (l .i) ks (c .loop-test .left) in
-    let f = cleared-rest (s .args .n) (s .args .out .now) _ (p .clear-front .ensures) in
+    let f = cleared-rest (s .args .n) (s .args .out .now) _ (cleared p) in
     bitmap-whole (l .inv .2) (l .inv .1) ∙ (λ i. octetsOf (covers (keyRuns (e i))) (s .args .n) ++ f i)
 
 pub write-bitmap-spec : {M : Type 1} → statement M
@@ -72,7 +86,9 @@ write-bitmap-spec =
     (tie.spec
     Inv-loop
     μ-loop
-    clear-front-requires
+    slice-relend-prefix-zero-all
+    slice-aggregate-zero-all
+    zero-all-requires
     loop-holds
     mul-add-run
     shared-slice-read-add-run

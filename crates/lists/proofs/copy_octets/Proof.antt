@@ -1,18 +1,23 @@
-use Prim.Native.Nat.{ℕ, _≤_, _-_, _+_}
-use mathlib.Core.Path.{_≡_, refl, ap, _∙_}
-use mathlib.Core.List.{List, _++_}
-use native.Mathlib.Omega.{arith}
+-- `lists::copy_octets` meets its contract.
 use borrow.Author.Needs.{needs}
-use lib.ListN.{length, drop, take, getD, set, length-set}
-use Rattle.leaving.proofs.Laws.{copy-more}
-use Rattle.leaving.proofs.copy_one.Statement.{statement}
-use Rattle.leaving.proofs.copy_one.Tie as tie
+use native.Mathlib.Omega.{arith}
+use Prim.Native.Nat.{ℕ, _≤_, _-_}
+use mathlib.Core.Path.{_≡_, refl, _∙_, ap}
+use mathlib.Core.List.{List, _++_}
+use lib.ListN.{length, take, drop, getD, set, length-set}
+use Rattle.lists.proofs.Laws.{copy-more, copied-least}
+use Rattle.lists.proofs.copy_octets.Statement.{statement}
+use Rattle.lists.proofs.copy_octets.Tie as tie
 
 abbrev Inv-loop : tie.InvT-loop
-Inv-loop src n dst₀ i₀ dst i = (i ≤ n) × (length dst ≡ length dst₀) × (dst ≡ take i src ++ drop i dst₀)
+Inv-loop src dst₀ n i₀ dst i =
+    (i ≤ n) × (length dst ≡ length dst₀) × (dst ≡ take i src ++ drop i dst₀)
 
 abbrev μ-loop : tie.MeasureT-loop
-μ-loop src n dst₀ i₀ dst i = n - i
+μ-loop src dst₀ n i₀ dst i = n - i
+
+lesser-requires : tie.Need-lesser-requires Inv-loop μ-loop
+lesser-requires c κs = search needs
 
 loop-holds : tie.Need-loop-holds Inv-loop μ-loop
 loop-holds c = (omega arith, refl, refl)
@@ -32,7 +37,7 @@ loop-less c = search needs
 loop-again : tie.Need-loop-again Inv-loop μ-loop
 loop-again c =
     let l = c .before .before in
-    let a = l .before .args in (
+    let a = l .before .before .before .before .args in (
       omega arith,
       simp length-set (l .loop .inv .1),
       ap (λ (d : List ℕ). set d (l .loop .i) (getD (a .src .now) (l .loop .i) 0)) (l .loop .inv .2)
@@ -45,16 +50,18 @@ same-length c = c .before .loop .inv .1
 returns : tie.Need-returns Inv-loop μ-loop
 returns c =
     let l = c .before in
-    let a = l .before .args in
-    let e : l .loop .i ≡ a .n = omega arith in
-    l .loop .inv .2 ∙ ap (λ (k : ℕ). take k (a .src .now) ++ drop k (a .dst .now)) e
+    let m = l .before in
+    let a = m .before .before .before .args in
+    let e : l .loop .i ≡ m .lesser .result = omega arith in
+    l .loop .inv .2 ∙ copied-least (a .src .now) (a .dst .now) (l .loop .i) (e ∙ m .lesser .ensures)
 
-pub copy-one-spec : {M : Type 1} → statement M
-copy-one-spec =
+pub copy-octets-spec : {M : Type 1} → statement M
+copy-octets-spec =
     tie.close
     (tie.spec
     Inv-loop
     μ-loop
+    lesser-requires
     loop-holds
     shared-slice-read-dst
     slice-write-dst
