@@ -21,6 +21,7 @@
 //   14 write 130   level octet (1), flag field (2), output                  number, count, output
 //   15 forward     wide port, wide port, wide table, facts, n (1), n octets, output     as 6
 //   16 deliver     wide port, host, facts, n (1), n octets                  as 7
+//   17 spell       label, spellings (1), output                             as 4
 //   22 reverse          wide table, room (2, at most 1024 rows)             number, from, to, pair count, each pair, row count, each row
 //   24 bitmap    n (1), n octets                                            number, count, low and high of each run
 //
@@ -34,6 +35,7 @@
 //   wide port     a port, then one octet of groups, then the groups that are there; a group whose bit is 0 has document 01's values
 //                 1 Basic Security: on (1), then for receiving and for sending: lowest level (1), highest level (1), count (2),
 //                   stored (2, at most 256), that many flag fields (2 each)
+//                 2 spellings (1, at most 15): 1 tag 1 shortest, 2 tag 1 with ten bitmap octets, 4 tag 2, 8 tag 5
 //   wide table    from (4), to (4), level pair count (2), stored (2, at most 16), that many pairs (1 + 1),
 //                 row count (2), lent (2, at most 64), that many rows of low (2), high (2), target low (2)
 //   output   length (2, at most 512, in entries 11 and 12 at most 65535), the octet that fills it (1)
@@ -44,10 +46,10 @@ use std::io::{self, Read, Write};
 
 use crate::basic::{self, BasicRecord, Marking, WayRecord, MAX_FLAG_FIELDS};
 use crate::decision::{deliver, forward, Decision, Facts};
-use crate::entries::{Entries, BASIC_GROUP, GROUPS};
+use crate::entries::{Entries, BASIC_GROUP, GROUPS, SPELLINGS_GROUP};
 use crate::file::{self, Refusal, SetRecord, Unwritten, MAX_PORTS, MAX_TABLES};
 use crate::label::{HeldLabel, Run, MAX_RUNS};
-use crate::option::{read_alone, read_bitmap_alone, spell_alone};
+use crate::option::{read_alone, read_bitmap_alone, spell_alone, ALL_SPELLINGS, PLAIN_SPELLINGS};
 use crate::records::{renumber_alone, reverse, HostRecord, PortRecord, Row, TableRecord, MAX_LEVEL_PAIRS, MAX_ROWS};
 
 pub const CONTAINS: u8 = 1;
@@ -66,6 +68,7 @@ pub const READ_BASIC: u8 = 13;
 pub const WRITE_BASIC: u8 = 14;
 pub const FORWARD_WIDE: u8 = 15;
 pub const DELIVER_WIDE: u8 = 16;
+pub const SPELL_PERMITTED: u8 = 17;
 pub const REVERSE: u8 = 22;
 pub const BITMAP: u8 = 24;
 
@@ -117,6 +120,7 @@ pub enum Case {
     WriteBasic(Marking, Output),
     ForwardWide(Box<ForwardCase>),
     DeliverWide(Box<DeliverCase>),
+    SpellPermitted(HeldLabel, u8, Output),
     Reverse(TableRecord, usize),
     Bitmap(Vec<u8>),
 }
@@ -237,7 +241,14 @@ impl<'a> Fields<'a> {
         if groups & BASIC_GROUP != 0 {
             port.basic = BasicRecord { on: self.flag()?, receiving: self.way()?, sending: self.way()? };
         }
+        if groups & SPELLINGS_GROUP != 0 {
+            port.spellings = self.spellings()?;
+        }
         Some(port)
+    }
+
+    fn spellings(&mut self) -> Option<u8> {
+        self.one().filter(|spellings| *spellings <= ALL_SPELLINGS)
     }
 
     fn way(&mut self) -> Option<WayRecord> {
@@ -332,6 +343,7 @@ pub fn parse(octets: &[u8], entries: &Entries) -> Option<Case> {
         WRITE_BASIC => Case::WriteBasic(Marking { level: fields.one()?, flags: fields.two()? }, fields.output()?),
         FORWARD_WIDE => Case::ForwardWide(Box::new(fields.forward_wide()?)),
         DELIVER_WIDE => Case::DeliverWide(Box::new(fields.deliver_wide()?)),
+        SPELL_PERMITTED => Case::SpellPermitted(fields.label()?, fields.spellings()?, fields.output()?),
         REVERSE => Case::Reverse(fields.wide_table()?, fields.long_stored(MAX_ROOM)?),
         BITMAP => Case::Bitmap(fields.counted_octets()?),
         _ => return None,
@@ -418,12 +430,16 @@ impl Encoder {
     /// A group that says what document 01 says is there only with `spare`.
     pub fn wide_port(&mut self, port: &PortRecord) {
         self.port(port);
-        let basic = self.spare > 0 || port.basic != BasicRecord::OFF;
-        self.octets.push(if basic { BASIC_GROUP } else { 0 });
+        let basic = self.spare > 0 || port.basic != PortRecord::PLAIN.basic;
+        let spellings = self.spare > 0 || port.spellings != PortRecord::PLAIN.spellings;
+        self.octets.push(if basic { BASIC_GROUP } else { 0 } | if spellings { SPELLINGS_GROUP } else { 0 });
         if basic {
             self.octets.push(port.basic.on as u8);
             self.way(&port.basic.receiving);
             self.way(&port.basic.sending);
+        }
+        if spellings {
+            self.octets.push(port.spellings);
         }
     }
 
@@ -584,6 +600,12 @@ pub fn encode(case: &Case, spare: usize) -> Vec<u8> {
             encoder.octets.push(DELIVER_WIDE);
             encoder.deliver_wide(case);
         }
+        Case::SpellPermitted(label, spellings, output) => {
+            encoder.octets.push(SPELL_PERMITTED);
+            encoder.label(label);
+            encoder.octets.push(*spellings);
+            encoder.output(*output);
+        }
         Case::Reverse(table, room) => {
             encoder.octets.push(REVERSE);
             encoder.wide_table(table);
@@ -695,6 +717,14 @@ impl Line {
         }
     }
 
+    fn spelled(&mut self, label: &HeldLabel, permitted: u8, output: Output) {
+        let mut octets = vec![output.fill; output.length];
+        let (number, count) = spell_alone(label, permitted, &mut octets);
+        self.number(number as usize);
+        self.number(count);
+        self.output(&octets);
+    }
+
     fn decision(&mut self, decision: &Decision) {
         self.number(decision.number as usize);
         self.number(decision.icmp_type as usize);
@@ -734,13 +764,8 @@ pub fn answer(case: &Case) -> String {
             line.number(number as usize);
             line.label(&renumbered);
         }
-        Case::Spell(label, output) => {
-            let mut octets = vec![output.fill; output.length];
-            let (number, count) = spell_alone(label, &mut octets);
-            line.number(number as usize);
-            line.number(count);
-            line.output(&octets);
-        }
+        Case::Spell(label, output) => line.spelled(label, PLAIN_SPELLINGS, *output),
+        Case::SpellPermitted(label, spellings, output) => line.spelled(label, *spellings, *output),
         Case::Read(octets) => {
             let (number, pointer, held) = match read_alone(octets) {
                 Ok(label) => (0, 0, label.held().expect("a valid option means at most 120 runs")),

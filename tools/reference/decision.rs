@@ -182,8 +182,9 @@ fn decide_forward(
     if !leaving.in_range(&label) {
         return refuse(17);
     }
-    // 18: "no valid option means the label, or the options exceed 40 octets". A set of over 120 runs has no valid option.
-    let option = match spell(&label) {
+    // 18: "no valid option means the label, or the options exceed 40 octets". A set of over 120 runs has no valid option. Wish 5: of the
+    // options only those that the leaving port permits.
+    let option = match spell(&label, leaving.spellings) {
         Some(option) => option,
         None => return refuse(18),
     };

@@ -27,6 +27,7 @@ fn port(record: &PortRecord) -> fast::Port {
         required: record.required,
         assigned: label(&record.assigned),
         basic: fast::basic::Basic { on: record.basic.on, receiving: way(&record.basic.receiving), sending: way(&record.basic.sending) },
+        spellings: record.spellings,
     }
 }
 
@@ -90,6 +91,12 @@ fn add_written(line: &mut Line, set: &fast::file::Set, output: Output) {
     line.output(&octets);
 }
 
+fn add_spelled(line: &mut Line, spelled: Result<u8, u8>, octets: &[u8]) {
+    line.number(spelled.err().unwrap_or(0) as usize);
+    line.number(spelled.unwrap_or(0) as usize);
+    line.output(octets);
+}
+
 /// The line for a label that is returned, whose unused places must be 0 also where the line does not show them.
 fn add_label(line: &mut Line, returned: &fast::Label) {
     line.label(&held(returned));
@@ -104,13 +111,13 @@ fn answer(case: &Case) -> Option<String> {
     match case {
         Case::Spell(held, output) => {
             let mut octets = vec![output.fill; output.length];
-            let (number, count) = match fast::spell_label(&label(held), &mut octets) {
-                Ok(count) => (0, count),
-                Err(number) => (number, 0),
-            };
-            line.number(number as usize);
-            line.number(count as usize);
-            line.output(&octets);
+            let spelled = fast::spell_label(&label(held), &mut octets);
+            add_spelled(&mut line, spelled, &octets);
+        }
+        Case::SpellPermitted(held, permitted, output) => {
+            let mut octets = vec![output.fill; output.length];
+            let spelled = fast::spell_permitted(&label(held), *permitted, &mut octets);
+            add_spelled(&mut line, spelled, &octets);
         }
         Case::Read(octets) => {
             let (number, pointer, label) = match fast::read_option(octets) {

@@ -132,6 +132,7 @@ impl Reader<'_> {
     }
 
     fn port(&mut self, port: &mut Port) -> Result<(), Refusal> {
+        port.spellings = Port::PLAIN.spellings;
         port.domain = self.domain(|domain| domain != 0)?;
         self.label(port.domain, &mut port.lowest)?;
         let highest_at = self.at;

@@ -172,19 +172,38 @@ fn assemble(label: &Label, tag: u8, categories: &[u8]) -> Vec<u8> {
     option
 }
 
-/// Tag 1 without trailing zero octets; none where a category is over 239.
-fn spell_bitmap(label: &Label) -> Option<Vec<u8>> {
-    let mut octets = Vec::new();
-    if let Some(highest) = label.categories.highest() {
-        if highest >= BITMAP_CATEGORIES {
-            return None;
-        }
-        octets.resize(highest as usize / 8 + 1, 0);
-    }
+/// Tag 1 with that many bitmap octets, which have room for every category.
+fn assemble_bitmap(label: &Label, length: usize) -> Vec<u8> {
+    let mut octets = vec![0; length];
     for category in label.categories.iter() {
         octets[category as usize / 8] |= 0x80 >> (category % 8);
     }
-    Some(assemble(label, BITMAP, &octets))
+    assemble(label, BITMAP, &octets)
+}
+
+/// The bitmap octets up to the highest category's.
+fn bitmap_octets(label: &Label) -> usize {
+    label.categories.highest().map_or(0, |highest| highest as usize / 8 + 1)
+}
+
+/// Tag 1 without trailing zero octets; none where a category is over 239.
+fn spell_bitmap(label: &Label) -> Option<Vec<u8>> {
+    let length = bitmap_octets(label);
+    if length > BITMAP_OCTETS {
+        return None;
+    }
+    Some(assemble_bitmap(label, length))
+}
+
+/// "tag 1 with exactly ten bitmap octets"
+const TEN_OCTETS: usize = 10;
+
+/// Tag 1 in its ten-octet form; none where a category is over 79.
+fn spell_ten_octets(label: &Label) -> Option<Vec<u8>> {
+    if bitmap_octets(label) > TEN_OCTETS {
+        return None;
+    }
+    Some(assemble_bitmap(label, TEN_OCTETS))
 }
 
 /// Tag 2; none where there are over 15 categories.
@@ -212,16 +231,29 @@ fn spell_ranges(label: &Label) -> Option<Vec<u8>> {
     Some(assemble(label, RANGES, &octets))
 }
 
-/// "it writes the shortest valid option that means it": every tag is tried, and of equal lengths the first stands.
-/// None where "no valid option means the label".
-pub fn spell(label: &Label) -> Option<Vec<u8>> {
-    let spellings = [spell_bitmap(label), spell_enumerated(label), spell_ranges(label)];
-    spellings.into_iter().flatten().min_by_key(|option| option.len())
+/// Document 02, wish 5: "the set of permitted spellings: tag 1 shortest, tag 1 with exactly ten bitmap octets, tag 2, tag 5". A set is the
+/// sum of its members.
+pub const SHORTEST_BITMAP: u8 = 1;
+pub const TEN_OCTET_BITMAP: u8 = 2;
+pub const LISTED: u8 = 4;
+pub const PAIRED: u8 = 8;
+pub const ALL_SPELLINGS: u8 = 15;
+/// "With tags 1, 2 and 5 permitted and no ten-octet form, 01's cases stand."
+pub const PLAIN_SPELLINGS: u8 = SHORTEST_BITMAP + LISTED + PAIRED;
+
+/// "shortest among the permitted ones, ties in the order just listed": every permitted spelling is tried, and of equal lengths the first
+/// stands. None "exactly if no permitted one means the label".
+pub fn spell(label: &Label, permitted: u8) -> Option<Vec<u8>> {
+    let spellings: [(u8, fn(&Label) -> Option<Vec<u8>>); 4] =
+        [(SHORTEST_BITMAP, spell_bitmap), (TEN_OCTET_BITMAP, spell_ten_octets), (LISTED, spell_enumerated), (PAIRED, spell_ranges)];
+    let in_set = spellings.iter().filter(|(member, _)| permitted & member != 0);
+    in_set.filter_map(|(_, spelling)| spelling(label)).min_by_key(|option| option.len())
 }
 
 /// "Spelling gives 1 for an output under 40, then 2, then 18; done, it writes the option, zeros from there up to octet 39, leaves
-/// octets from 40 on, and returns the length." A refusal comes with "count 0" and writes nothing.
-pub fn spell_alone(held: &HeldLabel, output: &mut [u8]) -> (u8, usize) {
+/// octets from 40 on, and returns the length." A refusal comes with "count 0" and writes nothing. 18 is given "exactly if no permitted one
+/// means the label", so for an empty set always.
+pub fn spell_alone(held: &HeldLabel, permitted: u8, output: &mut [u8]) -> (u8, usize) {
     if output.len() < MAX_OCTETS {
         return (1, 0);
     }
@@ -229,7 +261,7 @@ pub fn spell_alone(held: &HeldLabel, output: &mut [u8]) -> (u8, usize) {
         Some(label) => label,
         None => return (2, 0),
     };
-    match spell(&label) {
+    match spell(&label, permitted) {
         None => (18, 0),
         Some(option) => {
             output[..MAX_OCTETS].fill(0);

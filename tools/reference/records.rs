@@ -5,6 +5,7 @@
 use crate::basic::{self, Basic, BasicRecord, Marking};
 use crate::categories::Categories;
 use crate::label::{HeldLabel, Label, HIGHEST_CATEGORY};
+use crate::option::{ALL_SPELLINGS, PLAIN_SPELLINGS};
 
 /// "up to 16 level pairs"
 pub const MAX_LEVEL_PAIRS: usize = 16;
@@ -21,6 +22,8 @@ pub struct PortRecord {
     pub assigned: HeldLabel,
     /// Wish 3.
     pub basic: BasicRecord,
+    /// Wish 5: "the set of permitted spellings", a sum.
+    pub spellings: u8,
 }
 
 /// What a sound port record says. `assigned` is none where a label is required, `basic` where option 130 is switched off.
@@ -30,6 +33,7 @@ pub struct Port {
     pub highest: Label,
     pub assigned: Option<Label>,
     pub basic: Option<Basic>,
+    pub spellings: u8,
 }
 
 impl PortRecord {
@@ -40,14 +44,15 @@ impl PortRecord {
         required: false,
         assigned: HeldLabel::ALL_ZERO,
         basic: BasicRecord::OFF,
+        spellings: 0,
     };
 
     /// The later fields "as 01 had them".
-    pub const PLAIN: PortRecord = PortRecord { ..PortRecord::ALL_ZERO };
+    pub const PLAIN: PortRecord = PortRecord { spellings: PLAIN_SPELLINGS, ..PortRecord::ALL_ZERO };
 
     /// Whether the later fields are "as 01 had them".
     pub fn is_plain(&self) -> bool {
-        self.basic == PortRecord::PLAIN.basic
+        self.basic == PortRecord::PLAIN.basic && self.spellings == PortRecord::PLAIN.spellings
     }
 
     /// "Sound: nonzero domain, all labels used are well formed and of that domain, lowest ≤ highest. If a label isn't required, the
@@ -75,7 +80,11 @@ impl PortRecord {
             Some(assigned)
         };
         let basic = self.basic.sound()?;
-        Some(Port { domain: self.domain, lowest, highest, assigned, basic })
+        // Wish 5: "An empty set makes the record unsound (2)."
+        if self.spellings == 0 || self.spellings > ALL_SPELLINGS {
+            return None;
+        }
+        Some(Port { domain: self.domain, lowest, highest, assigned, basic, spellings: self.spellings })
     }
 }
 

@@ -12,15 +12,18 @@ use basic::Basic;
 use basic::Way;
 use label::Label;
 use label::Run;
+use option::Spellings;
 use port::Host;
 use port::Port;
 use table::Row;
 use table::Table;
 
-// The groups of a port's later fields: option 130.
+// The groups of a port's later fields: option 130, permitted spellings.
 const BASIC_GROUP: u8 = 1;
 
-const ALL_GROUPS: usize = 1;
+const SPELLINGS_GROUP: u8 = 2;
+
+const ALL_GROUPS: usize = 3;
 
 pub struct TakenLabel {
     pub label: Label,
@@ -29,6 +32,11 @@ pub struct TakenLabel {
 
 pub struct TakenPort {
     pub port: Port,
+    pub next: usize,
+}
+
+pub struct TakenSpellings {
+    pub spellings: Spellings,
     pub next: usize,
 }
 
@@ -110,12 +118,14 @@ pub fn take_port(case: &[u8], at: usize) -> TakenPort {
 pub fn take_wide_port(case: &[u8], at: usize) -> TakenPort {
     let taken = take_port(case, at);
     let groups = take_groups(case, taken.next);
-    let basic = take_basic(case, groups.next, has_group(groups.value, BASIC_GROUP));
+    let basic = take_basic(case, groups.next, has_part(groups.value, BASIC_GROUP));
+    let spellings = take_spellings_group(case, basic.next, has_part(groups.value, SPELLINGS_GROUP));
     let plain = taken.port;
     let lowest = plain.lowest;
     let highest = plain.highest;
     let assigned = plain.assigned;
     let settings = basic.basic;
+    let permitted = spellings.spellings;
     let port = Port {
         domain: plain.domain,
         lowest: lowest,
@@ -123,10 +133,11 @@ pub fn take_wide_port(case: &[u8], at: usize) -> TakenPort {
         required: plain.required,
         assigned: assigned,
         basic: settings,
+        spellings: permitted,
     };
     TakenPort {
         port: port,
-        next: basic.next,
+        next: spellings.next,
     }
 }
 
@@ -135,11 +146,38 @@ fn take_groups(case: &[u8], at: usize) -> Octet {
     take_stored(case, at, ALL_GROUPS)
 }
 
-fn has_group(groups: u8, group: u8) -> bool {
-    if group == 0 {
+// Whether a power of 2 is a part of the sum.
+fn has_part(sum: u8, part: u8) -> bool {
+    if part == 0 {
         return false;
     }
-    groups / group % 2 == 1
+    sum / part % 2 == 1
+}
+
+// Permitted spellings; document 01's where the group is not there.
+fn take_spellings_group(case: &[u8], at: usize, there: bool) -> TakenSpellings {
+    if !there {
+        return TakenSpellings {
+            spellings: Spellings::usual(),
+            next: at,
+        };
+    }
+    take_spellings(case, at)
+}
+
+// One octet, the sum of permitted spellings: 1 tag 1 shortest, 2 tag 1 with ten bitmap octets, 4 tag 2, 8 tag 5.
+pub fn take_spellings(case: &[u8], at: usize) -> TakenSpellings {
+    let sum = take_stored(case, at, 15);
+    let spellings = Spellings {
+        shortest: has_part(sum.value, 1),
+        ten: has_part(sum.value, 2),
+        numbers: has_part(sum.value, 4),
+        pairs: has_part(sum.value, 8),
+    };
+    TakenSpellings {
+        spellings: spellings,
+        next: sum.next,
+    }
 }
 
 // Whether the Basic Security Option is switched on, and what passes of it, receiving and sending.

@@ -1,33 +1,57 @@
-// Entries 4, 5, 13, 14 and 24: one option spelled and read, option 130 read and written, and a bitmap read by the table of octets.
+// Entries 4, 5, 13, 14, 17 and 24: one option spelled and read, option 130 read and written, and a bitmap read by the table of octets.
 use basic::read_basic;
 use basic::write_basic;
 use bitmap::read_bitmap;
 use case_fields::LONGEST;
+use case_fields::TakenLabel;
 use case_fields::octets_of;
 use case_fields::take_label;
 use case_fields::take_octet;
 use case_fields::take_octets;
 use case_fields::take_output;
 use case_fields::take_short;
+use case_fields::take_spellings;
 use case_lines::put_broken;
 use case_lines::put_label;
 use case_lines::put_lent;
 use label::Label;
 use lines::put_decimal;
 use lines::put_next;
+use option::Spellings;
 use reading::read_option;
 use spelling::spell_label;
 
+// Entry 4: as document 01 permits it.
 pub fn ask_spell(case: &[u8], at: usize, out: &mut [u8], n: usize) -> usize {
     let a = take_label(case, at);
-    let lent = take_output(case, a.next);
+    put_spelled(case, a.next, a, Spellings::usual(), out, n)
+}
+
+// Entry 17: under a set of permitted spellings.
+pub fn ask_spell_permitted(case: &[u8], at: usize, out: &mut [u8], n: usize) -> usize {
+    let a = take_label(case, at);
+    let permitted = take_spellings(case, a.next);
+    let spellings = permitted.spellings;
+    put_spelled(case, permitted.next, a, spellings, out, n)
+}
+
+// The output, and the label spelled.
+fn put_spelled(
+    case: &[u8],
+    at: usize,
+    a: TakenLabel,
+    permitted: Spellings,
+    out: &mut [u8],
+    n: usize,
+) -> usize {
+    let lent = take_output(case, at);
     if lent.next != case.len() {
         return put_broken(out, n);
     }
     let label = a.label;
     let room = lent.room;
     let mut space = [lent.fill; LONGEST];
-    let s = spell_label(label, &mut space[0..room]);
+    let s = spell_label(label, permitted, &mut space[0..room]);
     let numbered = put_decimal(out, n, s.number as u64);
     let counted = put_next(out, numbered, s.count as u64);
     put_lent(out, counted, &space, room)

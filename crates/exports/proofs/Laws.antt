@@ -9,6 +9,7 @@ use Rattle.label.specs.declared.Label.{Label}
 use Rattle.label.specs.Keys.{withKeys}
 use Rattle.reading.specs.declared.Reading.{Reading}
 use Rattle.reading.specs.Reading.{readingOf}
+use Rattle.option.specs.Permitted.{usual}
 use Rattle.spelling.specs.declared.Spelling.{Spelling}
 use Rattle.spelling.specs.Spelling.{spellingAnswer, spellingOut}
 use Rattle.arrival.specs.declared.Decision.{Decision}
@@ -49,11 +50,11 @@ spells-nothing l out answer h =
     record { number = simp e; numbers = simp e; octets = simp e }
 
 pub spells-whole : (own l : Label) (out answer out′ answer′ : List ℕ) (s : Spelling) → own ≡ l → 2 ≤ length answer
-    → s ≡ spellingAnswer own (length out) → out′ ≡ spellingOut own out → answer′ ≡ headed (spellingNumbers s) answer
+    → s ≡ spellingAnswer usual own (length out) → out′ ≡ spellingOut usual own out → answer′ ≡ headed (spellingNumbers s) answer
     → Spells l out answer out′ answer′ (s .number)
 spells-whole own l out answer out′ answer′ s q h e o a =
     let f = le-leb _ _ h in
-    let g : s ≡ spellingAnswer l (length out) = rw q at e in
+    let g : s ≡ spellingAnswer usual l (length out) = rw q at e in
     record {
       number = rw f (ap (λ (x : Spelling). x .number) g);
       numbers = rw f (a ∙ ap (λ (x : Spelling). headed (spellingNumbers x) answer) g);

@@ -10,6 +10,7 @@ use Rattle.label.specs.declared.Label.{Label}
 use Rattle.label.specs.Keys.{keyRuns, labelFrom, withKeys}
 use Rattle.reading.specs.declared.Reading.{Reading}
 use Rattle.reading.specs.Reading.{readingOf}
+use Rattle.option.specs.Permitted.{usual}
 use Rattle.spelling.specs.declared.Spelling.{Spelling}
 use Rattle.spelling.specs.Spelling.{spellingAnswer, spellingOut}
 use Rattle.arrival.specs.declared.Decision.{Decision}
@@ -53,11 +54,11 @@ pub record Reads (octets answer runs answer′ runs′ : List ℕ) (r : ℕ) : T
 abbrev pub labelBy : ℕ → ℕ → List ℕ → Label
 labelBy domain level runs = labelFrom domain level (keyRuns runs)
 
--- A label spelled: `out` and `answer` at entry and at exit, and what is returned.
+-- A label spelled as document 01 permits it: `out` and `answer` at entry and at exit, and what is returned.
 pub record Spells (l : Label) (out answer out′ answer′ : List ℕ) (r : ℕ) : Type 0 where
-  pub number : r ≡ cond (leb 2 (length answer)) (spellingAnswer l (length out) .number) 1
-  pub numbers : answer′ ≡ cond (leb 2 (length answer)) (headed (spellingNumbers (spellingAnswer l (length out))) answer) answer
-  pub octets : out′ ≡ cond (leb 2 (length answer)) (spellingOut l out) out
+  pub number : r ≡ cond (leb 2 (length answer)) (spellingAnswer usual l (length out) .number) 1
+  pub numbers : answer′ ≡ cond (leb 2 (length answer)) (headed (spellingNumbers (spellingAnswer usual l (length out))) answer) answer
+  pub octets : out′ ≡ cond (leb 2 (length answer)) (spellingOut usual l out) out
 
 -- what is asked of the sample's gateway, with the five facts as they are stated
 abbrev pub factsOf : Bool → Bool → Bool → Bool → Bool → Facts

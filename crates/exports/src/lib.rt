@@ -11,6 +11,7 @@ use gateway::forward;
 use label::Label;
 use label::label_keys;
 use label::to_label;
+use option::Spellings;
 use reading::read_option;
 use sample_records::arriving;
 use sample_records::leaving;
@@ -66,7 +67,8 @@ pub extern "C" fn inglebreek_spell(
         return 1;
     }
     let label = to_label(runs, runs.len(), domain, level);
-    let s = spell_label(label, out);
+    let permitted = Spellings::usual();
+    let s = spell_label(label, permitted, out);
     let numbers = [s.number as u64, s.count as u64];
     put_numbers(answer, &numbers);
     s.number

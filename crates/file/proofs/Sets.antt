@@ -1,5 +1,5 @@
 -- A set has octets exactly when it is sound and version 1 can say it.
-use mathlib.Core.Bool.{Bool, true, false, cond, not, _&&_}
+use mathlib.Core.Bool.{Bool, true, false, cond, not, _&&_, _||_, true≢false}
 use mathlib.Core.List.{List, [], _∷_, _++_}
 use mathlib.Core.Path.{_≡_, refl, sym, ap, subst, _∙_}
 use Prim.Native.Nat.{ℕ, zero, suc, _+_, _-_, _*_, _≤_, _<_}
@@ -11,6 +11,8 @@ use lib.Seq.{length-take-le}
 use borrow.Author.Tests.{le-leb, leb-true, eq-eqb, eqb-true, not-true}
 use Rattle.label.specs.Label.{isZero, zeroLabel}
 use Rattle.label.proofs.Bools.{and-left, and-right, and-both}
+use Rattle.option.specs.declared.Spellings.{Spellings}
+use Rattle.option.specs.Permitted.{someOf}
 use Rattle.basic.specs.Settings.{basicOff, isOff, basicSound, wayZero}
 use Rattle.basic.proofs.Settings.{off-is}
 use Rattle.port.specs.declared.Port.{Port}
@@ -31,7 +33,7 @@ use Rattle.filetable.specs.Theorems.{typedPairs, twoEach, renumberingSound}
 use Rattle.filetable.proofs.Soundness.{tables-said, unused-rows, unused-pairs, renumbering-places}
 use Rattle.filetable.proofs.Octets.{table-length}
 use Rattle.fileset.specs.declared.Set.{Set}
-use Rattle.fileset.specs.Set.{noPort, zeroPort, zeroTable, usedPort, unusedPort, usedTable, unusedTable, typed, setSound}
+use Rattle.fileset.specs.Set.{noSpelling, noPort, zeroPort, zeroTable, usedPort, unusedPort, usedTable, unusedTable, typed, setSound}
 use Rattle.file.specs.SetFormat.{alike, same, portsFormat, tablesFormat, setOf, setFormat}
 use Rattle.file.specs.Stages.{portOctets, tableOctets}
 use Rattle.file.specs.File.{allPlain, sayable}
@@ -73,6 +75,16 @@ ports-plain : (ps : List Port) → Each (λ st a. Sound portFormat a) same 0 ps 
 ports-plain [] h = refl
 ports-plain (p ∷ ps) h = and-both (ports-said .said p (h .0) .1) (ports-plain ps (h .1))
 
+no-spelling : (s : Spellings) → someOf s ≡ false → s ≡ noSpelling
+no-spelling s e = go (s .shortest) (s .ten) (s .numbers) (s .pairs) e
+  where
+    go : (a b c d : Bool) → (a || (b || (c || d))) ≡ false → _≡_ {A = Spellings} (record { shortest = a; ten = b; numbers = c; pairs = d }) noSpelling
+    go false false false false e = refl
+    go true b c d e = absurd (true≢false e)
+    go false true c d e = absurd (true≢false e)
+    go false false true d e = absurd (true≢false e)
+    go false false false true e = absurd (true≢false e)
+
 port-unused : (p : Port) → unusedPort p ≡ true → p ≡ noPort
 unfolding unusedPort zeroPort
 port-unused p e =
@@ -82,7 +94,9 @@ port-unused p e =
     let h : Bool = isZero (p .highest) in
     let r : Bool = not (p .required) in
     let g : Bool = isZero (p .assigned) in
-    let y = and-left (zeroPort p) _ e in
+    let o : Bool = isOff (p .basic) in
+    let x = and-left (zeroPort p) _ e in
+    let y = and-left (((((a && l) && h) && r) && g) && o) _ x in
     let z = and-left ((((a && l) && h) && r) && g) _ y in
     let z1 = and-left (((a && l) && h) && r) _ z in
     let z2 = and-left ((a && l) && h) _ z1 in
@@ -93,7 +107,8 @@ port-unused p e =
     let re : p .required ≡ false = not-true _ (and-right ((a && l) && h) _ z1) in
     let gi : p .assigned ≡ zeroLabel = is-zero (p .assigned) (n .assigned) (and-right (((a && l) && h) && r) _ z) in
     let ba : p .basic ≡ basicOff = off-is (p .basic) (n .receiving) (n .sending) (and-right ((((a && l) && h) && r) && g) _ y) in
-    λ i. record { domain = d i; lowest = lo i; highest = hi i; required = re i; assigned = gi i; basic = ba i }
+    let sp : p .spellings ≡ noSpelling = no-spelling (p .spellings) (not-true _ (and-right (((((a && l) && h) && r) && g) && o) _ x)) in
+    λ i. record { domain = d i; lowest = lo i; highest = hi i; required = re i; assigned = gi i; basic = ba i; spellings = sp i }
 
 -- Tables.
 

@@ -17,8 +17,8 @@ use Rattle.label.proofs.Labels.{Formed, formed, well-formed, formed-of, used-le
 use Rattle.port.specs.declared.Port.{Port}
 pub use Rattle.port.proofs.Zero.{is-zero}
 use Rattle.port.specs.Port.{plainPort, isPlain, portSound, rangeSound, assignedSound}
-use Rattle.basic.specs.declared.Basic.{Basic}
-use Rattle.basic.specs.Settings.{basicOff, isOff, basicSound, wayZero}
+use Rattle.option.specs.Permitted.{someOf}
+use Rattle.basic.specs.Settings.{isOff, basicSound, wayZero}
 use Rattle.port.proofs.Laws as port
 use Rattle.format.specs.Format.{Sound, Each}
 use Rattle.fileport.specs.LabelFormat.{runFormat, nextFloor, unless0, labelFormat}
@@ -189,21 +189,21 @@ assigned-said p true h e = zero-said (p .assigned) h
 assigned-said p false h e = e
 
 -- a port that the format says is made of document 01's fields
-off-off : isOff basicOff ≡ true
-unfolding isOff basicSound wayZero
-off-off = refl
-
-plain-basic : (p : Port) → Sound portFormat p → p .basic ≡ basicOff
+made : (p : Port) → Sound portFormat p → plainPort (p .domain) (p .lowest) (p .highest) (p .required) (p .assigned) ≡ p
 unfolding Sound portFormat
-plain-basic p h = sym (ap (λ (q : Port). q .basic) (h .1))
+made p h = h .1
 
-plain-said : (p : Port) → p .basic ≡ basicOff → isPlain p ≡ true
-unfolding isPlain
-plain-said p e = ap isOff e ∙ off-off
+-- so what holds of the later fields that every such port has holds of its own
+later : (P : Port → Type 0) → ((d : ℕ) (lo hi : Label) (r : Bool) (a : Label) → P (plainPort d lo hi r a)) → (p : Port) → Sound portFormat p → P p
+later P q p h = subst P (made p h) (q (p .domain) (p .lowest) (p .highest) (p .required) (p .assigned))
 
-sound-off : basicSound basicOff ≡ true
+plain-plain : (d : ℕ) (lo hi : Label) (r : Bool) (a : Label) → isPlain (plainPort d lo hi r a) ≡ true
+unfolding isPlain isOff basicSound wayZero
+plain-plain d lo hi r a = refl
+
+plain-basic : (d : ℕ) (lo hi : Label) (r : Bool) (a : Label) → basicSound (plainPort d lo hi r a .basic) ≡ true
 unfolding basicSound wayZero
-sound-off = refl
+plain-basic d lo hi r a = refl
 
 sound-said : (p : Port) → Sound portFormat p → portSound p ≡ true
 unfolding Sound portFormat portSound rangeSound assignedSound
@@ -211,12 +211,13 @@ sound-said p h =
     let d : 0 < p .domain = omega (arith, h .0 .0 .0) in
     let lo = label-said (p .domain) (p .lowest) d (h .0 .1 .0) in
     let hi = label-said (p .domain) (p .highest) d (h .0 .1 .1 .0 .0) in
-    let b : basicSound (p .basic) ≡ true = ap basicSound (plain-basic p h) ∙ sound-off in
-    rw (ne-eqb (p .domain) 0 (λ z. omega arith), eq-eqb _ _ (lo .1), eq-eqb _ _ (hi .1), h .0 .1 .1 .0 .1, b, and-true)
+    let b = later (λ q. basicSound (q .basic) ≡ true) plain-basic p h in
+    let s = later (λ q. someOf (q .spellings) ≡ true) (λ d lo hi r a. refl) p h in
+    rw (ne-eqb (p .domain) 0 (λ z. omega arith), eq-eqb _ _ (lo .1), eq-eqb _ _ (hi .1), h .0 .1 .1 .0 .1, b, s, and-true)
     (assigned-said p (p .required) (h .0 .1 .1 .1 .1 .0) (h .0 .1 .1 .1 .1 .1))
 
 port-said : (p : Port) → Sound portFormat p → (portSound p ≡ true) × (isPlain p ≡ true)
-port-said p h = (sound-said p h, plain-said p (plain-basic p h))
+port-said p h = (sound-said p h, later (λ q. isPlain q ≡ true) plain-plain p h)
 
 pub ports-said : PortsSaid
 ports-said = record { says = port-says; said = port-said }
@@ -224,13 +225,12 @@ ports-said = record { says = port-says; said = port-said }
 pub port-typed : (p : Port) → Sound portFormat p → typedPort p ≡ true
 unfolding Sound portFormat
 port-typed p h =
-    let b : basicOff ≡ p .basic = sym (plain-basic p h) in
     typed-port
     p
     (record {
       lowest = label-places (p .domain) (p .lowest) (h .0 .1 .0);
       highest = label-places (p .domain) (p .highest) (h .0 .1 .1 .0 .0);
       assigned = label-places (cond (p .required) 0 (p .domain)) (p .assigned) (h .0 .1 .1 .1 .1 .0);
-      receiving = sym (ap (λ (x : Basic). length (x .receiving .flags)) b);
-      sending = sym (ap (λ (x : Basic). length (x .sending .flags)) b);
+      receiving = later (λ q. length (q .basic .receiving .flags) ≡ 256) (λ d lo hi r a. refl) p h;
+      sending = later (λ q. length (q .basic .sending .flags) ≡ 256) (λ d lo hi r a. refl) p h;
     })

@@ -23,7 +23,7 @@ use Rattle.filetable.specs.declared.LevelPair.{LevelPair}
 use Rattle.filetable.specs.declared.Renumbering.{Renumbering}
 use Rattle.filetable.specs.TableFormat.{levelsOf}
 use Rattle.filetable.specs.Theorems.{twoEach, typedPairs, renumberingSound}
-use Rattle.fileset.specs.Set.{zeroPort, zeroTable, usedPort, unusedPort, usedTable, unusedTable}
+use Rattle.fileset.specs.Set.{noSpelling, zeroPort, zeroTable, usedPort, unusedPort, usedTable, unusedTable}
 
 module _ (p : Port) (n : Places p) where
   pub used-port : portSound p ≡ usedPort p
@@ -81,6 +81,7 @@ outPort =
       required = false;
       assigned = outLabel;
       basic = record { on = false; receiving = outWay; sending = outWay };
+      spellings = noSpelling;
     }
 
 abbrev pub outPair : LevelPair

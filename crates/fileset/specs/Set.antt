@@ -6,6 +6,8 @@ use Prim.Native.Nat.{ℕ}
 use lib.Dec.{leb, eqb}
 use lib.ListN.{length, replicate}
 use Rattle.label.specs.Label.{zeroLabel, isZero}
+use Rattle.option.specs.declared.Spellings.{Spellings}
+use Rattle.option.specs.Permitted.{someOf}
 use Rattle.basic.specs.Settings.{basicOff, isOff}
 use Rattle.port.specs.declared.Port.{Port}
 use Rattle.port.specs.Port.{portSound}
@@ -18,16 +20,21 @@ use Rattle.filetable.specs.TableFormat.{noTable, levelsOf}
 use Rattle.filetable.specs.Theorems.{typedPairs, renumberingSound}
 use Rattle.fileset.specs.declared.Set.{Set}
 
--- the records whose every number is 0, and the set of none
+-- the records whose every number is 0, and the set of none; such a port permits no spelling
+abbrev pub noSpelling : Spellings
+noSpelling = record { shortest = false; ten = false; numbers = false; pairs = false }
+
 abbrev pub noPort : Port
-noPort = record { domain = 0; lowest = zeroLabel; highest = zeroLabel; required = false; assigned = zeroLabel; basic = basicOff }
+noPort =
+    record { domain = 0; lowest = zeroLabel; highest = zeroLabel; required = false; assigned = zeroLabel; basic = basicOff; spellings = noSpelling }
 
 abbrev pub emptySet : Set
 emptySet = record { portcount = 0; ports = replicate 16 noPort; tablecount = 0; tables = replicate 8 noTable }
 
 -- every number of the port is 0
 unfoldable pub zeroPort : Port → Bool
-zeroPort p = ((((eqb (p .domain) 0 && isZero (p .lowest)) && isZero (p .highest)) && not (p .required)) && isZero (p .assigned)) && isOff (p .basic)
+zeroPort p =
+    (((((eqb (p .domain) 0 && isZero (p .lowest)) && isZero (p .highest)) && not (p .required)) && isZero (p .assigned)) && isOff (p .basic)) && not (someOf (p .spellings))
 
 -- every number of the table and of its level pairs is 0
 unfoldable pub zeroTable : Table → List (List ℕ) → Bool

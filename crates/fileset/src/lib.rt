@@ -12,6 +12,7 @@ use basic::Basic;
 use filetable::LevelPair;
 use filetable::Renumbering;
 use label::Label;
+use option::Spellings;
 use port::Port;
 use port::port_sound;
 use table::Row;
@@ -38,6 +39,12 @@ pub fn empty_port() -> Port
         required: false,
         assigned: none,
         basic: Basic::off(),
+        spellings: Spellings {
+            shortest: false,
+            ten: false,
+            numbers: false,
+            pairs: false,
+        },
     }
 }
 
@@ -108,7 +115,9 @@ fn port_zero(port: Port) -> bool
     let given = assigned.is_zero();
     let basic = port.basic;
     let off = basic.is_off();
-    (port.domain == 0) & low & high & !port.required & given & off
+    let spellings = port.spellings;
+    let some = spellings.some();
+    (port.domain == 0) & low & high & !port.required & given & off & !some
 }
 
 // Whether a port suits its place: sound in one that is used, all zero in another.

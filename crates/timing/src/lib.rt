@@ -9,6 +9,7 @@ use file::read_file;
 use file::write_file;
 use gateway::forward;
 use label::Label;
+use option::Spellings;
 use port::Port;
 use reading::Reading;
 use reading::read_option;
@@ -49,11 +50,12 @@ pub extern "C" fn time_read(octets: &[u8], size: usize, times: usize) -> usize {
 #[no_mangle]
 pub extern "C" fn time_spell(octets: &[u8], size: usize, out: &mut [u8], times: usize) -> usize {
     let labels = read_labels(octets, size);
+    let permitted = Spellings::usual();
     let mut total: usize = 0;
     let mut i: usize = 0;
     while i < times {
         let label = labels[i % LABELS];
-        let s = spell_label(label, &mut out[..]);
+        let s = spell_label(label, permitted, &mut out[..]);
         total = mix(mix(total, s.number as usize), s.count);
         i += 1;
     }

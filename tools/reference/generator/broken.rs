@@ -3,9 +3,10 @@
 use crate::basic::{Marking, LEVELS, MAX_FLAG_FIELDS};
 use crate::cases::{
     encode, Case, Encoder, Output, BITMAP, CONTAINS, DELIVER, DELIVER_FACTS, DELIVER_WIDE, FORWARD, FORWARD_FACTS, FORWARD_WIDE,
-    MAX_OUTPUT, MAX_ROOM, READ, READ_AND_WRITE, READ_BASIC, READ_FILE, RENUMBER, REVERSE, SPELL, WITHIN, WRITE_BASIC, WRITE_FILE,
+    MAX_OUTPUT, MAX_ROOM, READ, READ_AND_WRITE, READ_BASIC, READ_FILE, RENUMBER, REVERSE, SPELL, SPELL_PERMITTED, WITHIN, WRITE_BASIC,
+    WRITE_FILE,
 };
-use crate::entries::{Entries, BASIC_GROUP, GROUPS};
+use crate::entries::{Entries, BASIC_GROUP, GROUPS, SPELLINGS_GROUP};
 use crate::file::SetRecord;
 use crate::label::HeldLabel;
 
@@ -15,7 +16,7 @@ use super::deliver::delivered;
 use super::drafts::*;
 use super::files::{file_rule_broken, file_written, rich_set, set_written};
 use super::forward::forwarded;
-use super::labels::{contains_yes, renumbered, spelled, within_yes};
+use super::labels::{contains_yes, renumbered, spelled, spelled_permitted, within_yes};
 use super::random::Random;
 use super::reading::read_valid;
 use super::reverse::reversed;
@@ -40,6 +41,7 @@ const GOOD: &[(u8, Maker)] = &[
     (WRITE_BASIC, basic_written),
     (FORWARD_WIDE, wide_forwarded),
     (DELIVER_WIDE, wide_delivered),
+    (SPELL_PERMITTED, spelled_permitted),
     (REVERSE, reversed),
     (BITMAP, bitmap_read),
 ];
@@ -62,7 +64,14 @@ const LATER_WAYS: &[(u8, Way)] = &[
     (WRITE_BASIC, long_basic_output),
     (FORWARD_WIDE, bad_wide_forward),
     (DELIVER_WIDE, bad_wide_deliver),
+    (SPELL_PERMITTED, bad_spellings),
 ];
+
+/// Spellings over 15.
+fn bad_spellings(_random: &mut Random, round: usize) -> Vec<u8> {
+    let set = [16, 255, 17, 29, 128][round % 5];
+    encode(&Case::SpellPermitted(HeldLabel::empty(5, 3), set, Output { length: 40, fill: 0 }), 0)
+}
 
 /// An output over its limit, and one that is cut off.
 fn long_basic_output(_random: &mut Random, round: usize) -> Vec<u8> {
@@ -84,11 +93,13 @@ fn bad_basic_group(round: usize) -> Vec<u8> {
 
 /// A port's groups in a case that is good otherwise: bad ones, or a group that is not built.
 fn spoil_groups(octets: &mut Vec<u8>, groups_at: usize, round: usize) {
-    if round % 4 == 3 {
+    if round % 5 == 4 {
+        octets.splice(groups_at..groups_at + 1, [SPELLINGS_GROUP, [16, 255, 29, 128][round / 5 % 4]]);
+    } else if round % 5 == 3 {
         let groups = [2, 4, 8, 16, 32, 64, 128, 255];
-        octets[groups_at] = groups.iter().copied().cycle().skip(round / 4).find(|groups| groups & !GROUPS != 0).unwrap_or(255);
+        octets[groups_at] = groups.iter().copied().cycle().skip(round / 5).find(|groups| groups & !GROUPS != 0).unwrap_or(255);
     } else {
-        octets.splice(groups_at..groups_at + 1, bad_basic_group(round / 4 * 3 + round % 4));
+        octets.splice(groups_at..groups_at + 1, bad_basic_group(round / 5 * 3 + round % 5));
     }
 }
 

@@ -3,7 +3,7 @@
 use crate::cases::{DeliverCase, ForwardCase, Output};
 use crate::decision::Facts;
 use crate::label::HeldLabel;
-use crate::option::{spell, MAX_OCTETS};
+use crate::option::{spell, MAX_OCTETS, PLAIN_SPELLINGS};
 use crate::records::{renumber_alone, TableRecord};
 
 use super::random::Random;
@@ -188,7 +188,8 @@ pub fn forward_draft(random: &mut Random, wish: &Wish) -> ForwardDraft {
         let nearby = leaving_label.clone().unwrap_or_else(|| HeldLabel::empty(far_domain, random_level(random)));
         let leaving = port_around(random, &nearby, wish.rich, false);
         let arriving_length = cipso.as_ref().map_or(0, Vec::len);
-        let leaving_length = leaving_label.as_ref().and_then(|label| spell(&label.label()?)).map_or(10, |option| option.len());
+        let leaving_length =
+            leaving_label.as_ref().and_then(|label| spell(&label.label()?, PLAIN_SPELLINGS)).map_or(10, |option| option.len());
         let kept = kept_options(random, MAX_OCTETS - arriving_length.max(leaving_length));
         let datagram = datagram_of(random, cipso, kept);
         let case = ForwardCase {

@@ -554,7 +554,12 @@ pub fn set_unsound(random: &mut Random, turn: usize, _number: u8) -> Made {
                 switch_on(&mut set.ports[(port + 1) % ports], receiving, sending);
             }
         }
-        15 => break_basic(random, &mut set.ports[ports], BASIC_CLAUSES - 2 - round % 10),
+        15 => match round % 12 {
+            // Spellings alone, in a place past the count and in one within it.
+            0 => set.ports[ports] = PortRecord::PLAIN,
+            1 => set.ports[port].spellings = 0,
+            clause => break_basic(random, &mut set.ports[ports], BASIC_CLAUSES - clause),
+        },
         _ => break_table(random, &mut set.tables[table], round * 2 + way - 16),
     }
     Made::Case(Case::WriteFile(Box::new(set), output))
@@ -564,9 +569,18 @@ pub fn set_unsound(random: &mut Random, turn: usize, _number: u8) -> Made {
 pub fn set_named(random: &mut Random, turn: usize, _number: u8) -> Made {
     let mut set = rich_set(random);
     let ports = set.port_count as usize;
-    for port in [turn % ports, random.below(ports)] {
-        let (receiving, sending) = (any_way(random), any_way(random));
-        switch_on(&mut set.ports[port], receiving, sending);
+    let port = turn % ports;
+    match turn / 2 % 3 {
+        0 => {
+            let (receiving, sending) = (any_way(random), any_way(random));
+            switch_on(&mut set.ports[port], receiving, sending);
+        }
+        1 => set.ports[port].spellings = random.pick(&[1, 2, 4, 8, 12, 14, 15]),
+        _ => {
+            set.ports[port].spellings = random.between(1, 15) as u8;
+            let (receiving, sending) = (any_way(random), any_way(random));
+            switch_on(&mut set.ports[(port + 1) % ports], receiving, sending);
+        }
     }
     let output = if turn % 3 == 0 { short_output(random, turn, 60) } else { Output { length: 600, fill: random.octet() } };
     Made::Case(Case::WriteFile(Box::new(set), output))

@@ -249,7 +249,7 @@ pub fn fill_up(random: &mut Random, turn: usize, over: usize) -> Made {
     }
     loop {
         let mut draft = forward_draft(random, &ANY);
-        let option = match draft.leaving_label.as_ref().and_then(|label| spell(&label.label()?)) {
+        let option = match draft.leaving_label.as_ref().and_then(|label| spell(&label.label()?, draft.case.leaving.spellings)) {
             Some(option) => option,
             None => continue,
         };

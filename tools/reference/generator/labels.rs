@@ -13,6 +13,73 @@ use super::tables::*;
 use super::unsound::*;
 use super::Made;
 
+/// A label about a limit of some spelling.
+pub fn label_near_limits(random: &mut Random, turn: usize) -> HeldLabel {
+    let shape = match turn % 8 {
+        0..=2 => Shape::Ten,
+        3 => Shape::Tie,
+        4 | 5 => Shape::Limit,
+        6 => random.pick(&[Shape::Empty, Shape::One, Shape::List, Shape::Ranges, Shape::Bitmap]),
+        _ => random_shape(random),
+    };
+    let domain = random_domain(random);
+    random_label(random, domain, shape)
+}
+
+/// Every set of permitted spellings but the empty one in turn.
+pub fn spelled_permitted(random: &mut Random, turn: usize, _number: u8) -> Made {
+    let label = label_near_limits(random, turn / 15 + turn);
+    let permitted = 1 + (turn % 15) as u8;
+    Made::Case(Case::SpellPermitted(label, permitted, random_output(random)))
+}
+
+/// Labels for which two or three forms have equal lengths, under sets that permit them: the ten-octet form with tag 2, with tag 5 and with
+/// both, and tag 2 with tag 5.
+pub fn spelled_tie(random: &mut Random, turn: usize, _number: u8) -> Made {
+    let pairs_apart = |first: u16, step: u16| Run { low: first, high: first + step };
+    let step = random.between(0, 3) as u16;
+    let (runs, sets): (Vec<Run>, &[u8]) = match turn % 4 {
+        // Five categories that are not neighbours.
+        0 => (singles((0..5).map(|place| 1 + step + 9 * place)), &[6, 14]),
+        // Three runs with category 0, of more than five categories.
+        1 => (vec![pairs_apart(0, 3 + step), pairs_apart(20, 2), pairs_apart(40 + step, 8)], &[10, 14]),
+        // Five categories in three runs with category 0.
+        2 => (vec![pairs_apart(0, 0), pairs_apart(2 + step, 1), pairs_apart(10, 1)], &[6, 10, 12, 14]),
+        _ => (vec![pairs_apart(1 + step, 1), pairs_apart(90, 1)], &[12, 14]),
+    };
+    let label = held(random_domain(random), random_level(random), &runs);
+    Made::Case(Case::SpellPermitted(label, sets[turn / 4 % sets.len()], random_output(random)))
+}
+
+/// Every set of permitted spellings, the empty one too, and labels that none of it means.
+pub fn spell_not_permitted(random: &mut Random, turn: usize, _number: u8) -> Made {
+    let label = if random.chance(1, 6) {
+        random_label(random, 5, Shape::Unspellable)
+    } else {
+        let way = random.below(8);
+        label_near_limits(random, way)
+    };
+    Made::Case(Case::SpellPermitted(label, (turn % 16) as u8, random_output(random)))
+}
+
+pub fn spell_permitted_short(random: &mut Random, turn: usize, _number: u8) -> Made {
+    let mut label = label_near_limits(random, turn);
+    // 1 comes before 2 and 18.
+    if turn % 3 == 0 {
+        ill_form(random, &mut label, turn);
+    }
+    let length = random.pick(&[0, 1, 10, 20, 39, 39, 39]);
+    Made::Case(Case::SpellPermitted(label, (turn % 16) as u8, Output { length, fill: random.octet() }))
+}
+
+/// 2 comes before 18, for the empty set too.
+pub fn spell_permitted_ill_formed(random: &mut Random, turn: usize, _number: u8) -> Made {
+    let domain = random_domain(random);
+    let mut label = random_label(random, domain, Shape::Ten);
+    ill_form(random, &mut label, turn);
+    Made::Case(Case::SpellPermitted(label, (turn % 16) as u8, random_output(random)))
+}
+
 pub fn contains_yes(random: &mut Random, _turn: usize, _number: u8) -> Made {
     let (domain, shape) = (random_domain(random), random_shape(random));
     let label = random_label(random, domain, shape);

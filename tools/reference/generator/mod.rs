@@ -35,7 +35,7 @@ use std::io::{self, Write};
 
 use crate::cases::{
     encode, line_of, Case, BITMAP, BROKEN, CONTAINS, DELIVER, DELIVER_FACTS, DELIVER_WIDE, FORWARD, FORWARD_FACTS, FORWARD_WIDE, READ,
-    READ_AND_WRITE, READ_BASIC, READ_FILE, RENUMBER, REVERSE, SPELL, WITHIN, WRITE_BASIC, WRITE_FILE,
+    READ_AND_WRITE, READ_BASIC, READ_FILE, RENUMBER, REVERSE, SPELL, SPELL_PERMITTED, WITHIN, WRITE_BASIC, WRITE_FILE,
 };
 use crate::decision::Facts;
 use crate::entries::Entries;
@@ -52,7 +52,7 @@ use reverse::*;
 use wide::*;
 
 pub use files::{agree, break_range, largest_set, rich_set, sound_set, Layout, RULED};
-pub use labels::random_label_and_table;
+pub use labels::{label_near_limits, random_label_and_table};
 pub use random::Random;
 pub use spellings::random_option;
 
@@ -86,6 +86,7 @@ const ANSWERS: &[(u8, &str, &[&str])] = &[
     (WRITE_BASIC, "write 130", &["0", "1", "19"]),
     (FORWARD_WIDE, "forward", WIDE_FORWARD_ANSWERS),
     (DELIVER_WIDE, "deliver", WIDE_DELIVER_ANSWERS),
+    (SPELL_PERMITTED, "spell", &["0", "1", "2", "18"]),
     (REVERSE, "reverse", &["0", "2", "24"]),
     (BITMAP, "bitmap", &["0", "10"]),
 ];
@@ -265,6 +266,13 @@ fn all_slots() -> Vec<Slot> {
         slot(FORWARD_WIDE, 3, "0", wide_forwarded),
         slot(FORWARD_WIDE, 1, "0", wide_forward_full),
         slot(FORWARD_WIDE, 1, "18", wide_forward_over_full),
+        slot(FORWARD_WIDE, 2, "0", wide_forward_permitted),
+        slot(FORWARD_WIDE, 2, "18", wide_forward_not_permitted),
+        slot(SPELL_PERMITTED, 5, "0", spelled_permitted),
+        slot(SPELL_PERMITTED, 1, "1", spell_permitted_short),
+        slot(SPELL_PERMITTED, 1, "2", spell_permitted_ill_formed),
+        slot(SPELL_PERMITTED, 3, "18", spell_not_permitted),
+        slot(SPELL_PERMITTED, 2, "0", spelled_tie),
         slot(FORWARD_WIDE, 1, "1", wide_forward_wrong_size),
         slot(FORWARD_WIDE, 3, "2", wide_forward_unsound),
         slot(FORWARD_WIDE, 1, "3", wide_forward_broken),

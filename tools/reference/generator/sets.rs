@@ -48,6 +48,8 @@ pub enum Shape {
     Limit,
     /// Sets for which two tags have nearly equal lengths.
     Tie,
+    /// About the limit of the ten-octet form: a highest category of 79 or 80, or about as long in another form.
+    Ten,
     /// Sets without a spelling.
     Unspellable,
     /// Up to 120 runs.
@@ -102,6 +104,7 @@ pub fn random_runs(random: &mut Random, shape: Shape) -> Vec<Run> {
                 runs_of_about_two(random)
             }
         }
+        Shape::Ten => about_ten_octets(random),
         Shape::Unspellable => {
             let count = random.between(16, 24);
             let base = random.between(225, 2000) as u16;
@@ -141,6 +144,50 @@ pub fn runs_of_about_two(random: &mut Random) -> Vec<Run> {
         low += width + random.between(1, 60) as u16;
     }
     runs
+}
+
+/// Sets about which the ten-octet form and another one are nearly alike.
+fn about_ten_octets(random: &mut Random) -> Vec<Run> {
+    match random.below(6) {
+        0 => {
+            let highest = random.pick(&[71, 72, 78, 79, 80, 81, 87, 88]);
+            random_bits(random, highest)
+        }
+        // 4 to 6 categories: as a list 8 to 12 octets.
+        1 => {
+            let count = random.between(4, 6);
+            let highest = random.pick(&[79, 79, 80]);
+            let mut numbers = vec![highest];
+            while numbers.len() < count {
+                let number = random.below(79) as u16;
+                if !numbers.contains(&number) {
+                    numbers.push(number);
+                }
+            }
+            singles(numbers.into_iter())
+        }
+        // 2 or 3 runs: as pairs 8 to 12 octets, 6 to 10 with category 0.
+        2 | 3 => {
+            let mut low = random.pick(&[0, 0, 1, 3]);
+            let count = random.between(2, 3);
+            let mut runs = Vec::new();
+            for _ in 0..count {
+                let high = low + random.between(3, 20) as u16;
+                runs.push(Run { low, high });
+                low = high + random.between(2, 5) as u16;
+            }
+            if random.chance(1, 2) {
+                runs[count - 1].high = random.pick(&[79, 80]);
+            }
+            runs
+        }
+        4 => Vec::new(),
+        // One run up to the limit, or a category alone at it.
+        _ => {
+            let high = random.pick(&[79, 80]);
+            vec![Run { low: random.pick(&[0, 1, high]), high }]
+        }
+    }
 }
 
 pub fn random_bits(random: &mut Random, highest: u16) -> Vec<Run> {

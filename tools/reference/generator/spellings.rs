@@ -1,7 +1,7 @@
 // Every valid option that means a label, not only the shortest.
 
 use crate::label::{Label, Run, BITMAP_CATEGORIES};
-use crate::option::{spell, BITMAP, CIPSO, ENUMERATED, TAGS};
+use crate::option::{spell, BITMAP, CIPSO, ENUMERATED, PLAIN_SPELLINGS, TAGS};
 
 use super::random::Random;
 use super::sets::*;
@@ -9,7 +9,7 @@ use super::sets::*;
 /// A valid option that means the label, if there is one: any tag that has one, with trailing zero octets, touching pairs and a
 /// bottom 0 written out or left out.
 pub fn random_spelling(random: &mut Random, label: &Label) -> Option<Vec<u8>> {
-    spell(label)?;
+    spell(label, PLAIN_SPELLINGS)?;
     loop {
         let tag = random.pick(&TAGS);
         let octets = match tag {

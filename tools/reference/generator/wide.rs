@@ -2,7 +2,7 @@
 
 use crate::basic::{Marking, BASIC_SECURITY};
 use crate::cases::Case;
-use crate::option::{spell, MAX_OCTETS};
+use crate::option::{spell, ALL_SPELLINGS, MAX_OCTETS, PLAIN_SPELLINGS};
 use crate::records::PortRecord;
 
 use super::basic::*;
@@ -11,6 +11,7 @@ use super::drafts::*;
 use super::faults::*;
 use super::forward::*;
 use super::random::Random;
+use super::sets::Shape;
 use super::unsound::*;
 use super::Made;
 
@@ -76,9 +77,20 @@ struct WideForward {
     marking: Marking,
 }
 
+/// Any set of permitted spellings that is not empty; mostly document 01's.
+pub fn any_spellings(random: &mut Random) -> u8 {
+    if random.chance(1, 2) {
+        PLAIN_SPELLINGS
+    } else {
+        random.between(1, ALL_SPELLINGS as usize) as u8
+    }
+}
+
 fn wide_draft(random: &mut Random, wish: &Wish, on: (bool, bool)) -> WideForward {
     let mut draft = forward_draft(random, wish);
     let case = &mut draft.case;
+    case.arriving.spellings = any_spellings(random);
+    case.leaving.spellings = any_spellings(random);
     let marking = mark(random, &mut draft.datagram, &mut case.arriving, Some(&mut case.leaving), on);
     WideForward { draft, marking }
 }
@@ -190,11 +202,45 @@ pub fn wide_forward_unsound(random: &mut Random, turn: usize, _number: u8) -> Ma
     let case = &mut wide.draft.case;
     let port = if turn % 2 == 0 { &mut case.arriving } else { &mut case.leaving };
     let clause = turn / 2 % (BASIC_CLAUSES + 3);
-    if clause < BASIC_CLAUSES {
-        break_basic(random, port, clause);
-    } else {
-        break_port(random, port, 3 * ILL_FORMED + turn / 2);
+    match clause.checked_sub(BASIC_CLAUSES) {
+        None => break_basic(random, port, clause),
+        Some(0) => port.spellings = 0,
+        Some(_) => break_port(random, port, 3 * ILL_FORMED + turn / 2),
     }
+    forward_case(wide.draft, random)
+}
+
+/// What permits a spelling of the leaving label, and what does not, at either port. The leaving port's set alone decides.
+fn permit(random: &mut Random, wide: &mut WideForward, turn: usize, may: bool) {
+    let label = match wide.draft.leaving_label.as_ref().and_then(|label| label.label()) {
+        Some(label) => label,
+        None => return,
+    };
+    let sets: Vec<u8> = (1..=ALL_SPELLINGS).collect();
+    let (good, bad): (Vec<u8>, Vec<u8>) = sets.into_iter().partition(|set| spell(&label, *set).is_some());
+    let (leaving, arriving) = if may { (good, bad) } else { (bad, good) };
+    if !leaving.is_empty() {
+        wide.draft.case.leaving.spellings = leaving[(turn + random.below(2)) % leaving.len()];
+    }
+    if !arriving.is_empty() && turn % 4 != 3 {
+        wide.draft.case.arriving.spellings = random.pick(&arriving);
+    }
+}
+
+fn wish_for_spelling(turn: usize) -> Wish {
+    let shape = [Some(Shape::Ten), Some(Shape::Limit), Some(Shape::Ten), None][turn % 4];
+    Wish { shape, same_domain: if turn % 3 == 0 { None } else { Some(true) }, ..ANY }
+}
+
+pub fn wide_forward_permitted(random: &mut Random, turn: usize, _number: u8) -> Made {
+    let mut wide = wide_draft(random, &wish_for_spelling(turn), switched(turn, 0));
+    permit(random, &mut wide, turn, true);
+    forward_case(wide.draft, random)
+}
+
+pub fn wide_forward_not_permitted(random: &mut Random, turn: usize, _number: u8) -> Made {
+    let mut wide = wide_draft(random, &wish_for_spelling(turn), switched(turn, 0));
+    permit(random, &mut wide, turn, false);
     forward_case(wide.draft, random)
 }
 
@@ -202,10 +248,12 @@ pub fn wide_forward_unsound(random: &mut Random, turn: usize, _number: u8) -> Ma
 fn wide_fill(random: &mut Random, over: usize) -> Made {
     loop {
         let mut draft = forward_draft(random, &ANY);
-        let option = match draft.leaving_label.as_ref().and_then(|label| spell(&label.label()?)) {
+        draft.case.leaving.spellings = any_spellings(random);
+        let option = match draft.leaving_label.as_ref().and_then(|label| spell(&label.label()?, draft.case.leaving.spellings)) {
             Some(option) => option,
             None => continue,
         };
+        // The set decides how much room there is.
         let room = MAX_OCTETS - option.len() + over;
         let own: Vec<Vec<u8>> = draft.datagram.cipso.map(|index| draft.datagram.options[index].clone()).into_iter().collect();
         draft.datagram = datagram_of(random, own.into_iter().next(), Vec::new());
@@ -277,6 +325,7 @@ struct WideDeliver {
 
 fn wide_delivery(random: &mut Random, wish: &Wish, on: bool) -> WideDeliver {
     let mut draft = deliver_draft(random, wish);
+    draft.case.port.spellings = any_spellings(random);
     let marking = mark(random, &mut draft.datagram, &mut draft.case.port, None, (on, false));
     WideDeliver { draft, marking }
 }
@@ -323,10 +372,11 @@ pub fn wide_deliver_unsound(random: &mut Random, turn: usize, _number: u8) -> Ma
         let later = random.pick(&ORDER[..16]);
         break_wide_delivery(random, &mut wide, turn, later);
     }
-    let clause = turn % (BASIC_CLAUSES + 2);
+    let clause = turn % (BASIC_CLAUSES + 3);
     match clause.checked_sub(BASIC_CLAUSES) {
         None => break_basic(random, &mut wide.draft.case.port, clause),
-        Some(0) => break_port(random, &mut wide.draft.case.port, 3 * ILL_FORMED + turn),
+        Some(0) => wide.draft.case.port.spellings = 0,
+        Some(1) => break_port(random, &mut wide.draft.case.port, 3 * ILL_FORMED + turn),
         Some(_) => break_host(random, &mut wide.draft.case.host, turn),
     }
     deliver_case(wide.draft, random)

@@ -81,7 +81,11 @@ fn vectors(tally: &mut Tally) {
     tally.equal("entry 12, nothing", write_line("0c 00 00 00 00 0006 ee"), "0 5 0005010000ee".to_string());
     tally.equal("entry 12, a port too many", write_line("0c 01 00 00 00 0006 ee"), format!("2 0 {}", "ee".repeat(6)));
     let zero_port = format!("{} {} 00 {} 00", "00000000", "00000000000000".repeat(2), "00000000000000");
-    tally.equal("entry 12, a stored zero port", write_line(&format!("0c 00 01 {} 00 00 0005 ee", zero_port)), "0 5 0005010000".to_string());
+    // Without its group a stored port permits tags 1, 2 and 5, and is not all zero.
+    let plain = write_line(&format!("0c 00 01 {} 00 00 0005 ee", zero_port));
+    tally.equal("entry 12, a stored port without spellings", plain, "2 0 eeeeeeeeee".to_string());
+    let all_zero = write_line(&format!("0c 00 01 {}02 00 00 00 0005 ee", &zero_port[..zero_port.len() - 2]));
+    tally.equal("entry 12, a stored zero port", all_zero, "0 5 0005010000".to_string());
     let other_port = format!("{} {} 01 {} 00", "00000000", "00000000000000".repeat(2), "00000000000000");
     let unused = write_line(&format!("0c 00 01 {} 00 00 0005 ee", other_port));
     tally.equal("entry 12, a place past the count", unused, "2 0 eeeeeeeeee".to_string());

@@ -2,6 +2,7 @@
 
 mod basic;
 mod files;
+mod permitted;
 mod renumbering;
 
 use crate::cases::{self, hex};
@@ -10,7 +11,7 @@ use crate::entries::Entries;
 use crate::generator::sample_files::{variant, VARIANTS};
 use crate::generator::{random_option, Random};
 use crate::label::{HeldLabel, Label, Run, HIGHEST_CATEGORY};
-use crate::option::{read_alone, read_bitmap_alone, spell, spell_alone, CIPSO};
+use crate::option::{read_alone, read_bitmap_alone, spell, spell_alone, CIPSO, PLAIN_SPELLINGS};
 use crate::records::{renumber_alone, HostRecord, PortRecord, Row, TableRecord};
 use crate::sample;
 
@@ -50,7 +51,7 @@ fn singles(numbers: impl Iterator<Item = u16>) -> HeldLabel {
 /// The number that spelling a label gives, and the output of 41 octets that it leaves, in hex.
 fn spelled(label: &HeldLabel) -> (u8, String) {
     let mut output = [FILL; 41];
-    let (number, _) = spell_alone(label, &mut output);
+    let (number, _) = spell_alone(label, PLAIN_SPELLINGS, &mut output);
     (number, hex(&output))
 }
 
@@ -379,7 +380,7 @@ fn spellings(tally: &mut Tally) {
                 continue;
             }
         };
-        let shortest = spell(&label).expect("a label that was read has a spelling");
+        let shortest = spell(&label, PLAIN_SPELLINGS).expect("a label that was read has a spelling");
         let read_back = read_alone(&shortest).ok();
         let tag = |option: &[u8]| option[6];
         let settled = shortest.len() < option.len() || (shortest.len() == option.len() && tag(&shortest) <= tag(&option));
@@ -401,6 +402,7 @@ pub fn run() -> bool {
     bitmaps(&mut tally);
     files::files(&mut tally);
     basic::basic(&mut tally);
+    permitted::permitted(&mut tally);
     renumbering::renumbering(&mut tally);
     walks(&mut tally);
     parsing(&mut tally);

@@ -15,11 +15,14 @@ returns c = spells-nothing _ _ _ (c .if1 .taken)
 to-label-requires : tie.Need-to-label-requires
 to-label-requires c κs = search needs
 
+usual-requires : tie.Need-usual-requires
+usual-requires c κs = search needs
+
 spell-label-requires : tie.Need-spell-label-requires
 spell-label-requires c κs = search needs
 
-cast-t13 : tie.Need-cast-t13
-cast-t13 c = search needs
+cast-t14 : tie.Need-cast-t14
+cast-t14 c = search needs
 
 slice-aggregate-put-numbers : tie.Need-slice-aggregate-put-numbers
 slice-aggregate-put-numbers c = search needs
@@ -37,7 +40,8 @@ returns-2 : tie.Need-returns-2
 returns-2 c =
     let put = c .before .before in
     let spelled = put .before .before .before .before .before .before in
-    let to = spelled .before .before in
+    let permitted = spelled .before .before in
+    let to = permitted .before in
     let s = to .before .before .before .before .before in
     let keys = s .args .runs .now in
     let same : to .to-label .result ≡ labelBy (s .args .domain) (s .args .level) keys =
@@ -52,8 +56,8 @@ returns-2 c =
     (spelled .spell-label .result)
     same
     (to .before .if1 .left)
-    (spelled .spell-label .ensures .0)
-    (spelled .spell-label .ensures .1)
+    (rw (permitted .usual .ensures) at (spelled .spell-label .ensures .0))
+    (rw (permitted .usual .ensures) at (spelled .spell-label .ensures .1))
     (put .put-numbers .ensures)
 
 pub inglebreek-spell-spec : {M : Type 1} → statement M
@@ -62,8 +66,9 @@ inglebreek-spell-spec =
     (tie.spec
     returns
     to-label-requires
+    usual-requires
     spell-label-requires
-    cast-t13
+    cast-t14
     slice-aggregate-put-numbers
     put-numbers-requires
     same-length

@@ -17,12 +17,16 @@ is-zero-requires-3 c κs = search needs
 is-off-requires : tie.Need-is-off-requires
 is-off-requires c κs = search needs
 
+some-requires : tie.Need-some-requires
+some-requires c κs = search needs
+
 returns : tie.Need-returns
 unfolding zeroPort
 returns c =
-    let given = c .before .before .before .before in
-    rw (given .before .before .is-zero .ensures, given .before .is-zero2 .ensures, given .is-zero3 .ensures, c .before .before .is-off .ensures) refl
+    let off = c .before .before .before .before in
+    let given = off .before .before in
+    rw (given .before .before .is-zero .ensures, given .before .is-zero2 .ensures, given .is-zero3 .ensures, off .is-off .ensures, c .before .before .some .ensures) refl
 
 pub port-zero-spec : {M : Type 1} → statement M
 port-zero-spec =
-    tie.close (tie.spec is-zero-requires is-zero-requires-2 is-zero-requires-3 is-off-requires returns)
+    tie.close (tie.spec is-zero-requires is-zero-requires-2 is-zero-requires-3 is-off-requires some-requires returns)

@@ -7,13 +7,16 @@ use Rattle.timing.proofs.time_spell.Statement.{statement}
 use Rattle.timing.proofs.time_spell.Tie as tie
 
 abbrev Inv-loop : tie.InvT-loop
-Inv-loop octets size out₀ times labels total₀ i₀ out total i = (i ≤ times) × (length labels ≡ 8) × (length out ≡ length out₀)
+Inv-loop octets size out₀ times labels permitted total₀ i₀ out total i = (i ≤ times) × (length labels ≡ 8) × (length out ≡ length out₀)
 
 abbrev μ-loop : tie.MeasureT-loop
-μ-loop octets size out₀ times labels total₀ i₀ out total i = times - i
+μ-loop octets size out₀ times labels permitted total₀ i₀ out total i = times - i
 
 read-labels-requires : tie.Need-read-labels-requires Inv-loop μ-loop
 read-labels-requires c κs = search needs
+
+usual-requires : tie.Need-usual-requires Inv-loop μ-loop
+usual-requires c κs = search needs
 
 loop-holds : tie.Need-loop-holds Inv-loop μ-loop
 loop-holds c = search needs
@@ -58,6 +61,7 @@ time-spell-spec =
     Inv-loop
     μ-loop
     read-labels-requires
+    usual-requires
     loop-holds
     mul-label
     array-copy-out-label
