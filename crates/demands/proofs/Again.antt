@@ -1,6 +1,6 @@
 -- The leaving area: its count, and what it is when it is read again.
 use mathlib.Core.Path.{_≡_, refl, sym, _∙_, ap, transport}
-use mathlib.Core.Bool.{Bool}
+use mathlib.Core.Bool.{Bool, true, false}
 use mathlib.Core.List.{List, [], _++_, append-assoc, append-nil}
 use mathlib.Core.Option.{Option, none, some}
 use Prim.Native.Nat.{ℕ, _+_, _-_, _%_, _≤_}
@@ -16,12 +16,12 @@ use Rattle.option.proofs.Meaning.{parts}
 use Rattle.option.proofs.OneSpelling.{one-spelling}
 use Rattle.area.specs.declared.Kind.the-variants.{Cipso}
 use Rattle.area.specs.declared.Place.{Place}
-use Rattle.area.specs.declared.Place.the-variants.{At}
+use Rattle.area.specs.declared.Place.the-variants.{Nowhere, At}
 use Rattle.area.specs.declared.Walk.{Walk}
 use Rattle.area.specs.declared.Walk.the-variants.{Sound}
-use Rattle.area.specs.Area.{kindOf, walkOf, octetsAt}
+use Rattle.area.specs.Area.{kindOf, metOf, walkOf, octetsAt}
 use Rattle.leaving.specs.Kept.{keptOf, roundUp, leavingOf}
-use Rattle.leaving.proofs.Again.{Starts, Again, basicFrom, kept-again, front-walk, front-kept}
+use Rattle.leaving.proofs.Again.{Starts, Again, free-nowhere, basicFrom, kept-again, front-walk, front-kept}
 use Rattle.port.specs.declared.Port.{Port}
 use Rattle.port.specs.Port.{portSound}
 use Rattle.arrival.specs.declared.Decision.{Decision}
@@ -31,12 +31,12 @@ use Rattle.arrival.proofs.Arrival.{arrival-held}
 use Rattle.gateway.specs.Crossing.{Forwarding, crossing, leavingLabel}
 use Rattle.gateway.specs.Forward.{forwardOf, outputOf}
 use Rattle.gateway.proofs.Crossings.{label-stays}
-use Rattle.gateway.proofs.Forwards.{Passed, forward-passed, passed-formed, forward-done, leaving-spelled}
+use Rattle.gateway.proofs.Forwards.{Passed, forward-passed, passed-formed, forward-done, leaving-spelled, kept-fits}
 use Rattle.demands.specs.Demands.{LabelOf, own}
-use Rattle.demands.specs.Guards.{Counts, Reads, leavingArea}
+use Rattle.demands.specs.Guards.{Counts, Reads, leavingArea, ReadsBare}
 use Rattle.demands.proofs.Basic.{basic-kept, there, passed-walk, passed-switch, same-switch}
 use Rattle.demands.proofs.Second as second
-use Rattle.demands.proofs.Second.{label-reads, forwarded-passes}
+use Rattle.demands.proofs.Second.{label-reads, forwarded-passes, same-some}
 
 -- The count.
 counts : (s k : ℕ) → s + k ≤ 40 → Counts (roundUp (s + k)) s k
@@ -111,8 +111,19 @@ module _ (on : Bool) (s kept : List ℕ) (c : Option (List ℕ)) (l : Label) (h 
         counted = rw (option-is, n) k;
       }
 
-pub same-some : {a b : List ℕ} → _≡_ {A = Option (List ℕ)} (some a) (some b) → a ≡ b
-same-some e = cc
+-- Read again without an option: what another area kept, and zeros.
+read-bare : (on : Bool) (kept : List ℕ) (c : Option (List ℕ)) → length kept ≤ 40 → Again on kept c → ReadsBare (laid [] kept) on kept
+unfolding walkOf keptOf metOf
+read-bare on kept c h a =
+    let l : 0 + length kept ≤ 40 = omega arith in
+    let k = counts 0 (length kept) l in
+    let n = laid-length [] kept l in
+    record {
+      area = record { few = omega (arith, k .fits); fourfold = ap (λ (i : ℕ). i % 4) n ∙ k .fourfold };
+      walk = a .walk (padding [] kept) 0 Nowhere Nowhere (free-nowhere c);
+      kept = a .kept (kept ++ replicate (padding [] kept) 0) (padding [] kept) 0 refl;
+      counted = rw n k;
+    }
 
 -- A forwarding.
 module _ (f : Forwarding) (e : forwardOf f .number ≡ 0) where
@@ -134,11 +145,11 @@ module _ (f : Forwarding) (e : forwardOf f .number ≡ 0) where
   pub label-is : forwardOf f .label ≡ m
   label-is = ap (λ (d : Decision). d .label) (is-done [] .0)
 
-  pub spelled : spelledOf (f .leaving .spellings) m ≡ some s
-  spelled = leaving-spelled (crossing f) ∙ p .fits .spelled
+  pub spelled : f .leaving .unlabelled ≡ false → spelledOf (f .leaving .spellings) m ≡ some s
+  spelled o = leaving-spelled (crossing f) o ∙ p .fits .spelled
 
-  spells : Spells (f .leaving .spellings) s m
-  spells = one-spelling .spells (f .leaving .spellings) m s (passed-formed f p) .0 spelled
+  spells : f .leaving .unlabelled ≡ false → Spells (f .leaving .spellings) s m
+  spells o = one-spelling .spells (f .leaving .spellings) m s (passed-formed f p) .0 (spelled o)
 
   pub area-is : (out : List ℕ) → leavingArea f out ≡ laid s (keptOf (f .area))
   area-is out = rw count-is (ap (take (roundUp (length s + length (keptOf (f .area))))) (is-done out .1) ∙ laid-first s (keptOf (f .area)) (p .fits .room) out)
@@ -150,21 +161,30 @@ module _ (f : Forwarding) (e : forwardOf f .number ≡ 0) where
       let c : octetsAt (q .1) (f .area) ≡ octetsAt (basicIn (walkAt (f .arriving) (f .area))) (f .area) = ap (λ (w : Walk). octetsAt (basicIn w) (f .area)) (sym (q .2)) in
       transport (λ i. Again (same-switch f p i) (keptOf (f .area)) (c i)) (kept-again (f .arriving .basic .on) (f .area) (q .0) (q .1) (q .2))
 
-  pub counted : (s : List ℕ) × Spells (f .leaving .spellings) s (forwardOf f .label) × Counts (forwardOf f .count) (length s) (length (keptOf (f .area)))
-  counted = (s, rw label-is spells, rw count-is (counts (length s) (length (keptOf (f .area))) (p .fits .room)))
+  pub counted : f .leaving .unlabelled ≡ false → (s : List ℕ) × Spells (f .leaving .spellings) s (forwardOf f .label) × Counts (forwardOf f .count) (length s) (length (keptOf (f .area)))
+  counted o = (s, rw label-is (spells o), rw count-is (counts (length s) (length (keptOf (f .area))) (p .fits .room)))
 
-  pub reads-again : (out : List ℕ)
+  pub reads-again : (out : List ℕ) → f .leaving .unlabelled ≡ false
       → Reads (leavingArea f out) (f .leaving .basic .on) (f .leaving .domain) (f .leaving .spellings) (forwardOf f .label) (arrivingBasic (f .arriving) (f .area)) (keptOf (f .area))
-  reads-again out =
+  reads-again out o =
       rw (area-is out, label-is)
-      (read-again (f .leaving .basic .on) s (keptOf (f .area)) (arrivingBasic (f .arriving) (f .area)) m (p .fits .room) (f .leaving .spellings) spells again (f .leaving .domain) refl)
+      (read-again (f .leaving .basic .on) s (keptOf (f .area)) (arrivingBasic (f .arriving) (f .area)) m (p .fits .room) (f .leaving .spellings) (spells o) again (f .leaving .domain) refl)
+
+  -- toward unlabelled hosts
+  pub default-label : f .leaving .unlabelled ≡ true → forwardOf f .label ≡ f .leaving .default
+  default-label o = label-is ∙ second.passed-default f p o
+
+  pub reads-bare : (out : List ℕ) → f .leaving .unlabelled ≡ true → ReadsBare (leavingArea f out) (f .leaving .basic .on) (keptOf (f .area))
+  reads-bare out o =
+      rw (area-is out, second.passed-bare f p o)
+      (read-bare (f .leaving .basic .on) (keptOf (f .area)) (arrivingBasic (f .arriving) (f .area)) (kept-fits (f .area) (p .area)) again)
 
 -- A second forwarding, of what has left, through equal domains.
 module _ (f g : Forwarding) (out out′ : List ℕ) (e : forwardOf f .number ≡ 0) (e′ : forwardOf g .number ≡ 0) (area : g .area ≡ leavingArea f out)
     (from : g .arriving .domain ≡ f .leaving .domain) (to : g .leaving .domain ≡ f .leaving .domain)
-    (set : g .leaving .spellings ≡ f .leaving .spellings) where
+    (set : g .leaving .spellings ≡ f .leaving .spellings) (o : f .leaving .unlabelled ≡ false) (o′ : g .leaving .unlabelled ≡ false) where
   same-kept : keptOf (g .area) ≡ keptOf (f .area)
-  same-kept = ap keptOf area ∙ reads-again f e out .kept
+  same-kept = ap keptOf area ∙ reads-again f e out o .kept
 
   -- the second arriving port reads option 130 as the first leaving port does: each does exactly where the kept options have one
   switch : g .arriving .basic .on ≡ f .leaving .basic .on
@@ -184,11 +204,11 @@ module _ (f g : Forwarding) (out out′ : List ℕ) (e : forwardOf f .number ≡
       let h = arrival-held (g .arriving) (g .area) 9 a (q .arrived) in
       label-stays (crossing g) (h .formed) (h .domain) l (from ∙ sym to)
       ∙ ap (arrivingLabel (g .arriving)) area
-      ∙ reads-again f e out .label (g .arriving) switch from
+      ∙ reads-again f e out o .label (g .arriving) switch from
       ∙ label-is f e
 
   same-option : p g e′ .fits .octets ≡ p f e .fits .octets
-  same-option = same-some (sym (spelled g e′) ∙ (λ i. spelledOf (set i) (same-label i)) ∙ spelled f e)
+  same-option = same-some (sym (spelled g e′ o′) ∙ (λ i. spelledOf (set i) (same-label i)) ∙ spelled f e o)
 
   pub forwarded-again : (forwardOf g ≡ forwardOf f) × (leavingArea g out′ ≡ leavingArea f out)
   forwarded-again = (

@@ -26,7 +26,7 @@ use Rattle.area.proofs.Laws.{area-refused, sound-placed}
 use Rattle.basic.specs.Alone.{basicReading}
 use Rattle.leaving.specs.Kept.{keptOf}
 use Rattle.port.specs.declared.Port.{Port}
-use Rattle.port.specs.Port.{portSound, hostSound}
+use Rattle.port.specs.Port.{portSound, hostSound, lowestOut, highestOut}
 use Rattle.label.specs.Range.{setInRange}
 use Rattle.arrival.specs.Checks.{Refusal, silent, faulty, barred, when, firstOf, badArea, walkAt, walkRefusal, walkCheck, placeIn, basicIn, optionAt, requiredBy, requiredCheck, optionBy, optionCheck, badBasicBy, badBasicCheck, arrivingBasic, missingBasicBy, missingBasicCheck, basicPasses, basicRangeCheck, arrivingLabel, rangeCheck, Delivery, deliverySizes, deliveryRecords, hostCheck}
 use Rattle.arrival.specs.Decision.{silenced, decided, deliverChecks, deliverOf}
@@ -169,7 +169,7 @@ forward-points f =
                       barred-points (f .area) (not (basicPasses (f .leaving .basic .on) (f .leaving .basic .sending) (arrivingBasic (f .arriving) (f .area)))) 21 9,
                       (
                         range-points (f .arriving) (f .area) 9,
-                        (barred-points (f .area) (not (stays (crossing f) || hasNumbers (crossing f))) 16 9, (barred-points (f .area) (not (setInRange (f .leaving .lowest) (f .leaving .highest) (leavingLevel (crossing f)) (leavingRuns (crossing f)))) 17 9, (barred-points (f .area) (ltb 120 (length (leavingRuns (crossing f))) || noRoom (leavingOption (crossing f)) (keptOf (f .area))) 18 9, tt))),
+                        (barred-points (f .area) (not (stays (crossing f) || hasNumbers (crossing f))) 16 9, (barred-points (f .area) (not (setInRange (lowestOut (f .leaving)) (highestOut (f .leaving)) (leavingLevel (crossing f)) (leavingRuns (crossing f)))) 17 9, (barred-points (f .area) (ltb 120 (length (leavingRuns (crossing f))) || noRoom (leavingOption (crossing f)) (keptOf (f .area))) 18 9, tt))),
                       ),
                     ),
                   ),

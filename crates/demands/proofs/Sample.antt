@@ -1,6 +1,6 @@
 -- The sample's lines. The renumbered set does not compute, so its members are shown, and the conditions of a forwarding give the rest.
 use mathlib.Core.Path.{_≡_, refl, sym, subst}
-use mathlib.Core.Bool.{true, false, _&&_}
+use mathlib.Core.Bool.{true, false, _&&_, true≢false}
 use mathlib.Core.List.{List, [], _∷_}
 use mathlib.Core.Logic.{_⊎_, inl, inr}
 use mathlib.Core.Option.{some}
@@ -23,7 +23,7 @@ use Rattle.area.specs.Area.{metFrom, metOf, walkOf}
 use Rattle.leaving.specs.Kept.{keptOf}
 use Rattle.basic.specs.Settings.{wayZero, basicSound}
 use Rattle.area.specs.declared.Place.the-variants.{Nowhere}
-use Rattle.port.specs.Port.{rangeSound, assignedSound, portSound}
+use Rattle.port.specs.Port.{rangeSound, assignedSound, defaultSound, portSound}
 use Rattle.table.specs.Table as tables
 use Rattle.table.specs.Table.{usedRows, rowsSound, levelsSound, tableSound}
 use Rattle.table.specs.Numbers.{sends, hasNumber}
@@ -104,7 +104,7 @@ apart : (_≡_ {A = ℕ} 5 9) → ⊥
 apart e = omega arith
 
 conditions : Forwards (sample first) near far spelling
-unfolding subset allBelow wellFormed labelTyped atMost leq inRange isZero rangeSound wayZero basicSound assignedSound portSound metFrom metOf walkOf keptOf tables.typed rowsSound levelsSound tableSound
+unfolding subset allBelow wellFormed labelTyped atMost leq inRange isZero rangeSound wayZero basicSound assignedSound defaultSound portSound metFrom metOf walkOf keptOf tables.typed rowsSound levelsSound tableSound
 conditions =
     record {
       area = record { few = omega arith; fourfold = refl };
@@ -119,9 +119,11 @@ conditions =
       from = λ d. refl;
       to = λ d. refl;
       numbered = λ d. carried;
-      leaves = refl;
-      spelled = one-spelling .spells usual far spelling formed-far .0 is-spelled;
-      fits = omega arith;
+      leaves = λ o. refl;
+      spelled = λ o. one-spelling .spells usual far spelling formed-far .0 is-spelled;
+      fits = λ o. omega arith;
+      default = λ o. absurd (true≢false (sym o));
+      bare = λ o. absurd (true≢false (sym o));
     }
 
 nothing-kept : keptOf first ≡ []
@@ -129,7 +131,7 @@ unfolding metFrom metOf keptOf
 nothing-kept = refl
 
 pub sample-lines : SampleLines
-unfolding subset allBelow wellFormed labelTyped atMost leq inRange isZero pieces readingFor readingBy tagChecks labelIn metFrom metOf walkOf keptOf rangeSound wayZero basicSound assignedSound portSound tables.typed rowsSound levelsSound tableSound walkCheck requiredCheck optionCheck badBasicCheck arrivingBasic missingBasicCheck basicRangeCheck leavingBasicCheck arrivingLabel rangeCheck sizes records numberCheck silenced forwardOf
+unfolding subset allBelow wellFormed labelTyped atMost leq inRange isZero pieces readingFor readingBy tagChecks labelIn metFrom metOf walkOf keptOf rangeSound wayZero basicSound assignedSound defaultSound portSound tables.typed rowsSound levelsSound tableSound walkCheck requiredCheck optionCheck badBasicCheck arrivingBasic missingBasicCheck basicRangeCheck leavingBasicCheck arrivingLabel rangeCheck sizes records numberCheck silenced forwardOf
 sample-lines =
     record {
       forward = demand2 .always (sample first) near far spelling [] conditions .0;

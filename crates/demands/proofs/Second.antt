@@ -2,7 +2,7 @@
 use mathlib.Core.Path.{_≡_, refl, sym, _∙_, ap, subst}
 use mathlib.Core.Bool.{Bool, true, false, cond, not, _&&_, _||_, true≢false}
 use mathlib.Core.List.{List, [], _∷_, _++_}
-use mathlib.Core.Logic.{_↔_}
+use mathlib.Core.Logic.{_↔_, _⊎_, inl, inr}
 use mathlib.Core.Option.{Option, none, some}
 use Prim.Native.Nat.{ℕ, zero, suc, _+_, _%_, _≤_, _<_}
 use native.Mathlib.Omega.{arith}
@@ -12,6 +12,7 @@ use borrow.Author.Tests.{eqb-true, eqb-false, eq-eqb, ne-eqb, le-ltb, ltb-false}
 use Rattle.label.specs.declared.Label.{Label}
 use Rattle.label.specs.Label.{wellFormed, inRange}
 use Rattle.label.proofs.Bools.{and-left, and-right, and-both, or-none}
+use Rattle.label.specs.Range.{setInRange}
 use Rattle.option.specs.Option.{Octets, Means}
 use Rattle.option.specs.Spelling.{spelledOf}
 use Rattle.option.specs.Theorems.{Spells}
@@ -27,8 +28,8 @@ use Rattle.area.specs.declared.Walk.the-variants.{Sound, Refused}
 use Rattle.area.proofs.Laws.{sound-placed}
 use Rattle.leaving.specs.Kept.{keptOf, roundUp, leavingOf}
 use Rattle.port.specs.declared.Port.{Port}
-use Rattle.port.specs.Port.{portSound, hostSound}
-use Rattle.port.proofs.Laws.{sound}
+use Rattle.port.specs.Port.{portSound, hostSound, lowestOut, highestOut}
+use Rattle.port.proofs.Laws.{sound, range-formed, default-in}
 use Rattle.table.specs.Table.{tableSound}
 use Rattle.renumber.specs.declared.Renumbered.{Renumbered}
 use Rattle.renumber.specs.Renumber.{renumberedAs, carriedOf}
@@ -41,13 +42,16 @@ use Rattle.arrival.specs.Decision.{silenced, refused, decided, arrivalChecks, d
 use Rattle.arrival.proofs.First.{Real, AllReal, real-first, real-when, first-none, none-first, when-none, orElse, first-append, not-false-yes, real-else}
 use Rattle.arrival.proofs.Arrival.{placed-framed, octets-part, Held, arrival-held, arrival-real, in-range-held}
 use Rattle.arrival.proofs.Deliveries.{deliver-done}
-use Rattle.gateway.specs.Crossing.{Forwarding, sameDomain, Crossing, crossing, stays, leavingLabel, leavingOption, noRoom}
+use Rattle.gateway.specs.Crossing.{Forwarding, sameDomain, Crossing, crossing, stays, leavingLabel, leavingOption, noRoom, sizes, records, numberCheck, leavingCheck, leavingLevel, leavingRuns}
 use Rattle.gateway.specs.Forward.{forwardChecks, forwardOf, outputOf}
 use Rattle.gateway.specs.Stages.{crossingChecks}
-use Rattle.gateway.proofs.Crossings.{label-stays, stays-inside, stays-outside, Crossed, crossed, crossed-carried, crosses-passed}
-use Rattle.gateway.proofs.Forwards.{reachChecks, recordsTest, Passed, forward-passed, passed-formed, forward-real, forward-fits, forward-done, leaving-spelled}
+use Rattle.gateway.proofs.Crossings.{label-stays, stays-inside, stays-outside, Crossed, crossed, crossed-carried, crosses-passed, default-is}
+use Rattle.gateway.proofs.Forwards.{reachChecks, recordsTest, Passed, forward-passed, passed-formed, forward-real, forward-fits, forward-done, forward-range, forward-none, kept-fits, leaving-spelled, leaving-none, reach-arrival, forward-refused}
 use Rattle.demands.proofs.Basic.{octets-at, basic-arrives, basic-passes, Unbarred, arrives-unbarred, passes-unbarred, passes-sent}
-use Rattle.demands.specs.Demands.{AreaSound, LabelOf, own, assigned, Forwards, Delivers, Demand2}
+use Rattle.demands.specs.Demands.{AreaSound, LabelOf, own, assigned, Forwards, Delivers, Demand2, earlierChecks}
+
+pub same-some : {a b : List ℕ} → _≡_ {A = Option (List ℕ)} (some a) (some b) → a ≡ b
+same-some e = cc
 
 -- The area.
 
@@ -140,18 +144,29 @@ module _ (f : Forwarding) (p : Passed f) where
   over : (f .arriving .domain ≡ f .leaving .domain → ⊥) → Crossed x
   over h = crossed x (ne-eqb _ _ h) (p .crossed)
 
-  leaves : inRange (f .leaving .lowest) (f .leaving .highest) (leavingLabel x) ≡ true
+  leaves : inRange (lowestOut (f .leaving)) (highestOut (f .leaving)) (leavingLabel x) ≡ true
   leaves = by (stays x) refl
     where
-      here : f .arriving .domain ≡ f .leaving .domain → (b : Bool) → inRange (f .leaving .lowest) (f .leaving .highest) (x .label) ≡ b → b ≡ true
+      here : f .arriving .domain ≡ f .leaving .domain → (b : Bool) → inRange (lowestOut (f .leaving)) (highestOut (f .leaving)) (x .label) ≡ b → b ≡ true
       here s true e = refl
       here s false e = let q = stays-outside x formed domain leaving-sound s e in let c = p .crossed in let z : _≡_ {A = ℕ} 0 1 = cc in absurd (omega arith)
 
-      by : (b : Bool) → stays x ≡ b → inRange (f .leaving .lowest) (f .leaving .highest) (leavingLabel x) ≡ true
+      by : (b : Bool) → stays x ≡ b → inRange (lowestOut (f .leaving)) (highestOut (f .leaving)) (leavingLabel x) ≡ true
       by true s =
-          ap (inRange (f .leaving .lowest) (f .leaving .highest)) (label-stays x formed domain leaving-sound (eqb-true _ _ s))
-          ∙ here (eqb-true _ _ s) (inRange (f .leaving .lowest) (f .leaving .highest) (x .label)) refl
+          ap (inRange (lowestOut (f .leaving)) (highestOut (f .leaving))) (label-stays x formed domain leaving-sound (eqb-true _ _ s))
+          ∙ here (eqb-true _ _ s) (inRange (lowestOut (f .leaving)) (highestOut (f .leaving)) (x .label)) refl
       by false s = crossed-carried x formed domain leaving-sound (table-sound (eqb-false _ _ s)) (over (eqb-false _ _ s)) .held
+
+  -- 17 has passed: toward unlabelled hosts the label is their default label, and no octets of an option are written
+  within : setInRange (lowestOut (f .leaving)) (highestOut (f .leaving)) (leavingLevel x) (leavingRuns x) ≡ true
+  unfolding leavingCheck
+  within = not-false-yes _ (when-none _ (barred 17 9) (first-none (crossingChecks x) (p .crossed) .1 .0))
+
+  pub passed-default : f .leaving .unlabelled ≡ true → leavingLabel x ≡ f .leaving .default
+  passed-default o = default-is x formed leaving-sound o within .label
+
+  pub passed-bare : f .leaving .unlabelled ≡ true → p .fits .octets ≡ []
+  passed-bare o = same-some (sym (p .fits .spelled) ∙ leaving-none x o)
 
   pub passed-forwards : Octets (f .area) → Forwards f (x .label) (leavingLabel x) (p .fits .octets)
   passed-forwards oct =
@@ -168,9 +183,11 @@ module _ (f : Forwarding) (p : Passed f) where
         from = λ h. over h .from;
         to = λ h. over h .to;
         numbered = λ h. crossed-carried x formed domain leaving-sound (table-sound h) (over h) .far;
-        leaves = leaves;
-        spelled = one-spelling .spells (f .leaving .spellings) (leavingLabel x) (p .fits .octets) (passed-formed f p) .0 (leaving-spelled x ∙ p .fits .spelled);
-        fits = p .fits .room;
+        leaves = λ o. subst (λ (u : Bool). inRange (cond u (f .leaving .default) (f .leaving .lowest)) (cond u (f .leaving .default) (f .leaving .highest)) (leavingLabel x) ≡ true) o leaves;
+        spelled = λ o. one-spelling .spells (f .leaving .spellings) (leavingLabel x) (p .fits .octets) (passed-formed f p) .0 (leaving-spelled x o ∙ p .fits .spelled);
+        fits = λ o. p .fits .room;
+        default = passed-default;
+        bare = passed-bare;
       }
 
 -- The conditions let every check pass.
@@ -197,6 +214,14 @@ module _ (f : Forwarding) (l m : Label) (s : List ℕ) (h : Forwards f l m s) wh
       by true e = rw (h .arriving, h .leaving, e)
       by false e = rw (h .arriving, h .leaving, e, h .table (eqb-false _ _ e))
 
+  -- the label lies in the range of what may leave: toward unlabelled hosts it is that label
+  out-of : inRange (lowestOut (f .leaving)) (highestOut (f .leaving)) m ≡ true
+  out-of = by (f .leaving .unlabelled) refl
+    where
+      by : (b : Bool) → f .leaving .unlabelled ≡ b → inRange (lowestOut (f .leaving)) (highestOut (f .leaving)) m ≡ true
+      by true o = rw o (default-in (f .leaving) m (sound (f .leaving) (h .leaving) .unlabelled o) (h .default o))
+      by false o = rw o (h .leaves o)
+
   pub record Crosses : Type 0 where
     pub none : firstOf (crossingChecks y) ≡ none
     pub label : leavingLabel y ≡ m
@@ -209,26 +234,37 @@ module _ (f : Forwarding) (l m : Label) (s : List ℕ) (h : Forwards f l m s) wh
           let d : f .arriving .domain ≡ f .leaving .domain = eqb-true _ _ e in
           let same : y .label ≡ m = r .label ∙ h .stays d in
           record {
-            none = stays-inside y y-formed y-domain (h .leaving) d (ap (inRange (f .leaving .lowest) (f .leaving .highest)) same ∙ h .leaves);
+            none = stays-inside y y-formed y-domain (h .leaving) d (ap (inRange (lowestOut (f .leaving)) (highestOut (f .leaving))) same ∙ out-of);
             label = label-stays y y-formed y-domain (h .leaving) d ∙ same;
           }
       by false e =
           let d : (f .arriving .domain ≡ f .leaving .domain → ⊥) = eqb-false _ _ e in
-          let g = sound (f .leaving) (h .leaving) .range in
+          let g = sound (f .leaving) (h .leaving) .out in
           let ts = h .table d in
           let from : y .label .domain ≡ f .table .from = y-domain ∙ sym (h .from d) in
           let far : Far (y .label) (f .table) (f .levels) m = rw (r .label) (h .numbered d) in
           let n = renumbering .found (y .label) (f .table) (f .levels) m ts y-formed from far in
-          let a = agrees (y .label) (f .table) (f .levels) (f .leaving .lowest) (f .leaving .highest) m (g .low-formed) (g .high-formed) (g .low-domain ∙ sym (h .to d)) (g .high-domain ∙ sym (h .to d)) n in
-          let c : renumberedAs m ≡ carriedOf (y .label) (f .table) (f .levels) (f .leaving .lowest) (f .leaving .highest) = sym (a ∙ rw (h .leaves)) in
+          let a = agrees (y .label) (f .table) (f .levels) (lowestOut (f .leaving)) (highestOut (f .leaving)) m (g .low-formed) (g .high-formed) (g .low-domain ∙ sym (h .to d)) (g .high-domain ∙ sym (h .to d)) n in
+          let c : renumberedAs m ≡ carriedOf (y .label) (f .table) (f .levels) (lowestOut (f .leaving)) (highestOut (f .leaving)) = sym (a ∙ rw out-of) in
           let q = crosses-passed y d (h .from d) (h .to d) (renumberedAs m) c refl in
           record { none = q .0; label = sym (ap (λ (z : Renumbered). z .label) (q .1)) }
 
   m-formed : wellFormed m ≡ true
-  m-formed = h .spelled .permitted .means .label
+  m-formed = range-formed (lowestOut (f .leaving)) (highestOut (f .leaving)) m out-of
 
   pub option-is : leavingOption y ≡ some s
-  option-is = sym (leaving-spelled y) ∙ ap (spelledOf (f .leaving .spellings)) (crosses .label) ∙ one-spelling .spells (f .leaving .spellings) m s m-formed .1 (h .spelled)
+  option-is = by (f .leaving .unlabelled) refl
+    where
+      by : (b : Bool) → f .leaving .unlabelled ≡ b → leavingOption y ≡ some s
+      by true o = leaving-none y o ∙ ap some (sym (h .bare o))
+      by false o = sym (leaving-spelled y o) ∙ ap (spelledOf (f .leaving .spellings)) (crosses .label) ∙ one-spelling .spells (f .leaving .spellings) m s m-formed .1 (h .spelled o)
+
+  room-left : length s + length (keptOf (f .area)) ≤ 40
+  room-left = by (f .leaving .unlabelled) refl
+    where
+      by : (b : Bool) → f .leaving .unlabelled ≡ b → length s + length (keptOf (f .area)) ≤ 40
+      by true o = omega (arith, ap length (h .bare o), kept-fits (f .area) (sound-area (f .area) (h .area)))
+      by false o = h .fits o
 
   reaches : firstOf (reachChecks f) ≡ none
   reaches =
@@ -239,13 +275,61 @@ module _ (f : Forwarding) (l m : Label) (s : List ℕ) (h : Forwards f l m s) wh
   pub forwards-passes : firstOf (forwardChecks f) ≡ none
   forwards-passes =
       forward-fits f (sound-area (f .area) (h .area)) (h .room) tested reaches false (crosses .none)
-      (rw (option-is, le-ltb 40 (length s + length (keptOf (f .area))) (h .fits)))
+      (rw (option-is, le-ltb 40 (length s + length (keptOf (f .area))) room-left))
 
   pub forwards-done : (out : List ℕ)
       → (forwardOf f ≡ decision.done m (roundUp (length s + length (keptOf (f .area))))) × (outputOf f out ≡ leavingOf s (keptOf (f .area)) out)
   forwards-done out =
       let q = forward-done f s out forwards-passes option-is in
       (q .0 ∙ ap (λ (z : Label). decision.done z (roundUp (length s + length (keptOf (f .area))))) (crosses .label), q .1)
+
+-- Toward unlabelled hosts: past the checks before 17, the default label or 17.
+facing : (f : Forwarding) → f .leaving .unlabelled ≡ true → NoneApplies (earlierChecks f)
+    → ((forwardOf f .number ≡ 0) × (forwardOf f .label ≡ f .leaving .default)) ⊎ (forwardOf f .number ≡ 17)
+unfolding sizes records
+facing f o n = by (setInRange (lowestOut (f .leaving)) (highestOut (f .leaving)) (leavingLevel (crossing f)) (leavingRuns (crossing f))) refl
+  where
+    a : (badArea (f .area) ≡ false) × (ltb (f .room) 40 ≡ false)
+    a = or-none (badArea (f .area)) (ltb (f .room) 40) (when-none _ (silent 1) (n .0))
+
+    long : 40 ≤ f .room
+    long = ltb-false _ _ (a .1)
+
+    t : recordsTest f ≡ true
+    t = not-false-yes (recordsTest f) (when-none _ (silent 2) (n .1 .0))
+
+    r : firstOf (reachChecks f) ≡ none
+    r = none-first (reachChecks f) (n .1 .1 .0, (n .1 .1 .1 .0, (n .1 .1 .1 .1 .0, (n .1 .1 .1 .1 .1 .0, (n .1 .1 .1 .1 .1 .1 .0, (n .1 .1 .1 .1 .1 .1 .1 .0, (n .1 .1 .1 .1 .1 .1 .1 .1 .0, (n .1 .1 .1 .1 .1 .1 .1 .1 .1 .0, tt))))))))
+
+    numbered : numberCheck (crossing f) ≡ none
+    numbered = n .1 .1 .1 .1 .1 .1 .1 .1 .1 .1 .0
+
+    arriving : portSound (f .arriving) ≡ true
+    arriving = and-left (portSound (f .arriving)) _ t
+
+    leaving : portSound (f .leaving) ≡ true
+    leaving = and-left (portSound (f .leaving)) _ (and-right (portSound (f .arriving)) _ t)
+
+    label : wellFormed (arrivingLabel (f .arriving) (f .area)) ≡ true
+    label = arrival-held (f .arriving) (f .area) 9 arriving (reach-arrival f r) .formed
+
+    refused17 : firstOf (forwardChecks f) ≡ some (barred 17 9) → forwardOf f .number ≡ 17
+    refused17 e = ap (λ (d : Decision). d .number) (sym (forward-refused f (barred 17 9) [] e .0)) ∙ numbered17 (silenced (f .facts))
+      where
+        numbered17 : (b : Bool) → refused b (barred 17 9) .number ≡ 17
+        numbered17 true = refl
+        numbered17 false = refl
+
+    by : (b : Bool) → setInRange (lowestOut (f .leaving)) (highestOut (f .leaving)) (leavingLevel (crossing f)) (leavingRuns (crossing f)) ≡ b
+        → ((forwardOf f .number ≡ 0) × (forwardOf f .label ≡ f .leaving .default)) ⊎ (forwardOf f .number ≡ 17)
+    by false g = inr (refused17 (forward-range f (a .0) long t r numbered g))
+    by true g =
+        let d = default-is (crossing f) label leaving o g in
+        let room : (ltb 120 (length (leavingRuns (crossing f))) || noRoom (leavingOption (crossing f)) (keptOf (f .area))) ≡ false =
+        rw (le-ltb 120 (length (leavingRuns (crossing f))) (d .few), leaving-none (crossing f) o, le-ltb 40 (0 + length (keptOf (f .area))) (omega (arith, kept-fits (f .area) (a .0)))) in
+        let e = forward-none f (a .0) long t r numbered g room in
+        let q = forward-done f [] [] e (leaving-none (crossing f) o) .0 in
+        inl (ap (λ (z : Decision). z .number) q, ap (λ (z : Decision). z .label) q ∙ d .label)
 
 -- Delivering.
 
@@ -308,6 +392,7 @@ demand2 =
           (let p = forward-passed f (forwarded-passes f e) in
           (crossing f .label, leavingLabel (crossing f), p .fits .octets, passed-forwards f p oct));
       always = λ f l m s out h. forwards-done f l m s h out;
+      facing = facing;
       delivered = λ d oct e. (arrivingLabel (d .port) (d .area), delivered-conditions d oct (delivered-passes d e));
       delivers = conditions-delivered;
       exactly = λ d. (λ e. first-none (deliverChecks d) (delivered-passes d e), λ n. passes-delivered d (none-first (deliverChecks d) n));

@@ -60,13 +60,13 @@ module _ (set : Spellings) (l : Label) (out : List ℕ) (w : wellFormed l ≡ tr
       let p = spelled-when e in
       (p .0, one-spelling .spells set l (p .0) w .0 (p .1), spelling-alone .counted set l out (p .0) w long (p .1), spelling-alone .written set l out (p .0) w long (p .1))
 
-pub spelled-in-area : (f : Forwarding) (out : List ℕ) → Octets (f .area) → forwardOf f .number ≡ 0
+pub spelled-in-area : (f : Forwarding) (out : List ℕ) → Octets (f .area) → f .leaving .unlabelled ≡ false → forwardOf f .number ≡ 0
     → (s : List ℕ) × Spells (f .leaving .spellings) s (forwardOf f .label) × (take (length s) (outputOf f out) ≡ s)
-spelled-in-area f out oct e =
+spelled-in-area f out oct o e =
     let c = demand2 .only f oct e in
     let q = demand2 .always f (c .0) (c .1) (c .2) out (c .3) in (
       c .2,
-      rw (ap (λ (d : Decision). d .label) (q .0)) (c .3 .spelled),
+      rw (ap (λ (d : Decision). d .label) (q .0)) (c .3 .spelled o),
       ap (take (length (c .2))) (q .1) ∙ take-append-seam (c .2) _,
     )
 
@@ -94,10 +94,10 @@ alone-usual : (l : Label) (out : List ℕ) → wellFormed l ≡ true → 40 ≤ 
     → (s : List ℕ) × Shortest s l × (spellingAnswer usual l (length out) .count ≡ length s) × (take 40 (spellingOut usual l out) ≡ padded s)
 alone-usual l out w long e = let p = spelled-alone usual l out w long e in (p .0, usual-shortest l (p .0) w (p .1), p .2, p .3)
 
-leaving-usual : (f : Forwarding) (out : List ℕ) → Octets (f .area) → f .leaving .spellings ≡ usual → forwardOf f .number ≡ 0
+leaving-usual : (f : Forwarding) (out : List ℕ) → Octets (f .area) → f .leaving .unlabelled ≡ false → f .leaving .spellings ≡ usual → forwardOf f .number ≡ 0
     → (s : List ℕ) × Shortest s (forwardOf f .label) × (take (length s) (outputOf f out) ≡ s)
-leaving-usual f out oct u e =
-    let p = spelled-in-area f out oct e in
+leaving-usual f out oct o u e =
+    let p = spelled-in-area f out oct o e in
     let q : Spells usual (p .0) (forwardOf f .label) = subst (λ (x : Spellings). Spells x (p .0) (forwardOf f .label)) u (p .1) in
     (p .0, usual-shortest (forwardOf f .label) (p .0) (q .permitted .means .label) q, p .2)
 

@@ -21,7 +21,8 @@ use Rattle.gateway.specs.Crossing.{Forwarding, Crossing, sizes, records, leavin
 use Rattle.gateway.specs.Forward.{forwardOf}
 use Rattle.demands.specs.Guards.{Unlabelled, UnlabelledDelivered, leavingArea}
 use Rattle.demands.proofs.Basic.{basic-kept}
-use Rattle.demands.proofs.Again.{same-some, p, laid, area-is}
+use Rattle.demands.proofs.Second.{same-some}
+use Rattle.demands.proofs.Again.{p, laid, area-is}
 
 -- what an area without an option 134 leaves of checks 3 to 14
 module _ (port : Port) (area : List ℕ) (u : (b : Place) × (walkAt port area ≡ Sound Nowhere b)) where

@@ -12,7 +12,7 @@ use Rattle.basic.specs.Option.{basicValid}
 use Rattle.basic.specs.Alone.{basicReading}
 use Rattle.basic.specs.Settings as settings
 use Rattle.basic.specs.Settings.{waySound, wayZero, basicSound, passesWay}
-use Rattle.port.specs.Port.{rangeSound, assignedSound, portSound, hostSound}
+use Rattle.port.specs.Port.{rangeSound, assignedSound, defaultSound, portSound, hostSound}
 use Rattle.label.specs.Range.{setInRange}
 use Rattle.arrival.specs.Checks.{walkCheck, requiredCheck, optionCheck, badBasicCheck, arrivingBasic, missingBasicCheck, basicRangeCheck, arrivingLabel, rangeCheck, deliverySizes, deliveryRecords, hostCheck}
 use Rattle.arrival.specs.Decision.{silenced, deliverOf}
@@ -21,5 +21,5 @@ use Rattle.gateway.specs.Forward.{forwardOf, outputOf}
 use Rattle.demands.specs.Worked.{WorkedDecisions}
 
 pub worked-decisions : WorkedDecisions
-unfolding subset allBelow wellFormed labelTyped atMost leq inRange isZero pieces leastForm formFor bodyFor spelledBy spellingOf readingFor readingBy tagChecks labelIn metFrom metOf walkOf keptOf isLevel rankOf basicValid basicReading settings.atMost waySound wayZero basicSound passesWay rangeSound assignedSound portSound hostSound setInRange walkCheck requiredCheck optionCheck badBasicCheck arrivingBasic missingBasicCheck basicRangeCheck leavingBasicCheck arrivingLabel rangeCheck deliverySizes deliveryRecords hostCheck silenced deliverOf sizes records numberCheck leavingLevel leavingRuns leavingCheck spellingCheck forwardOf outputOf
+unfolding subset allBelow wellFormed labelTyped atMost leq inRange isZero pieces leastForm formFor bodyFor spelledBy spellingOf readingFor readingBy tagChecks labelIn metFrom metOf walkOf keptOf isLevel rankOf basicValid basicReading settings.atMost waySound wayZero basicSound passesWay rangeSound assignedSound defaultSound portSound hostSound setInRange walkCheck requiredCheck optionCheck badBasicCheck arrivingBasic missingBasicCheck basicRangeCheck leavingBasicCheck arrivingLabel rangeCheck deliverySizes deliveryRecords hostCheck silenced deliverOf sizes records numberCheck leavingLevel leavingRuns leavingCheck spellingCheck forwardOf outputOf
 worked-decisions = (refl, refl, refl)

@@ -4,7 +4,7 @@
 use mathlib.Core.Path.{_≡_}
 use mathlib.Core.Bool.{Bool, true, false}
 use mathlib.Core.List.{List, [], _∷_, _++_}
-use mathlib.Core.Logic.{_↔_}
+use mathlib.Core.Logic.{_⊎_, _↔_}
 use mathlib.Core.Option.{Option, none, some}
 use Prim.Native.Nat.{ℕ, _+_, _%_, _≤_}
 use lib.ListN.{length, take, drop}
@@ -28,9 +28,9 @@ use Rattle.port.specs.declared.Port.{Port}
 use Rattle.port.specs.Port.{portSound, hostSound}
 use Rattle.table.specs.Table.{tableSound}
 use Rattle.renumber.specs.Theorems.{Far}
-use Rattle.arrival.specs.Checks.{Refusal, NoneApplies, walkAt, optionAt, badBasicCheck, Delivery, deliverySizes, deliveryRecords}
+use Rattle.arrival.specs.Checks.{Refusal, NoneApplies, walkAt, optionAt, badBasicCheck, Delivery, deliverySizes, deliveryRecords, walkCheck, requiredCheck, optionCheck, missingBasicCheck, basicRangeCheck, rangeCheck}
 use Rattle.arrival.specs.Decision.{silenced, refused, done, deliverChecks, deliverOf}
-use Rattle.gateway.specs.Crossing.{Forwarding, sizes, records}
+use Rattle.gateway.specs.Crossing.{Forwarding, sizes, records, leavingBasicCheck, crossing, numberCheck}
 use Rattle.gateway.specs.Forward.{forwardChecks, forwardOf, outputOf}
 
 -- Demand 1: "Bad input gets the first refusal that applies in document 01's order, with its ICMP type, code and pointer, and the output buffer
@@ -87,7 +87,8 @@ pub data BasicPasses (p q : Port) (area : List ℕ) : Type 0 where
       → Permitted (q .basic .sending) v f
       → BasicPasses p q area
 
--- a datagram that arrives with label l leaves with label m, spelled as s
+-- a datagram that arrives with label l leaves with label m, spelled as s; toward unlabelled hosts (Wish 6) m is their default label, no spelling is
+-- asked for, and s has no octets
 pub record Forwards (f : Forwarding) (l m : Label) (s : List ℕ) : Type 0 where
   pub area : AreaSound (f .area)
   pub room : 40 ≤ f .room
@@ -101,10 +102,12 @@ pub record Forwards (f : Forwarding) (l m : Label) (s : List ℕ) : Type 0 where
   pub from : (f .arriving .domain ≡ f .leaving .domain → ⊥) → f .table .from ≡ f .arriving .domain
   pub to : (f .arriving .domain ≡ f .leaving .domain → ⊥) → f .table .to ≡ f .leaving .domain
   pub numbered : (f .arriving .domain ≡ f .leaving .domain → ⊥) → Far l (f .table) (f .levels) m
-  pub leaves : inRange (f .leaving .lowest) (f .leaving .highest) m ≡ true
+  pub leaves : f .leaving .unlabelled ≡ false → inRange (f .leaving .lowest) (f .leaving .highest) m ≡ true
   -- a spelling that the leaving port permits (document 02, Wish 5)
-  pub spelled : Spells (f .leaving .spellings) s m
-  pub fits : length s + length (keptOf (f .area)) ≤ 40
+  pub spelled : f .leaving .unlabelled ≡ false → Spells (f .leaving .spellings) s m
+  pub fits : f .leaving .unlabelled ≡ false → length s + length (keptOf (f .area)) ≤ 40
+  pub default : f .leaving .unlabelled ≡ true → m ≡ f .leaving .default
+  pub bare : f .leaving .unlabelled ≡ true → s ≡ []
 
 -- a delivery with label l
 pub record Delivers (d : Delivery) (l : Label) : Type 0 where
@@ -116,6 +119,22 @@ pub record Delivers (d : Delivery) (l : Label) : Type 0 where
   pub arrives : inRange (d .port .lowest) (d .port .highest) l ≡ true
   pub held : inRange (d .host .lowest) (d .host .highest) l ≡ true
 
+-- the checks before 17
+abbrev pub earlierChecks : Forwarding → List (Option Refusal)
+earlierChecks f =
+    sizes f
+    ∷ records f
+    ∷ walkCheck (f .arriving) (f .area)
+    ∷ requiredCheck (f .arriving) (f .area)
+    ∷ optionCheck (f .arriving) (f .area)
+    ∷ badBasicCheck (f .arriving) (f .area)
+    ∷ missingBasicCheck (f .arriving) (f .area)
+    ∷ basicRangeCheck (f .arriving) (f .area) 9
+    ∷ leavingBasicCheck f
+    ∷ rangeCheck (f .arriving) (f .area) 9
+    ∷ numberCheck (crossing f)
+    ∷ []
+
 pub record Demand2 : Type 0 where
   -- forwarded only when the conditions hold
   pub only : (f : Forwarding) → Octets (f .area) → forwardOf f .number ≡ 0
@@ -124,6 +143,10 @@ pub record Demand2 : Type 0 where
   pub always : (f : Forwarding) (l m : Label) (s out : List ℕ) → Forwards f l m s
       → (forwardOf f ≡ done m (roundUp (length s + length (keptOf (f .area)))))
       × (outputOf f out ≡ leavingOf s (keptOf (f .area)) out)
+  -- "On such a port a datagram past all earlier checks is forwarded exactly when its renumbered label equals the default label; otherwise 17": 18
+  -- isn't given, since the kept options always fit
+  pub facing : (f : Forwarding) → f .leaving .unlabelled ≡ true → NoneApplies (earlierChecks f)
+      → ((forwardOf f .number ≡ 0) × (forwardOf f .label ≡ f .leaving .default)) ⊎ (forwardOf f .number ≡ 17)
   -- delivered exactly when none of the refusals applies, and with which label
   pub delivered : (d : Delivery) → Octets (d .area) → deliverOf d .number ≡ 0 → (l : Label) × Delivers d l
   pub delivers : (d : Delivery) (l : Label) → Delivers d l → deliverOf d ≡ done l 0
@@ -168,10 +191,10 @@ pub record Demand3 : Type 0 where
   -- given at least 40 octets to write in, every well-formed label is refused a spelling exactly when no permitted option means it
   pub refused : (p : Spellings) (l : Label) (out : List ℕ) → wellFormed l ≡ true → 40 ≤ length out
       → (spellingAnswer p l (length out) .number ≡ 0 → ⊥) ↔ ((o : List ℕ) → spellings.Permitted p o l → ⊥)
-  -- whatever label the box spells, alone or in a leaving area, it writes the shortest permitted option that means it
+  -- whatever label the box spells, alone or in a leaving area toward labelled hosts, it writes the shortest permitted option that means it
   pub alone : (p : Spellings) (l : Label) (out : List ℕ) → wellFormed l ≡ true → 40 ≤ length out → spellingAnswer p l (length out) .number ≡ 0
       → (s : List ℕ) × Spells p s l × (spellingAnswer p l (length out) .count ≡ length s) × (take 40 (spellingOut p l out) ≡ padded s)
-  pub leaving : (f : Forwarding) (out : List ℕ) → Octets (f .area) → forwardOf f .number ≡ 0
+  pub leaving : (f : Forwarding) (out : List ℕ) → Octets (f .area) → f .leaving .unlabelled ≡ false → forwardOf f .number ≡ 0
       → (s : List ℕ) × Spells (f .leaving .spellings) s (forwardOf f .label) × (take (length s) (outputOf f out) ≡ s)
   -- Document 01's words, which hold where tags 1, 2 and 5 are permitted: "Given at least 40 octets to write in, every well-formed label is refused
   -- a spelling exactly when no valid option means it."
@@ -181,7 +204,7 @@ pub record Demand3 : Type 0 where
   -- means it has at least as many octets, and equal lengths go to tag 1, then 2, then 5."
   pub usual-alone : (l : Label) (out : List ℕ) → wellFormed l ≡ true → 40 ≤ length out → spellingAnswer usual l (length out) .number ≡ 0
       → (s : List ℕ) × Shortest s l × (spellingAnswer usual l (length out) .count ≡ length s) × (take 40 (spellingOut usual l out) ≡ padded s)
-  pub usual-leaving : (f : Forwarding) (out : List ℕ) → Octets (f .area) → f .leaving .spellings ≡ usual → forwardOf f .number ≡ 0
+  pub usual-leaving : (f : Forwarding) (out : List ℕ) → Octets (f .area) → f .leaving .unlabelled ≡ false → f .leaving .spellings ≡ usual → forwardOf f .number ≡ 0
       → (s : List ℕ) × Shortest s (forwardOf f .label) × (take (length s) (outputOf f out) ≡ s)
   -- "The option written, read alone, gives that label back, as does every valid option that means it."
   pub back : (o : List ℕ) (l : Label) → Means o l → readingOf o ≡ found l

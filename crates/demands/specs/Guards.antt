@@ -1,7 +1,7 @@
 -- What document 01 says of every decision beyond the three demands: the count, the leaving area read again, pointers, datagrams without a label, and
 -- the functions asked alone.
 use mathlib.Core.Path.{_≡_}
-use mathlib.Core.Bool.{Bool}
+use mathlib.Core.Bool.{Bool, true, false}
 use mathlib.Core.List.{List}
 use mathlib.Core.Option.{Option, none}
 use Prim.Native.Nat.{ℕ, _+_, _%_, _≤_, _<_}
@@ -45,6 +45,14 @@ pub record Reads (a : List ℕ) (on : Bool) (domain : ℕ) (permitted : Spelling
   pub kept : keptOf a ≡ ks
   pub counted : Counts (length a) (length (optionAt 0 a)) (length ks)
 
+-- an area that a datagram with these kept options may leave with toward unlabelled hosts: it passes check 1 and, at any port that reads option 130 or
+-- does not (`on`), 3 to 5; it has no option 134, and its kept options are these
+pub record ReadsBare (a : List ℕ) (on : Bool) (ks : List ℕ) : Type 0 where
+  pub area : AreaSound a
+  pub walk : (basic : Place) × (walkOf on a ≡ Sound Nowhere basic)
+  pub kept : keptOf a ≡ ks
+  pub counted : Counts (length a) 0 (length ks)
+
 -- the leaving area: as many octets of the output as the count says
 abbrev pub leavingArea : Forwarding → List ℕ → List ℕ
 leavingArea f out = take (forwardOf f .count) (outputOf f out)
@@ -78,13 +86,19 @@ pub record PointsInto (area : List ℕ) (d : Decision) : Type 0 where
   pub inside : d .pointer < 20 + length area
 
 pub record Guards : Type 0 where
-  pub count : (f : Forwarding) → forwardOf f .number ≡ 0
+  pub count : (f : Forwarding) → f .leaving .unlabelled ≡ false → forwardOf f .number ≡ 0
       → (s : List ℕ) × Spells (f .leaving .spellings) s (forwardOf f .label) × Counts (forwardOf f .count) (length s) (length (keptOf (f .area)))
   -- the leaving area, read again at a port of the leaving domain that reads option 130 as the leaving port does
-  pub again : (f : Forwarding) (out : List ℕ) → forwardOf f .number ≡ 0
+  pub again : (f : Forwarding) (out : List ℕ) → f .leaving .unlabelled ≡ false → forwardOf f .number ≡ 0
       → Reads (leavingArea f out) (f .leaving .basic .on) (f .leaving .domain) (f .leaving .spellings) (forwardOf f .label) (arrivingBasic (f .arriving) (f .area)) (keptOf (f .area))
-  -- forwarded again through equal domains with the same permitted spellings, nothing changes
+  -- the leaving area toward unlabelled hosts: the kept options alone; its label is the default label
+  pub bare : (f : Forwarding) (out : List ℕ) → f .leaving .unlabelled ≡ true → forwardOf f .number ≡ 0
+      → ReadsBare (leavingArea f out) (f .leaving .basic .on) (keptOf (f .area))
+  pub default : (f : Forwarding) → f .leaving .unlabelled ≡ true → forwardOf f .number ≡ 0 → forwardOf f .label ≡ f .leaving .default
+  -- forwarded again through equal domains with the same permitted spellings, toward labelled hosts, nothing changes
   pub same : (f g : Forwarding) (out out′ : List ℕ)
+      → f .leaving .unlabelled ≡ false
+      → g .leaving .unlabelled ≡ false
       → forwardOf f .number ≡ 0
       → forwardOf g .number ≡ 0
       → g .area ≡ leavingArea f out

@@ -1,5 +1,6 @@
--- Document 02, Wish 5: worked decisions by the spellings that ports permit, as `Worked` has those of document 01.
+-- Document 02, Wishes 5 and 6: worked decisions by the spellings that ports permit, and toward unlabelled hosts, as `Worked` has those of document 01.
 use mathlib.Core.Path.{_≡_}
+use mathlib.Core.Bool.{Bool, true, false}
 use mathlib.Core.List.{List, [], _∷_, _++_, map}
 use Prim.Native.Nat.{ℕ}
 use lib.ListN.{replicate}
@@ -7,7 +8,7 @@ use Rattle.label.specs.declared.Label.{Label}
 use Rattle.option.specs.declared.Spellings.{Spellings}
 use Rattle.option.specs.Table.{onlyShortest, onlyTen, noSpelling}
 use Rattle.port.specs.declared.Port.{Port}
-use Rattle.demands.specs.Worked.{bare, one, requires, beyond, Case, leave, pass, drop, stopped, option, empty, answered, awaited}
+use Rattle.demands.specs.Worked.{bare, one, nothing, requires, assigns, unspelled, beyond, Case, leave, pass, drop, stopped, option, empty, answered, awaited}
 
 -- a port with other permitted spellings
 abbrev pub permitting : Spellings → Port → Port
@@ -20,6 +21,23 @@ permitting s p =
       assigned = p .assigned;
       basic = p .basic;
       spellings = s;
+      unlabelled = p .unlabelled;
+      default = p .default;
+    }
+
+-- a port that faces unlabelled hosts with this label, or a labelled one that has a default label
+abbrev pub facing : Bool → Label → Port → Port
+facing u l p =
+    record {
+      domain = p .domain;
+      lowest = p .lowest;
+      highest = p .highest;
+      required = p .required;
+      assigned = p .assigned;
+      basic = p .basic;
+      spellings = p .spellings;
+      unlabelled = u;
+      default = l;
     }
 
 -- forwarded between two ports into 41 octets: the count, the label and what the first 40 hold
@@ -49,5 +67,26 @@ bySpellings =
     ∷ stopped (permitting noSpelling requires) beyond single (drop 2 0 0 0)
     ∷ []
 
+abbrev pub byDefault : List Case
+byDefault =
+    -- the label is the default label: no option 134, nothing or the kept options
+    passed requires (facing true (one 3 16 16) beyond) single 0 (one 3 16 16) (replicate 40 0)
+    ∷ passed requires (facing true (bare 3) beyond) (empty 3 (148 ∷ 4 ∷ 7 ∷ 7 ∷ 1 ∷ 0 ∷ [])) 4 (bare 3) (148 ∷ 4 ∷ 7 ∷ 7 ∷ replicate 36 0)
+    -- within the range and not equal, at the level or in a category: 17
+    ∷ stopped requires (facing true (bare 4) beyond) (empty 3 (0 ∷ 0 ∷ [])) (drop 17 3 9 0)
+    ∷ stopped requires (facing true (one 3 16 17) beyond) single (drop 17 3 9 0)
+    ∷ stopped requires (facing true (bare 3) beyond) single (drop 17 3 9 0)
+    -- a label with no spelling, and 40 octets that are kept: 18 isn't given
+    ∷ passed unspelled (facing true (unspelled .assigned) beyond) [] 0 (unspelled .assigned) (replicate 40 0)
+    ∷ passed assigns (facing true (bare 3) beyond) (148 ∷ 40 ∷ replicate 38 7) 40 (bare 3) (148 ∷ 40 ∷ replicate 38 7)
+    -- the leaving port's default label decides, not the arriving one's
+    ∷ passed (facing true (bare 4) requires) (facing true (bare 3) beyond) (empty 3 (0 ∷ 0 ∷ [])) 0 (bare 3) (replicate 40 0)
+    ∷ passed (facing true (bare 4) requires) beyond (empty 3 (0 ∷ 0 ∷ [])) 12 (bare 3) (empty 3 (replicate 30 0))
+    -- unsound: out of the range, all zero, or given on a labelled port
+    ∷ stopped requires (facing true (bare 1) beyond) single (drop 2 0 0 0)
+    ∷ stopped requires (facing true nothing beyond) single (drop 2 0 0 0)
+    ∷ stopped requires (facing false (bare 3) beyond) single (drop 2 0 0 0)
+    ∷ []
+
 abbrev pub LeavingDecisions : Type 0
-LeavingDecisions = map answered bySpellings ≡ map awaited bySpellings
+LeavingDecisions = (map answered bySpellings ≡ map awaited bySpellings) × (map answered byDefault ≡ map awaited byDefault)

@@ -22,7 +22,7 @@ use Rattle.area.specs.Area.{Met, metOf, walkOf}
 use Rattle.basic.specs.Option.{basicValid}
 use Rattle.leaving.specs.Kept.{keptOf}
 use Rattle.port.specs.declared.Port.{Port}
-use Rattle.port.specs.Port.{portSound, hostSound}
+use Rattle.port.specs.Port.{portSound, hostSound, lowestOut, highestOut}
 use Rattle.table.specs.Table.{tableSound}
 use Rattle.arrival.specs.declared.Decision.{Decision}
 use Rattle.arrival.specs.Checks.{Refusal, badArea, walkAt, placeIn, basicIn, optionAt, arrivingBasic, basicPasses, arrivingLabel, Delivery}
@@ -183,9 +183,9 @@ abbrev pub crossingRules : Forwarding → List Rule
 crossingRules f =
     -- 16: domains differ: table's domains aren't the two ports', or a level or category has no number
     rule 16 (not (stays (crossing f) || hasNumbers (crossing f))) 3 9 0
-    -- 17: outside the leaving port's range
-    ∷ rule 17 (not (setInRange (f .leaving .lowest) (f .leaving .highest) (leavingLevel (crossing f)) (leavingRuns (crossing f)))) 3 9 0
-    -- 18: no valid option means the label, or the options exceed 40 octets
+    -- 17: outside the leaving port's range; toward unlabelled hosts the default label is the range (Wish 6)
+    ∷ rule 17 (not (setInRange (lowestOut (f .leaving)) (highestOut (f .leaving)) (leavingLevel (crossing f)) (leavingRuns (crossing f)))) 3 9 0
+    -- 18: no permitted option means the label, or the options exceed 40 octets
     ∷ rule 18 (ltb 120 (length (leavingRuns (crossing f))) || noRoom (leavingOption (crossing f)) (keptOf (f .area))) 3 9 0
     ∷ []
 

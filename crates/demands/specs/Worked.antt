@@ -73,6 +73,8 @@ readsBasic way =
       assigned = bare 3;
       basic = record { on = true; receiving = way; sending = twoFields 150 90 };
       spellings = usual;
+      unlabelled = false;
+      default = nothing;
     }
 
 abbrev pub marked : Port
@@ -92,6 +94,8 @@ lesser =
       assigned = bare 3;
       basic = record { on = true; receiving = twoFields 150 90; sending = record { lowest = 150; highest = 150; count = 1; flags = replicate 256 0 } };
       spellings = usual;
+      unlabelled = false;
+      default = nothing;
     }
 
 abbrev pub behind : Host

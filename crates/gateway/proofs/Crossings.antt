@@ -1,5 +1,5 @@
 -- Laws of checks 16 and 17, and of 18 on the runs.
-use mathlib.Core.Path.{_≡_, refl, sym, _∙_, ap}
+use mathlib.Core.Path.{_≡_, refl, sym, _∙_, ap, subst}
 use mathlib.Core.Bool.{Bool, true, false, cond, not, _&&_, _||_, and-false, true≢false}
 use mathlib.Core.List.{List, [], _∷_, _++_}
 use mathlib.Core.Option.{Option, none, some}
@@ -11,15 +11,16 @@ use lib.Seq.{length-take-le, take-append-le, take-take}
 use borrow.Author.Tests.{eq-eqb, ne-eqb, eqb-true, eqb-false, leb-true, leb-false, le-ltb, lt-ltb, ltb-false, le-leb}
 use Rattle.label.specs.declared.Run.{Run}
 use Rattle.label.specs.declared.Label.{Label}
-use Rattle.label.specs.Runs.{spaced}
+use Rattle.label.specs.Runs.{spaced, subset}
 use Rattle.label.specs.Label.{used, labelOf, wellFormed, inRange}
 use Rattle.label.specs.Keys.{keyRuns}
 use Rattle.label.specs.Range.{setInRange}
 use Rattle.label.proofs.Bools.{and-left, and-right}
+use Rattle.label.proofs.Runs.{subset-sub, one-form}
 use Rattle.label.proofs.Labels.{formed, used-length, of-used}
 use Rattle.port.specs.declared.Port.{Port}
-use Rattle.port.specs.Port.{portSound}
-use Rattle.port.proofs.Laws.{sound}
+use Rattle.port.specs.Port.{portSound, lowestOut, highestOut}
+use Rattle.port.proofs.Laws.{Range, sound}
 use Rattle.table.specs.declared.Table.{Table}
 use Rattle.table.specs.declared.Partner.{Partner}
 use Rattle.table.specs.declared.Partner.the-variants.{Level, Missing}
@@ -56,7 +57,7 @@ crossing-real x =
     real-first (crossingChecks x) (
       real-when (not (stays x || hasNumbers x)) (barred 16 9) sixteen,
       (
-        real-when (not (setInRange (x .leaving .lowest) (x .leaving .highest) (leavingLevel x) (leavingRuns x))) (barred 17 9) seventeen,
+        real-when (not (setInRange (lowestOut (x .leaving)) (highestOut (x .leaving)) (leavingLevel x) (leavingRuns x))) (barred 17 9) seventeen,
         (real-when (ltb 120 (length (leavingRuns x))) (barred 18 9) eighteen, tt),
       ),
     )
@@ -78,24 +79,24 @@ module _ (x : Crossing) (w : wellFormed (x .label) ≡ true) (d : x .label .doma
   unfolding numberCheck
   number-stays = rw test
 
-  range-stays : setInRange (x .leaving .lowest) (x .leaving .highest) (leavingLevel x) (leavingRuns x) ≡ inRange (x .leaving .lowest) (x .leaving .highest) (x .label)
+  range-stays : setInRange (lowestOut (x .leaving)) (highestOut (x .leaving)) (leavingLevel x) (leavingRuns x) ≡ inRange (lowestOut (x .leaving)) (highestOut (x .leaving)) (x .label)
   range-stays =
-      let s = sound (x .leaving) p .range in
+      let s = sound (x .leaving) p .out in
       rw (level-stays, runs-stay)
-      (held-label (x .leaving .lowest) (x .leaving .highest) (x .label) (s .low-formed) (s .high-formed) w
+      (held-label (lowestOut (x .leaving)) (highestOut (x .leaving)) (x .label) (s .low-formed) (s .high-formed) w
       (s .low-domain ∙ sym (d ∙ same)) ((d ∙ same) ∙ sym (s .high-domain)))
 
   few : ltb 120 (length (leavingRuns x)) ≡ false
   few = let f = formed (x .label) w in rw runs-stay (le-ltb 120 (length (used (x .label))) (omega (arith, used-length (x .label) f, f .held)))
 
-  pub stays-outside : inRange (x .leaving .lowest) (x .leaving .highest) (x .label) ≡ false → firstOf (crossingChecks x) ≡ some (barred 17 9)
+  pub stays-outside : inRange (lowestOut (x .leaving)) (highestOut (x .leaving)) (x .label) ≡ false → firstOf (crossingChecks x) ≡ some (barred 17 9)
   unfolding leavingCheck
   stays-outside e = rw (number-stays, range-stays ∙ e)
 
   pub label-stays : leavingLabel x ≡ x .label
   label-stays = (λ i. labelOf (sym (d ∙ same) i) (level-stays i) (runs-stay i)) ∙ sym (of-used (x .label) (formed (x .label) w))
 
-  pub stays-inside : inRange (x .leaving .lowest) (x .leaving .highest) (x .label) ≡ true → firstOf (crossingChecks x) ≡ none
+  pub stays-inside : inRange (lowestOut (x .leaving)) (highestOut (x .leaving)) (x .label) ≡ true → firstOf (crossingChecks x) ≡ none
   unfolding leavingCheck
   stays-inside e = rw (number-stays, range-stays ∙ e, few)
 
@@ -140,7 +141,7 @@ module _ (x : Crossing) (apart : x .domain ≡ x .leaving .domain → ⊥) where
     abbrev all : Bool
     all = numbered (usedRows (x .table)) (used (x .label))
 
-    checks-are : firstOf (crossingChecks x) ≡ firstOf (checksBy (x .leaving .lowest) (x .leaving .highest) (x .leaving .domain) img (partner x) all)
+    checks-are : firstOf (crossingChecks x) ≡ firstOf (checksBy (lowestOut (x .leaving)) (highestOut (x .leaving)) (x .leaving .domain) img (partner x) all)
     unfolding numberCheck leavingCheck leavingLevel leavingRuns
     checks-are = rw (differ, eq-eqb _ _ from, eq-eqb _ _ to)
 
@@ -148,10 +149,10 @@ module _ (x : Crossing) (apart : x .domain ≡ x .leaving .domain → ⊥) where
     unfolding leavingLevel leavingRuns
     label-is = rw differ
 
-    module _ (r : Renumbered) (is : r ≡ carriedOf (x .label) (x .table) (x .levels) (x .leaving .lowest) (x .leaving .highest)) where
-      both : Alike (x .leaving .lowest) (x .leaving .highest) (x .table .to) img (partner x) all r
+    module _ (r : Renumbered) (is : r ≡ carriedOf (x .label) (x .table) (x .levels) (lowestOut (x .leaving)) (highestOut (x .leaving))) where
+      both : Alike (lowestOut (x .leaving)) (highestOut (x .leaving)) (x .table .to) img (partner x) all r
       unfolding carriedOf
-      both = rw is (alike (x .leaving .lowest) (x .leaving .highest) (x .table .to) img (partner x) all)
+      both = rw is (alike (lowestOut (x .leaving)) (highestOut (x .leaving)) (x .table .to) img (partner x) all)
 
       pub crosses-refused : (r .number ≡ 0 → ⊥) → firstOf (crossingChecks x) ≡ some (barred (r .number) 9)
       crosses-refused h = checks-are ∙ both .refused h
@@ -264,7 +265,7 @@ module _ (x : Crossing) (apart : stays x ≡ false) (w : wellFormed (x .label) �
 
 -- what carrying the label over answers
 abbrev carriedBy : Crossing → Renumbered
-carriedBy x = carriedOf (x .label) (x .table) (x .levels) (x .leaving .lowest) (x .leaving .highest)
+carriedBy x = carriedOf (x .label) (x .table) (x .levels) (lowestOut (x .leaving)) (highestOut (x .leaving))
 
 pub numbers : (x : Crossing) → stays x ≡ false → numberCheck x ≡ none → hasNumbers x ≡ true
 unfolding numberCheck
@@ -297,11 +298,45 @@ crossed x s e = go (eqb (carriedBy x .number) 0) refl
 
 -- it is the label in the far domain, and in the range
 pub crossed-carried : (x : Crossing) → wellFormed (x .label) ≡ true → x .label .domain ≡ x .domain → portSound (x .leaving) ≡ true → tableSound (x .table) (x .levels) ≡ true
-    → Crossed x → far.Carried (x .label) (x .table) (x .levels) (x .leaving .lowest) (x .leaving .highest) (leavingLabel x)
+    → Crossed x → far.Carried (x .label) (x .table) (x .levels) (lowestOut (x .leaving)) (highestOut (x .leaving)) (leavingLabel x)
 crossed-carried x w d p ts c =
-    let g = sound (x .leaving) p .range in
-    carrying (x .label) (x .table) (x .levels) (x .leaving .lowest) (x .leaving .highest) (leavingLabel x) w ts (d ∙ sym (c .from)) (g .low-formed) (g .high-formed)
+    let g = sound (x .leaving) p .out in
+    carrying (x .label) (x .table) (x .levels) (lowestOut (x .leaving)) (highestOut (x .leaving)) (leavingLabel x) w ts (d ∙ sym (c .from)) (g .low-formed) (g .high-formed)
     (g .low-domain ∙ sym (c .to)) (g .high-domain ∙ sym (c .to)) (c .carried)
+
+-- What leaves is in one form.
+pub runs-spaced : (x : Crossing) → wellFormed (x .label) ≡ true → spaced 0 (leavingRuns x) ≡ true
+unfolding leavingRuns
+runs-spaced x w = go (stays x)
+  where
+    go : (b : Bool) → spaced 0 (cond b (used (x .label)) (imageRuns (x .label) (x .table))) ≡ true
+    go true = formed (x .label) w .runs
+    go false = image-spaced (x .table) (used (x .label))
+
+-- Toward unlabelled hosts what is in range is the default label, and so has at most 120 runs.
+pub record Default (x : Crossing) : Type 0 where
+  pub label : leavingLabel x ≡ x .leaving .default
+  pub few : length (leavingRuns x) ≤ 120
+
+pub default-is : (x : Crossing) → wellFormed (x .label) ≡ true → portSound (x .leaving) ≡ true → x .leaving .unlabelled ≡ true
+    → setInRange (lowestOut (x .leaving)) (highestOut (x .leaving)) (leavingLevel x) (leavingRuns x) ≡ true → Default x
+unfolding setInRange
+default-is x w p o e =
+    let d : Label = x .leaving .default in
+    let r : Range d d (x .leaving .domain) = subst (λ (u : Bool). Range (cond u d (x .leaving .lowest)) (cond u d (x .leaving .highest)) (x .leaving .domain)) o (sound (x .leaving) p .out) in
+    let e0 : (leb (d .level) (leavingLevel x) && (leb (leavingLevel x) (d .level) && (subset (used d) (leavingRuns x) && subset (leavingRuns x) (used d)))) ≡ true =
+    subst (λ (u : Bool). setInRange (cond u d (x .leaving .lowest)) (cond u d (x .leaving .highest)) (leavingLevel x) (leavingRuns x) ≡ true) o e in
+    let e1 = and-right (leb (d .level) (leavingLevel x)) _ e0 in
+    let e2 = and-right (leb (leavingLevel x) (d .level)) _ e1 in
+    let f = formed d (r .low-formed) in
+    let v : leavingLevel x ≡ d .level =
+    omega (arith, leb-true (d .level) (leavingLevel x) (and-left (leb (d .level) (leavingLevel x)) _ e0), leb-true (leavingLevel x) (d .level) (and-left (leb (leavingLevel x) (d .level)) _ e1)) in
+    let same : leavingRuns x ≡ used d =
+    one-form 0 0 (leavingRuns x) (used d) (runs-spaced x w) (f .runs) (subset-sub (leavingRuns x) (used d) (and-right (subset (used d) (leavingRuns x)) _ e2)) (subset-sub (used d) (leavingRuns x) (and-left (subset (used d) (leavingRuns x)) _ e2)) in
+    record {
+      label = (λ i. labelOf (sym (r .low-domain) i) (v i) (same i)) ∙ sym (of-used d f);
+      few = omega (arith, ap length same, used-length d f, f .held);
+    }
 
 pub crossing-formed : (x : Crossing) → wellFormed (x .label) ≡ true → x .label .domain ≡ x .domain → portSound (x .leaving) ≡ true
     → (stays x || tableSound (x .table) (x .levels)) ≡ true → firstOf (crossingChecks x) ≡ none → wellFormed (leavingLabel x) ≡ true

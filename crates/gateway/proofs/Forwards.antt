@@ -21,9 +21,9 @@ use Rattle.spelling.specs.Spelling.{lacking, lengthOf}
 use Rattle.spelling.specs.Keys.{inFront}
 use Rattle.spelling.proofs.Answers.{spelled-bounds}
 use Rattle.leaving.specs.Kept.{keptOf, roundUp, leavingOf, restCount, restOf}
-use Rattle.leaving.proofs.Laws.{rest-counted, rest-whole}
+use Rattle.leaving.proofs.Laws.{kept-most, rest-counted, rest-whole}
 use Rattle.port.specs.declared.Port.{Port}
-use Rattle.port.specs.Port.{portSound}
+use Rattle.port.specs.Port.{portSound, lowestOut, highestOut}
 use Rattle.table.specs.declared.Table.{Table}
 use Rattle.table.specs.Table.{tableSound}
 use Rattle.arrival.specs.declared.Decision.{Decision}
@@ -124,11 +124,11 @@ module _ (f : Forwarding) where
         forward-number e = past ∙ rw (arrived, e)
 
         module _ (numbered : numberCheck (crossing f) ≡ none) where
-          pub forward-range : setInRange (f .leaving .lowest) (f .leaving .highest) (leavingLevel (crossing f)) (leavingRuns (crossing f)) ≡ false → firstOf (forwardChecks f) ≡ some (barred 17 9)
+          pub forward-range : setInRange (lowestOut (f .leaving)) (highestOut (f .leaving)) (leavingLevel (crossing f)) (leavingRuns (crossing f)) ≡ false → firstOf (forwardChecks f) ≡ some (barred 17 9)
           unfolding leavingCheck
           forward-range e = past ∙ rw (arrived, numbered, e)
 
-          module _ (within : setInRange (f .leaving .lowest) (f .leaving .highest) (leavingLevel (crossing f)) (leavingRuns (crossing f)) ≡ true) where
+          module _ (within : setInRange (lowestOut (f .leaving)) (highestOut (f .leaving)) (leavingLevel (crossing f)) (leavingRuns (crossing f)) ≡ true) where
             pub forward-spelling : (ltb 120 (length (leavingRuns (crossing f))) || noRoom (leavingOption (crossing f)) (keptOf (f .area))) ≡ true → firstOf (forwardChecks f) ≡ some (barred 18 9)
             unfolding leavingCheck spellingCheck
             forward-spelling e = past ∙ rw (arrived, numbered, within, e)
@@ -140,14 +140,26 @@ module _ (f : Forwarding) where
         pub forward-fits : (b : Bool) → firstOf (crossingChecks (crossing f)) ≡ none → noRoom (leavingOption (crossing f)) (keptOf (f .area)) ≡ b → firstOf (forwardChecks f) ≡ when b (barred 18 9)
         forward-fits b e g = then ∙ rw (e, g)
 
--- The label that leaves is spelled as its parts are.
-pub leaving-spelled : (x : Crossing) → spelledOf (x .leaving .spellings) (leavingLabel x) ≡ leavingOption x
-leaving-spelled x = rw (used-of _ _ _)
+-- Toward labelled hosts the label that leaves is spelled as its parts are; toward unlabelled ones no octets are written.
+pub leaving-spelled : (x : Crossing) → x .leaving .unlabelled ≡ false → spelledOf (x .leaving .spellings) (leavingLabel x) ≡ leavingOption x
+leaving-spelled x e =
+    let o : Option (List ℕ) = spellingOf (x .leaving .spellings) (x .leaving .domain) (leavingLevel x) (leavingRuns x) in
+    let u : spelledOf (x .leaving .spellings) (leavingLabel x) ≡ o = rw (used-of (x .leaving .domain) (leavingLevel x) (leavingRuns x)) in
+    u ∙ sym (ap (λ (b : Bool). cond b (some []) o) e)
+
+pub leaving-none : (x : Crossing) → x .leaving .unlabelled ≡ true → leavingOption x ≡ some []
+leaving-none x e = ap (λ (b : Bool). cond b (some []) (spellingOf (x .leaving .spellings) (x .leaving .domain) (leavingLevel x) (leavingRuns x))) e
 
 -- A refusal: what is answered, and that nothing is written.
 pub forward-refused : (f : Forwarding) (x : Refusal) (out : List ℕ) → firstOf (forwardChecks f) ≡ some x → (refused (silenced (f .facts)) x ≡ forwardOf f) × (out ≡ outputOf f out)
 unfolding forwardOf outputOf
 forward-refused f x out e = (rw e, rw e)
+
+-- The kept options of an area that passes check 1 fit by themselves.
+pub kept-fits : (area : List ℕ) → badArea area ≡ false → length (keptOf area) ≤ 40
+kept-fits area e =
+    let a = or-none (ltb 40 (length area)) _ e in
+    omega (arith, kept-most area, ltb-false 40 (length area) (a .0))
 
 -- There is room where 18 does not apply.
 pub record Fits (option : Option (List ℕ)) (kept : List ℕ) : Type 0 where

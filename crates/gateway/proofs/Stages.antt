@@ -3,7 +3,7 @@ use mathlib.Core.Path.{_≡_, refl, sym, _∙_, ap}
 use mathlib.Core.Bool.{Bool, true, false, cond, not, _&&_, _||_}
 use mathlib.Core.List.{List, [], _∷_, _++_}
 use mathlib.Core.Option.{Option, none, some}
-use Prim.Native.Nat.{ℕ, _≤_, _<_}
+use Prim.Native.Nat.{ℕ, _+_, _≤_, _<_}
 use native.Mathlib.Omega.{arith}
 use lib.Dec.{leb, ltb, eqb}
 use lib.ListN.{length, take}
@@ -15,10 +15,10 @@ use Rattle.label.specs.Keys.{keyRuns, labelFrom}
 use Rattle.label.specs.Range.{setInRange}
 use Rattle.option.specs.Spelling.{spellingOf}
 use Rattle.spelling.specs.Spelling.{lengthOf}
-use Rattle.spelling.specs.Keys.{inFront, keysSpelled, keysCount, keysWritten}
+use Rattle.spelling.specs.Keys.{inFront, keysSpelled}
 use Rattle.spelling.proofs.Keys.{keys-spelled, keys-put}
 use Rattle.leaving.specs.Kept.{keptOf, restCount, restOf}
-use Rattle.port.specs.Port.{portSound}
+use Rattle.port.specs.Port.{portSound, lowestOut, highestOut}
 use Rattle.port.proofs.Laws.{sound}
 use Rattle.table.specs.Table.{tableSound}
 use Rattle.renumber.specs.declared.Carried.{Carried}
@@ -38,9 +38,9 @@ use Rattle.arrival.proofs.Arrival.{Held, beforeChecks, arrival-early, arrival-h
 use Rattle.arrival.proofs.Verdicts.{held-in-set, concluded-refused, concluded-done}
 use Rattle.gateway.specs.Crossing.{Forwarding, sameDomain, leavingBasicCheck, Crossing, crossing, stays, hasNumbers, numberCheck, leavingLevel, leavingRuns, leavingCheck, leavingLabel, leavingOption, noRoom, spellingCheck}
 use Rattle.gateway.specs.Forward.{forwardChecks, forwardOf, outputOf}
-use Rattle.gateway.specs.Stages.{recordedBy, sentBy, tabledBy, numberedBy, Crosses, heldBy, hasRoomFor, fittedBy, Writes}
+use Rattle.gateway.specs.Stages.{recordedBy, sentBy, tabledBy, numberedBy, Crosses, heldBy, hasRoomFor, fittedBy, putCount, putFront, Writes}
 use Rattle.gateway.proofs.Crossings.{Over, leavingVerdict, stays-verdict, stays-over, unsound-verdict, numberless-verdict, carried-verdict, carried-over}
-use Rattle.gateway.proofs.Forwards.{reachChecks, reach-arrival, reach-late, recordsTest, forward-area, forward-room, forward-record, forward-arrival, forward-number, forward-range, forward-spelling, forward-none, forward-refused, forward-written, room-is}
+use Rattle.gateway.proofs.Forwards.{reachChecks, reach-arrival, reach-late, recordsTest, forward-area, forward-room, forward-record, forward-arrival, forward-number, forward-range, forward-spelling, forward-none, forward-refused, forward-written, room-is, kept-fits}
 
 -- 21 of the leaving port, by what a second walk found
 abbrev sending : Bool → Bool → Way → BasicReading → Option Refusal
@@ -65,10 +65,10 @@ pub record Ran (f : Forwarding) (own own′ far far′ out out′ : List ℕ) (a
   pub ready : r ≡ recordedBy a (f .room) (portSound (f .leaving))
   pub sent : u ≡ sentBy r (f .arriving .basic .on) (f .leaving .basic .on) (f .leaving .basic .sending) (basicRead (octetsAt (basicIn (walkOf true (f .area))) (f .area)))
   pub crosses : Crosses u (f .arriving .domain) (f .leaving .domain) (f .table) (f .levels) own′ far far′ c
-  pub held : h ≡ heldBy c (f .leaving .lowest) (f .leaving .highest) far′
+  pub held : h ≡ heldBy c (lowestOut (f .leaving)) (highestOut (f .leaving)) far′
   pub counted : kept ≡ cond (eqb (h .number) 0) (length (keptOf (f .area))) 0
-  pub fits : (d : ℕ) → v ≡ fittedBy (f .leaving .spellings) d h kept far′
-  pub writes : Writes v (f .leaving .domain) (f .leaving .spellings) kept (f .area) far′ out out′ count
+  pub fits : (d : ℕ) → v ≡ fittedBy (f .leaving .unlabelled) (f .leaving .spellings) d h kept far′
+  pub writes : Writes v (f .leaving .unlabelled) (f .leaving .domain) (f .leaving .spellings) kept (f .area) far′ out out′ count
 
 module _ (f : Forwarding) (own own′ far far′ out out′ : List ℕ) (a r u c h v : Verdict) (kept count : ℕ) (s : Ran f own own′ far far′ out out′ a r u c h v kept count) where
   abbrev Answers : Type 0
@@ -88,7 +88,7 @@ module _ (f : Forwarding) (own own′ far far′ out out′ : List ℕ) (a r u c
   unfolding fittedBy
   fit-refused y e z =
       s .fits 0
-      ∙ ap (λ (q : Verdict). cond (eqb (q .number) 0) (cond (leb (q .count) 120 && hasRoomFor (lengthOf (keysSpelled (f .leaving .spellings) 0 (q .level) (take (q .count) far′))) kept) q (stopped 18 3 9 0)) q) e
+      ∙ ap (λ (q : Verdict). cond (eqb (q .number) 0) (cond (leb (q .count) 120 && (f .leaving .unlabelled || hasRoomFor (lengthOf (keysSpelled (f .leaving .spellings) 0 (q .level) (take (q .count) far′))) kept)) q (stopped 18 3 9 0)) q) e
       ∙ rw (ne-eqb (y .number) 0 z)
 
   last : (y : Refusal) → v ≡ answer (some y) → (y .number ≡ 0 → ⊥) → firstOf (forwardChecks f) ≡ some y → Answers
@@ -105,7 +105,7 @@ module _ (f : Forwarding) (own own′ far far′ out out′ : List ℕ) (a r u c
   unfolding heldBy
   hold-refused y e z =
       s .held
-      ∙ ap (λ (q : Verdict). cond (eqb (q .number) 0) (cond (heldBetween (f .leaving .lowest) (f .leaving .highest) q far′) q (stopped 17 3 9 0)) q) e
+      ∙ ap (λ (q : Verdict). cond (eqb (q .number) 0) (cond (heldBetween (lowestOut (f .leaving)) (highestOut (f .leaving)) q far′) q (stopped 17 3 9 0)) q) e
       ∙ rw (ne-eqb (y .number) 0 z)
 
   crossed-refused : (y : Refusal) → c ≡ answer (some y) → (y .number ≡ 0 → ⊥) → firstOf (forwardChecks f) ≡ some y → Answers
@@ -279,44 +279,59 @@ module _ (f : Forwarding) (own own′ far far′ out out′ : List ℕ) (a r u c
           abbrev runs : List Run
           runs = leavingRuns x
 
-          held-is : heldBetween (f .leaving .lowest) (f .leaving .highest) (leavingVerdict x) far′ ≡ setInRange (f .leaving .lowest) (f .leaving .highest) (leavingLevel x) runs
+          held-is : heldBetween (lowestOut (f .leaving)) (highestOut (f .leaving)) (leavingVerdict x) far′ ≡ setInRange (lowestOut (f .leaving)) (highestOut (f .leaving)) (leavingLevel x) runs
           held-is =
-              let g = sound (f .leaving) q .range in
-              held-in-set (f .leaving .lowest) (f .leaving .highest) (leavingVerdict x) far′ (g .low-formed) (g .high-formed) (rw (over .stands) (over .gaps))
-              ∙ ap (setInRange (f .leaving .lowest) (f .leaving .highest) (leavingLevel x)) (over .stands)
+              let g = sound (f .leaving) q .out in
+              held-in-set (lowestOut (f .leaving)) (highestOut (f .leaving)) (leavingVerdict x) far′ (g .low-formed) (g .high-formed) (rw (over .stands) (over .gaps))
+              ∙ ap (setInRange (lowestOut (f .leaving)) (highestOut (f .leaving)) (leavingLevel x)) (over .stands)
 
-          held-of : (b : Bool) → setInRange (f .leaving .lowest) (f .leaving .highest) (leavingLevel x) runs ≡ b → h ≡ cond b (leavingVerdict x) (stopped 17 3 9 0)
+          held-of : (b : Bool) → setInRange (lowestOut (f .leaving)) (highestOut (f .leaving)) (leavingLevel x) runs ≡ b → h ≡ cond b (leavingVerdict x) (stopped 17 3 9 0)
           unfolding heldBy
           held-of b g =
               s .held
-              ∙ ap (λ (w : Verdict). cond (eqb (w .number) 0) (cond (heldBetween (f .leaving .lowest) (f .leaving .highest) w far′) w (stopped 17 3 9 0)) w) crossed
+              ∙ ap (λ (w : Verdict). cond (eqb (w .number) 0) (cond (heldBetween (lowestOut (f .leaving)) (highestOut (f .leaving)) w far′) w (stopped 17 3 9 0)) w) crossed
               ∙ rw (held-is ∙ g)
 
-          by-range : setInRange (f .leaving .lowest) (f .leaving .highest) (leavingLevel x) runs ≡ false → Answers
+          by-range : setInRange (lowestOut (f .leaving)) (highestOut (f .leaving)) (leavingLevel x) runs ≡ false → Answers
           by-range g =
               last (barred 17 9) (fit-refused (barred 17 9) (held-of false g) (λ z. omega arith)) (λ z. omega arith) (forward-range f sized long t e (over .numbers) g)
 
-          module _ (g : setInRange (f .leaving .lowest) (f .leaving .highest) (leavingLevel x) runs ≡ true) where
+          module _ (g : setInRange (lowestOut (f .leaving)) (highestOut (f .leaving)) (leavingLevel x) runs ≡ true) where
             h-is : h ≡ leavingVerdict x
             h-is = held-of true g
 
             kept-is : kept ≡ length (keptOf (f .area))
             kept-is = s .counted ∙ ap (λ (w : Verdict). cond (eqb (w .number) 0) (length (keptOf (f .area))) 0) h-is
 
-            v-is : v ≡ cond (leb (length runs) 120 && hasRoomFor (lengthOf (keysSpelled (f .leaving .spellings) (f .leaving .domain) (leavingLevel x) (take (length runs) far′))) (length (keptOf (f .area)))) (leavingVerdict x) (stopped 18 3 9 0)
+            v-is : v ≡ cond (leb (length runs) 120 && (f .leaving .unlabelled || hasRoomFor (lengthOf (keysSpelled (f .leaving .spellings) (f .leaving .domain) (leavingLevel x) (take (length runs) far′))) (length (keptOf (f .area))))) (leavingVerdict x) (stopped 18 3 9 0)
             unfolding fittedBy
-            v-is = s .fits (f .leaving .domain) ∙ (λ i. fittedBy (f .leaving .spellings) (f .leaving .domain) (h-is i) (kept-is i) far′)
+            v-is = s .fits (f .leaving .domain) ∙ (λ i. fittedBy (f .leaving .unlabelled) (f .leaving .spellings) (f .leaving .domain) (h-is i) (kept-is i) far′)
 
             by-many : leb (length runs) 120 ≡ false → Answers
             by-many m =
                 last (barred 18 9) (v-is ∙ rw m) (λ z. omega arith) (forward-spelling f sized long t e (over .numbers) g (rw (lt-ltb 120 (length runs) (leb-false _ _ m))))
 
             module _ (few : length runs ≤ 120) where
-              spelled : keysSpelled (f .leaving .spellings) (f .leaving .domain) (leavingLevel x) (take (length runs) far′) ≡ leavingOption x
+              abbrev spelling : Option (List ℕ)
+              spelling = spellingOf (f .leaving .spellings) (f .leaving .domain) (leavingLevel x) runs
+
+              spelled : keysSpelled (f .leaving .spellings) (f .leaving .domain) (leavingLevel x) (take (length runs) far′) ≡ spelling
               spelled = keys-spelled (f .leaving .spellings) (f .leaving .domain) (leavingLevel x) (take (length runs) far′) runs (over .stands) few
 
+              -- there is room, by what is spelled; toward unlabelled hosts there always is
+              room-by : (b : Bool) → (b || hasRoomFor (lengthOf spelling) (length (keptOf (f .area)))) ≡ not (noRoom (cond b (some []) spelling) (keptOf (f .area)))
+              room-by true = sym (rw (le-ltb 40 (0 + length (keptOf (f .area))) (omega (arith, kept-fits (f .area) sized))))
+              room-by false = room-is (f .leaving .spellings) (f .leaving .domain) (leavingLevel x) runs (keptOf (f .area))
+
+              -- the option at the front of the output
+              put-by : (b : Bool)
+                  → (putCount b (f .leaving .spellings) (f .leaving .domain) (leavingLevel x) (take (length runs) far′) (length out) ≡ lengthOf (cond b (some []) spelling))
+                  × (putFront b (f .leaving .spellings) (f .leaving .domain) (leavingLevel x) (take (length runs) far′) out ≡ inFront (cond b (some []) spelling) out)
+              put-by true = (refl, refl)
+              put-by false = keys-put (f .leaving .spellings) (f .leaving .domain) (leavingLevel x) (take (length runs) far′) runs out (over .stands) few (omega (arith, s .room))
+
               v-of : v ≡ cond (not (noRoom (leavingOption x) (keptOf (f .area)))) (leavingVerdict x) (stopped 18 3 9 0)
-              v-of = v-is ∙ rw (le-leb (length runs) 120 few, spelled, room-is (f .leaving .spellings) (f .leaving .domain) (leavingLevel x) runs (keptOf (f .area)))
+              v-of = v-is ∙ rw (le-leb (length runs) 120 few, spelled, room-by (f .leaving .unlabelled))
 
               by-spelling : noRoom (leavingOption x) (keptOf (f .area)) ≡ true → Answers
               by-spelling n =
@@ -328,11 +343,11 @@ module _ (f : Forwarding) (own own′ far far′ out out′ : List ℕ) (a r u c
                   let e-v : v ≡ leavingVerdict x = v-of ∙ rw n in
                   let z : v .number ≡ 0 = ap (λ (w : Verdict). w .number) e-v in
                   let l : labelFrom (f .leaving .domain) (leavingLevel x) (keyRuns (take (length runs) far′)) ≡ leavingLabel x = label-is in
-                  let u = keys-put (f .leaving .spellings) (f .leaving .domain) (leavingLevel x) (take (length runs) far′) runs out (over .stands) few (omega (arith, s .room)) in
+                  let u = put-by (f .leaving .unlabelled) in
                   let w =
                   forward-written f (leavingLabel x) _ kept count out _ out′ (s .room) (forward-none f sized long t e (over .numbers) g (rw (le-ltb 120 (length runs) few, n))) refl (u .0) (u .1) kept-is
-                  (s .writes .counted z ∙ ap (λ (b : Verdict). restCount (keysCount (f .leaving .spellings) (f .leaving .domain) (b .level) (take (b .count) far′) (length out)) kept (keptOf (f .area)) (length (keysWritten (f .leaving .spellings) (f .leaving .domain) (b .level) (take (b .count) far′) out))) e-v)
-                  (s .writes .written z ∙ ap (λ (b : Verdict). restOf (keysCount (f .leaving .spellings) (f .leaving .domain) (b .level) (take (b .count) far′) (length out)) kept (keptOf (f .area)) (keysWritten (f .leaving .spellings) (f .leaving .domain) (b .level) (take (b .count) far′) out)) e-v) in (
+                  (s .writes .counted z ∙ ap (λ (b : Verdict). restCount (putCount (f .leaving .unlabelled) (f .leaving .spellings) (f .leaving .domain) (b .level) (take (b .count) far′) (length out)) kept (keptOf (f .area)) (length (putFront (f .leaving .unlabelled) (f .leaving .spellings) (f .leaving .domain) (b .level) (take (b .count) far′) out))) e-v)
+                  (s .writes .written z ∙ ap (λ (b : Verdict). restOf (putCount (f .leaving .unlabelled) (f .leaving .spellings) (f .leaving .domain) (b .level) (take (b .count) far′) (length out)) kept (keptOf (f .area)) (putFront (f .leaving .unlabelled) (f .leaving .spellings) (f .leaving .domain) (b .level) (take (b .count) far′) out)) e-v) in (
                     ap (λ (b : Verdict). concluded b (f .leaving .domain) (silenced (f .facts)) count far′) e-v
                         ∙ concluded-done (leavingLevel x) (length runs) (f .leaving .domain) count (silenced (f .facts)) far′
                         ∙ ap (λ (b : Label). done b count) l
@@ -351,12 +366,12 @@ module _ (f : Forwarding) (own own′ far far′ out out′ : List ℕ) (a r u c
             by-runs true m = by-room-left (leb-true _ _ m) (noRoom (leavingOption x) (keptOf (f .area))) refl
             by-runs false m = by-many m
 
-          by-set : (b : Bool) → setInRange (f .leaving .lowest) (f .leaving .highest) (leavingLevel x) runs ≡ b → Answers
+          by-set : (b : Bool) → setInRange (lowestOut (f .leaving)) (highestOut (f .leaving)) (leavingLevel x) runs ≡ b → Answers
           by-set true g = by-runs g (leb (length runs) 120) refl
           by-set false g = by-range g
 
           passed-over : Answers
-          passed-over = by-set (setInRange (f .leaving .lowest) (f .leaving .highest) (leavingLevel x) runs) refl
+          passed-over = by-set (setInRange (lowestOut (f .leaving)) (highestOut (f .leaving)) (leavingLevel x) runs) refl
 
         -- what arrived, past 14
         module _ (e : firstOf (reachChecks f) ≡ none) where

@@ -1,7 +1,7 @@
 -- Document 01, "The order of checks, and each number": the checks of a forwarding, 1, 2 and 16 to 18. Document 02, Wish 3: 21 at the leaving port.
 use mathlib.Core.Bool.{Bool, true, false, cond, not, _&&_, _||_}
-use mathlib.Core.List.{List}
-use mathlib.Core.Option.{Option}
+use mathlib.Core.List.{List, []}
+use mathlib.Core.Option.{Option, some}
 use Prim.Native.Nat.{ℕ, _+_}
 use lib.Dec.{ltb, eqb}
 use lib.ListN.{length, take}
@@ -12,7 +12,7 @@ use Rattle.label.specs.Range.{setInRange}
 use Rattle.option.specs.Spelling.{spellingOf}
 use Rattle.spelling.specs.Spelling.{lacking, lengthOf}
 use Rattle.port.specs.declared.Port.{Port}
-use Rattle.port.specs.Port.{portSound}
+use Rattle.port.specs.Port.{portSound, lowestOut, highestOut}
 use Rattle.arrival.specs.declared.Facts.{Facts}
 use Rattle.table.specs.declared.Table.{Table}
 use Rattle.table.specs.declared.Partner.{Partner}
@@ -91,18 +91,20 @@ leavingLevel x = cond (stays x) (x .label .level) (levelOr0 (partner x))
 unfoldable pub leavingRuns : Crossing → List Run
 leavingRuns x = cond (stays x) (used (x .label)) (imageRuns (x .label) (x .table))
 
--- 17: outside the leaving port's range, the whole set, however many runs it has
+-- 17: outside the leaving port's range, the whole set, however many runs it has; toward unlabelled hosts not the default label, which is then the
+-- range (document 02, Wish 6)
 unfoldable pub leavingCheck : Crossing → Option Refusal
 leavingCheck x =
-    when (not (setInRange (x .leaving .lowest) (x .leaving .highest) (leavingLevel x) (leavingRuns x))) (barred 17 9)
+    when (not (setInRange (lowestOut (x .leaving)) (highestOut (x .leaving)) (leavingLevel x) (leavingRuns x))) (barred 17 9)
 
 -- the label with which the datagram leaves, where a label holds it
 abbrev pub leavingLabel : Crossing → Label
 leavingLabel x = labelOf (x .leaving .domain) (leavingLevel x) (leavingRuns x)
 
--- the option in its one spelling, among those that the leaving port permits (document 02, Wish 5)
+-- the octets of the option in its one spelling, among those that the leaving port permits (document 02, Wish 5); none toward unlabelled hosts
 abbrev pub leavingOption : Crossing → Option (List ℕ)
-leavingOption x = spellingOf (x .leaving .spellings) (x .leaving .domain) (leavingLevel x) (leavingRuns x)
+leavingOption x =
+    cond (x .leaving .unlabelled) (some []) (spellingOf (x .leaving .spellings) (x .leaving .domain) (leavingLevel x) (leavingRuns x))
 
 -- no permitted option means the label, or the options exceed 40 octets
 abbrev pub noRoom : Option (List ℕ) → List ℕ → Bool

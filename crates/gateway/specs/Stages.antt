@@ -72,14 +72,25 @@ heldBy r lowest highest keys = cond (eqb (r .number) 0) (cond (heldBetween lowes
 abbrev pub hasRoomFor : ℕ → ℕ → Bool
 hasRoomFor size kept = not (eqb size 0) && leb (size + kept) 40
 
--- 18, with the permitted spellings, in a domain
-unfoldable pub fittedBy : Spellings → ℕ → Verdict → ℕ → List ℕ → Verdict
-fittedBy p d r kept keys =
+-- 18, with the permitted spellings, in a domain; toward unlabelled hosts nothing is spelled
+unfoldable pub fittedBy : Bool → Spellings → ℕ → Verdict → ℕ → List ℕ → Verdict
+fittedBy unlabelled p d r kept keys =
     cond (eqb (r .number) 0)
-    (cond (leb (r .count) 120 && hasRoomFor (lengthOf (keysSpelled p d (r .level) (take (r .count) keys))) kept) r (stopped 18 3 9 0)) r
+    (cond (leb (r .count) 120 && (unlabelled || hasRoomFor (lengthOf (keysSpelled p d (r .level) (take (r .count) keys))) kept)) r (stopped 18 3 9 0)) r
+
+-- the option at the front of the output: how many octets it has, and the output then
+abbrev pub putCount : Bool → Spellings → ℕ → ℕ → List ℕ → ℕ → ℕ
+putCount unlabelled p d v ks n = cond unlabelled 0 (keysCount p d v ks n)
+
+abbrev pub putFront : Bool → Spellings → ℕ → ℕ → List ℕ → List ℕ → List ℕ
+putFront unlabelled p d v ks out = cond unlabelled out (keysWritten p d v ks out)
 
 -- the leaving area, of a forwarding
-pub record Writes (r : Verdict) (domain : ℕ) (p : Spellings) (kept : ℕ) (area keys out out′ : List ℕ) (n : ℕ) : Type 0 where
+pub record Writes (r : Verdict) (unlabelled : Bool) (domain : ℕ) (p : Spellings) (kept : ℕ) (area keys out out′ : List ℕ) (n : ℕ) : Type 0 where
   pub nothing : (r .number ≡ 0 → ⊥) → out′ ≡ out
-  pub counted : r .number ≡ 0 → n ≡ restCount (keysCount p domain (r .level) (take (r .count) keys) (length out)) kept (keptOf area) (length (keysWritten p domain (r .level) (take (r .count) keys) out))
-  pub written : r .number ≡ 0 → out′ ≡ restOf (keysCount p domain (r .level) (take (r .count) keys) (length out)) kept (keptOf area) (keysWritten p domain (r .level) (take (r .count) keys) out)
+  pub counted : r .number ≡ 0
+      → n ≡ restCount (putCount unlabelled p domain (r .level) (take (r .count) keys) (length out)) kept (keptOf area)
+      (length (putFront unlabelled p domain (r .level) (take (r .count) keys) out))
+  pub written : r .number ≡ 0
+      → out′ ≡ restOf (putCount unlabelled p domain (r .level) (take (r .count) keys) (length out)) kept (keptOf area)
+      (putFront unlabelled p domain (r .level) (take (r .count) keys) out)

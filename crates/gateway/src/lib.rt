@@ -37,7 +37,7 @@ ghost use mathlib.Core.Option.{some};
 ghost use Rattle.area.specs.Area.{walkOf, octetsAt};
 ghost use Rattle.arrival.specs.Checks.{barred, basicIn};
 ghost use Rattle.arrival.specs.Stages.{beforeRange, basicRead};
-ghost use Rattle.gateway.specs.Stages.{forwardingOf, recordedBy, sentBy, tabledBy, numberedBy, Crosses, heldBy, hasRoomFor, fittedBy, Writes};
+ghost use Rattle.gateway.specs.Stages.{forwardingOf, recordedBy, sentBy, tabledBy, numberedBy, Crosses, heldBy, hasRoomFor, fittedBy, putCount, putFront, Writes};
 
 // Decides whether a datagram is forwarded from the arriving to the leaving port, and writes its leaving area.
 pub fn forward(
@@ -74,11 +74,19 @@ pub fn forward(
         &own,
         &mut far,
     );
-    let held = hold_leaving(crossed, leaving.lowest, leaving.highest, &far);
+    let held = hold_leaving(
+        crossed,
+        leaving.unlabelled,
+        leaving.default,
+        leaving.lowest,
+        leaving.highest,
+        &far,
+    );
     let kept = kept_by(held, area);
-    let verdict = fit(held, leaving.spellings, kept, &far);
+    let verdict = fit(held, leaving.unlabelled, leaving.spellings, kept, &far);
     let count = write_area(
         verdict,
+        leaving.unlabelled,
         leaving.domain,
         leaving.spellings,
         kept,
@@ -195,8 +203,25 @@ fn number_over(carried: Carried, from: bool, to: bool) -> Verdict
     go_on(carried.level, carried.count)
 }
 
+// Check 17: toward unlabelled hosts the range is the default label alone.
+fn hold_leaving(
+    crossed: Verdict,
+    unlabelled: bool,
+    default: Label,
+    lowest: Label,
+    highest: Label,
+    keys: &[u32],
+) -> Verdict
+    ensures { λ r. ⌜ r ≡ heldBy crossed (cond unlabelled default lowest) (cond unlabelled default highest) (now (keys .entry)) ⌝ }
+{
+    if unlabelled {
+        return hold_between(crossed, default, default, keys);
+    }
+    hold_between(crossed, lowest, highest, keys)
+}
+
 // Check 17, of the whole set: a first look at the range, and a pass where it leaves the answer open.
-fn hold_leaving(crossed: Verdict, lowest: Label, highest: Label, keys: &[u32]) -> Verdict
+fn hold_between(crossed: Verdict, lowest: Label, highest: Label, keys: &[u32]) -> Verdict
     ensures { λ r. ⌜ r ≡ heldBy crossed lowest highest (now (keys .entry)) ⌝ }
 {
     if crossed.number != 0 {
@@ -224,10 +249,11 @@ fn kept_by(held: Verdict, area: &[u8]) -> usize
     count_kept(area)
 }
 
-// Check 18: a label holds the set, it has a spelling among the permitted ones, and the options have room.
-fn fit(held: Verdict, permitted: Spellings, kept: usize, keys: &[u32]) -> Verdict
+// Check 18: a label holds the set, it has a spelling among the permitted ones, and the options have room. Toward unlabelled hosts the label is the
+// default label, nothing is spelled, and the kept options have room.
+fn fit(held: Verdict, unlabelled: bool, permitted: Spellings, kept: usize, keys: &[u32]) -> Verdict
     requires { ⌜ 120 ≤ length (now keys) ⌝ }
-    ensures { λ r. ⌜ ((d : ℕ) → r ≡ fittedBy permitted d held kept (now (keys .entry))) ⌝ }
+    ensures { λ r. ⌜ ((d : ℕ) → r ≡ fittedBy unlabelled permitted d held kept (now (keys .entry))) ⌝ }
     ensures { λ r. ⌜ (r .number ≡ 0 → r .count ≤ 120) ⌝ }
 {
     if held.number != 0 {
@@ -236,6 +262,9 @@ fn fit(held: Verdict, permitted: Spellings, kept: usize, keys: &[u32]) -> Verdic
     let n = held.count;
     if Label::MAX_RUNS < n {
         return stop(18, 3, 9, 0);
+    }
+    if unlabelled {
+        return held;
     }
     let size = keys_length(&keys[..n], permitted);
     if !has_room(size, kept) {
@@ -260,6 +289,7 @@ fn has_room(size: usize, kept: usize) -> bool
 // Writes the leaving area of a forwarding, and answers its count; a refusal writes nothing.
 fn write_area(
     verdict: Verdict,
+    unlabelled: bool,
     domain: u32,
     permitted: Spellings,
     kept: usize,
@@ -268,13 +298,39 @@ fn write_area(
     out: &mut [u8],
 ) -> usize
     requires { ⌜ (verdict .number ≡ 0 → verdict .count ≤ length (now keys)) ⌝ }
-    ensures { λ r. ⌜ Writes verdict domain permitted kept (now (area .entry)) (now (keys .entry)) (now (out .entry)) (now (out .exit)) r ⌝ }
+    ensures { λ r. ⌜ Writes verdict unlabelled domain permitted kept (now (area .entry)) (now (keys .entry)) (now (out .entry)) (now (out .exit)) r ⌝ }
 {
     if verdict.number != 0 {
         return 0;
     }
     let n = verdict.count;
-    let size = write_keys(&keys[..n], permitted, domain, verdict.level, &mut out[..]);
+    let level = verdict.level;
+    let size = put_option(
+        unlabelled,
+        &keys[..n],
+        permitted,
+        domain,
+        level,
+        &mut out[..],
+    );
     let count = write_rest(area, size, kept, &mut out[..]);
     count
+}
+
+// Writes the option to the front of the output and returns its length; nothing toward unlabelled hosts.
+fn put_option(
+    unlabelled: bool,
+    keys: &[u32],
+    permitted: Spellings,
+    domain: u32,
+    level: u8,
+    out: &mut [u8],
+) -> usize
+    ensures { λ r. ⌜ r ≡ putCount unlabelled permitted domain level (now (keys .entry)) (length (now (out .entry))) ⌝ }
+    ensures { λ _. ⌜ now (out .exit) ≡ putFront unlabelled permitted domain level (now (keys .entry)) (now (out .entry)) ⌝ }
+{
+    if unlabelled {
+        return 0;
+    }
+    write_keys(keys, permitted, domain, level, out)
 }

@@ -126,7 +126,7 @@ pub record Again (on : Bool) (ks : List ℕ) (c : Option (List ℕ)) : Type 0 wh
   pub kept : (area : List ℕ) (z at : ℕ) → drop at area ≡ ks ++ replicate z 0 → keptFrom area at ≡ ks
   pub found : (area : List ℕ) (z at : ℕ) → drop at area ≡ ks ++ replicate z 0 → basicFrom area at ≡ c
 
-free-nowhere : (c : Option (List ℕ)) → Free c Nowhere
+pub free-nowhere : (c : Option (List ℕ)) → Free c Nowhere
 free-nowhere none = tt
 free-nowhere (some o) = refl
 

@@ -14,13 +14,13 @@ use Rattle.area.specs.declared.Kind.{Kind}
 use Rattle.area.specs.declared.Kind.the-variants.{End, NoOperation, Basic, Extended, Cipso, Other}
 use Rattle.area.specs.declared.Size.{Size}
 use Rattle.area.specs.declared.Size.the-variants.{Whole, Bad}
-use Rattle.area.specs.Area.{kindOf, sizeOf, spanOf, frontOf, metFrom}
+use Rattle.area.specs.Area.{kindOf, sizeOf, spanOf, frontOf, metFrom, metOf}
 use Rattle.lists.specs.Lists.{paint, copied}
 use Rattle.lists.proofs.Laws.{tail-is, copied-whole, Back, back-written, back-zeroed, paint-two, paint-none, paint-length}
 use Rattle.area.proofs.Laws.{span-on, behind, met-turn, met-end}
 use Rattle.leaving.specs.declared.Next.{Next}
 use Rattle.leaving.specs.declared.Next.the-variants.{Stop, Over}
-use Rattle.leaving.specs.Kept.{keptLen, keptAmong, roundUp, leavingOf, hasRoom, restCount, restOf}
+use Rattle.leaving.specs.Kept.{keptLen, keptAmong, keptOf, roundUp, leavingOf, hasRoom, restCount, restOf}
 use Rattle.leaving.specs.Stages.{overOf, nextOf}
 
 kept-short : (k : Kind) (n : ℕ) → keptLen k n ≤ n
@@ -92,6 +92,22 @@ pub kept-end : (area : List ℕ) (at : ℕ) → length area ≤ at → keptFrom 
 kept-end area at h = ap (keptAmong area) (met-end area at h)
 
 -- of a list that starts with the first m of `rest`, the first `left`: those of the first m, and then of what follows
+-- no more is kept than there is
+pub kept-most : (area : List ℕ) → length (keptOf area) ≤ length area
+unfolding keptOf metOf
+kept-most area = omega (arith, go (length area) 0 (omega arith) (omega arith))
+  where
+    go : (k at : ℕ) → at ≤ length area → length area ≤ at + k → length (keptFrom area at) + at ≤ length area
+    go zero at h l = omega (arith, ap length (kept-end area at (omega arith)))
+    go (suc k) at h l = elim (decLe (suc at) (length area)) [ yes t ↦ by t (nextOf (take (length area - at) (drop at area))) refl (go k) | no t ↦ omega (arith, ap length (kept-end area at (omega arith))) ]
+      where
+        by : at < length area → (u : Next) → u ≡ nextOf (take (length area - at) (drop at area))
+            → ((at : ℕ) → at ≤ length area → length area ≤ at + k → length (keptFrom area at) + at ≤ length area) → length (keptFrom area at) + at ≤ length area
+        by t Stop e ih = omega (arith, ap length (kept-stop area at Stop t e refl))
+        by t (Over n m) e ih =
+            let q = over-moves area at (Over n m) t e n m refl in
+            omega (arith, q, over-count area at (Over n m) t e n m refl, ih (at + n) (q .1) (omega (arith, q)))
+
 pub take-both : (m left k : ℕ) (rest ks : List ℕ) → k ≡ min m left → m ≤ length rest
     → take left (take m rest ++ ks) ≡ take k rest ++ take (left - k) ks
 take-both m left k rest ks e h = elim (decLe m left) [

@@ -1,9 +1,9 @@
 -- Document 01, "Records": what makes a port and a host's range sound.
-use mathlib.Core.Bool.{Bool, cond, not, _&&_}
+use mathlib.Core.Bool.{Bool, false, cond, not, _&&_}
 use Prim.Native.Nat.{ℕ}
 use lib.Dec.{eqb}
 use Rattle.label.specs.declared.Label.{Label}
-use Rattle.label.specs.Label.{leq, inRange, isZero}
+use Rattle.label.specs.Label.{leq, inRange, isZero, zeroLabel}
 use Rattle.basic.specs.Settings.{basicOff, isOff, basicSound}
 use Rattle.option.specs.Permitted.{usual, isUsual, someOf}
 use Rattle.port.specs.declared.Port.{Port}
@@ -20,11 +20,13 @@ plainPort domain lowest highest required assigned =
       assigned = assigned;
       basic = basicOff;
       spellings = usual;
+      unlabelled = false;
+      default = zeroLabel;
     }
 
 -- document 01's record says it: every later field has the value that `plainPort` gives
 unfoldable pub isPlain : Port → Bool
-isPlain p = isOff (p .basic) && isUsual (p .spellings)
+isPlain p = isOff (p .basic) && (isUsual (p .spellings) && (not (p .unlabelled) && isZero (p .default)))
 
 -- both labels are well formed and of the domain, and lowest ≤ highest
 unfoldable pub rangeSound : Label → Label → ℕ → Bool
@@ -35,12 +37,27 @@ rangeSound lowest highest domain =
 unfoldable pub assignedSound : Port → Bool
 assignedSound p = cond (p .required) (isZero (p .assigned)) (inRange (p .lowest) (p .highest) (p .assigned))
 
--- a nonzero domain, a sound range in it, a sound assigned label; sound settings of option 130; at least one permitted spelling
+-- document 02, Wish 6: the default label of a port that faces unlabelled hosts lies in its range; on others it is all zero
+abbrev pub defaultLies : Bool → Label → Label → Label → Bool
+defaultLies unlabelled lowest highest l = cond unlabelled (inRange lowest highest l) (isZero l)
+
+unfoldable pub defaultSound : Port → Bool
+defaultSound p = defaultLies (p .unlabelled) (p .lowest) (p .highest) (p .default)
+
+-- a nonzero domain, a sound range in it, a sound assigned label; sound settings of option 130; at least one permitted spelling; a sound default
+-- label
 unfoldable pub portSound : Port → Bool
 portSound p =
     not (eqb (p .domain) 0)
-    && (rangeSound (p .lowest) (p .highest) (p .domain) && (assignedSound p && (basicSound (p .basic) && someOf (p .spellings))))
+    && (rangeSound (p .lowest) (p .highest) (p .domain) && (assignedSound p && (basicSound (p .basic) && (someOf (p .spellings) && defaultSound p))))
 
 -- the host's range, in the port's domain. House: that the port's range lies inside the host's is not tested
 unfoldable pub hostSound : Host → ℕ → Bool
 hostSound h domain = rangeSound (h .lowest) (h .highest) domain
+
+-- Toward unlabelled hosts the range of what may leave is the default label alone; toward others it is the port's.
+abbrev pub lowestOut : Port → Label
+lowestOut p = cond (p .unlabelled) (p .default) (p .lowest)
+
+abbrev pub highestOut : Port → Label
+highestOut p = cond (p .unlabelled) (p .default) (p .highest)

@@ -2,7 +2,7 @@
 ghost use mathlib.Core.Path.{_≡_};
 ghost use mathlib.Core.Bool.{true};
 ghost use Rattle.label.specs.Label.{wellFormed, inRange};
-ghost use Rattle.port.specs.Port.{plainPort, isPlain, portSound, hostSound, rangeSound};
+ghost use Rattle.port.specs.Port.{plainPort, isPlain, portSound, hostSound, rangeSound, defaultLies};
 use basic::Basic;
 use basic::basic_sound;
 use label::Label;
@@ -18,6 +18,9 @@ pub struct Port {
     pub basic: Basic,
     // which spellings the far side can read (Wish 5)
     pub spellings: Spellings,
+    // whether it faces unlabelled hosts, and the label that all of them have (Wish 6)
+    pub unlabelled: bool,
+    pub default: Label,
 }
 
 pub struct Host {
@@ -44,6 +47,8 @@ impl Port {
             assigned: assigned,
             basic: Basic::off(),
             spellings: Spellings::usual(),
+            unlabelled: false,
+            default: Label::empty(0, 0),
         }
     }
 
@@ -53,6 +58,13 @@ impl Port {
     {
         let spellings = self.spellings;
         if !spellings.is_usual() {
+            return false;
+        }
+        if self.unlabelled {
+            return false;
+        }
+        let default = self.default;
+        if !default.is_zero() {
             return false;
         }
         let basic = self.basic;
@@ -79,12 +91,28 @@ pub fn port_sound(port: Port) -> bool
     if !basic_sound(port.basic) {
         return false;
     }
+    if !default_sound(port.unlabelled, port.default, lowest, highest) {
+        return false;
+    }
     let assigned = port.assigned;
     if port.required {
         let zero = assigned.is_zero();
         return zero;
     }
-    assigned_within(assigned, lowest, highest)
+    lies_within(assigned, lowest, highest)
+}
+
+// Whether the default label lies in the range where the port faces unlabelled hosts, and is all zero where it does not.
+fn default_sound(unlabelled: bool, label: Label, lowest: Label, highest: Label) -> bool
+    requires { ⌜ wellFormed lowest ≡ true ⌝ }
+    requires { ⌜ wellFormed highest ≡ true ⌝ }
+    ensures { λ r. ⌜ r ≡ defaultLies unlabelled lowest highest label ⌝ }
+{
+    if unlabelled {
+        return lies_within(label, lowest, highest);
+    }
+    let zero = label.is_zero();
+    zero
 }
 
 // Whether the host's range is sound, for a port of the domain.
@@ -115,17 +143,17 @@ fn range_sound(lowest: Label, highest: Label, domain: u32) -> bool
     lowest.at_most(highest)
 }
 
-// Whether the assigned label lies in the range of two labels that are well formed: its own form is looked at once.
-fn assigned_within(assigned: Label, lowest: Label, highest: Label) -> bool
+// Whether the label lies in the range of two labels that are well formed: its own form is looked at once.
+fn lies_within(label: Label, lowest: Label, highest: Label) -> bool
     requires { ⌜ wellFormed lowest ≡ true ⌝ }
     requires { ⌜ wellFormed highest ≡ true ⌝ }
-    ensures { λ r. ⌜ r ≡ inRange lowest highest assigned ⌝ }
+    ensures { λ r. ⌜ r ≡ inRange lowest highest label ⌝ }
 {
-    if !assigned.well_formed() {
+    if !label.well_formed() {
         return false;
     }
-    if !lowest.at_most(assigned) {
+    if !lowest.at_most(label) {
         return false;
     }
-    assigned.at_most(highest)
+    label.at_most(highest)
 }

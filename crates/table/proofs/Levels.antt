@@ -1,9 +1,9 @@
 -- Laws of level pairs: one more pair, as a loop meets it.
 use mathlib.Core.Path.{_≡_}
-use mathlib.Core.List.{List, [], _∷_}
-use Prim.Native.Nat.{ℕ, _+_, _≤_, _<_}
+use mathlib.Core.List.{List, _∷_}
+use Prim.Native.Nat.{ℕ, _+_, _<_}
 use native.Mathlib.Omega.{arith}
-use lib.ListN.{length, getD, take, drop, length-take, drop-of-length-le}
+use lib.ListN.{length, getD, take, drop, length-take}
 use lib.Seq.{getD-take}
 use Rattle.label.proofs.Steps.{next}
 
@@ -12,7 +12,3 @@ pub next-there : {A : Type 0} (d : A) (l : List A) (n i : ℕ) → i < n → i <
 next-there d l n i h k =
     let m : i < length (take n l) = simp length-take (omega arith) in
     rw (next d (take n l) i m, getD-take n l i d h)
-
--- past the last that is there
-pub none-there : {A : Type 0} (l : List A) (n i : ℕ) → length l ≤ i → drop i (take n l) ≡ []
-none-there l n i h = drop-of-length-le (take n l) {i = i} (simp length-take (omega arith))

@@ -2,13 +2,14 @@
 use mathlib.Core.Path.{_≡_, refl, sym, _∙_, ap}
 use mathlib.Core.Bool.{Bool, true, false, true≢false, not, _&&_, and-false}
 use mathlib.Core.List.{List, [], _∷_, _++_, append-assoc}
-use Prim.Native.Nat.{ℕ, zero, suc, _+_, _-_, _*_, _%_, _≤_, _<_}
+use Prim.Native.Nat.{ℕ, zero, suc, _+_, _-_, _*_, _/_, _%_, _≤_, _<_}
 use native.Mathlib.Omega.{arith}
+use native.Mathlib.Decide.{decLe}
 use native.Mathlib.Numerals.{add-one}
 use lib.Bits.{bitOr, or-add-and, and-le-l, and-le-r}
 use lib.Dec.{leb, ltb, eqb}
 use lib.ListN.{length, take, drop, getD, set, replicate, length-drop, length-map, replicate-append-replicate, List·getD-map}
-use lib.Seq.{take-suc, set-at, take-at, drop-at, length-take-le, getD-take}
+use lib.Seq.{take-suc, set-at, take-at, drop-at, length-take-le, getD-take, getD-set-same, getD-set-other}
 use borrow.Author.Tests.{le-leb, leb-true, ltb-true, lt-ltb, eqb-true, eq-eqb}
 use Rattle.label.proofs.Bools.{and-left, and-right, same-yes, and-both}
 use Rattle.label.proofs.Steps.{next}
@@ -17,9 +18,9 @@ use Rattle.order.proofs.Laws.{sort-length}
 use Rattle.order.proofs.Merge.{put}
 use Rattle.table.specs.declared.Row.{Row}
 use Rattle.table.specs.declared.Table.{Table}
-use Rattle.table.specs.Table.{noRow, usedRows, rising, rowsSound, levelsSound, typed, tableSound}
+use Rattle.table.specs.Table.{noRow, usedRows, targetEnd, rising, unusedRows, rowsSound, levelsSound, typed, tableSound}
 use Rattle.table.specs.Order.{orderKeys, rowOrder, orderOf, rowAt, inOrder}
-use Rattle.table.specs.Stages.{fieldsSound, RowsRise}
+use Rattle.table.specs.Stages.{fieldsSound, orRow, RowsRise}
 use Rattle.table.proofs.Rows.{good, order-all}
 
 -- Zeros written one by one.
@@ -31,8 +32,13 @@ drop-zeros zero m = let e : 0 + m ≡ m = omega arith in rw e
 drop-zeros (suc n) m = let e : suc n + m ≡ suc (n + m) = omega arith in rw e (drop-zeros n m)
 
 -- A refusal writes nothing that is told.
-pub refused : {rs : List Row} {was order : List ℕ} → false ≡ rising 0 rs → RowsRise rs was false false order
-refused e = record { rise = e; ordered = λ w. absurd (true≢false (sym w)); written = λ w. absurd (true≢false (sym w)) }
+pub refused : {t : Table} {order ends : List ℕ} → rising 0 (usedRows t) ≡ false → RowsRise t false false order ends
+refused e = record {
+  rise = rw e;
+  ordered = λ w. absurd (true≢false (sym w));
+  written = λ w. absurd (true≢false (sym w));
+  after = λ w. absurd (true≢false (sym w));
+}
 
 -- One row more is written down.
 pub keys-length : (i : ℕ) (rs : List Row) → length (orderKeys i rs) ≡ length rs
@@ -56,10 +62,28 @@ order-step rs was i h l =
     (set-at (orderKeys 0 (take i rs)) (getD was i 0) (drop (i + 1) was) k i m
     ∙ sym (rw (add-one i, take-suc rs i noRow h, keys-snoc 0 (take i rs) (getD rs i noRow), z) (append-assoc (orderKeys 0 (take i rs)) (k ∷ []) (drop (suc i) was))))
 
--- A turn along the order: the row that is read is there and has an order, and it is the next.
+-- The tests of one row, and the rest.
+pub rise-parts : (f : ℕ) (r : Row) (rs : List Row)
+    → rising f (r ∷ rs) ≡ ((leb f (r .low) && (leb (r .low) (r .high) && (leb (r .high) 65534 && leb (targetEnd r) 65534))) && rising (r .high + 1) rs)
+rise-parts f r rs = go (leb f (r .low)) (leb (r .low) (r .high)) (leb (r .high) 65534) (leb (targetEnd r) 65534) (rising (r .high + 1) rs)
+  where
+    go : (a b c d e : Bool) → (a && (b && (c && (d && e)))) ≡ ((a && (b && (c && d))) && e)
+    go false b c d e = refl
+    go true false c d e = refl
+    go true true false d e = refl
+    go true true true d e = refl
+
+-- The number after one row's targets more.
+pub ends-step : (rows : List Row) (ends : List ℕ) (i x : ℕ) → i < length ends → x ≡ targetEnd (getD rows i noRow) + 1
+    → ((j : ℕ) → j < i → getD ends j 0 ≡ targetEnd (getD rows j noRow) + 1)
+    → (j : ℕ) → j < i + 1 → getD (set ends i x) j 0 ≡ targetEnd (getD rows j noRow) + 1
+ends-step rows ends i x h e f j k = elim (decLe (j + 1) i) [ yes u ↦ getD-set-other ends i j x 0 (λ q. let z : j ≡ i = q in omega arith) ∙ f j (omega arith) | no u ↦ (let q : j ≡ i = omega arith in rw q (getD-set-same ends i x 0 h ∙ e)) ]
+
+-- A turn along the order: the row that is read is there, has an order and the number's target, and it is the next.
 pub record Turn (rs : List Row) (i k : ℕ) : Type 0 where
   pub place : k % 65536 < length rs
   pub ordered : rowAt rs k .low ≤ rowAt rs k .high
+  pub goal : rowAt rs k .target ≡ k / 65536
   pub next : drop i (inOrder rs) ≡ rowAt rs k ∷ drop (i + 1) (inOrder rs)
 
 row-ordered : (f : ℕ) (rs : List Row) (j : ℕ) (r : Row) (ts : List Row) → rising f rs ≡ true → drop j rs ≡ r ∷ ts → r .low ≤ r .high
@@ -79,20 +103,23 @@ order-length rs = sort-length [] (orderKeys 0 rs) ∙ omega (arith, keys-length 
 pub order-turn : (rs : List Row) (n : ℕ) (order : List ℕ) (i : ℕ) → length rs ≤ 65536 → rising 0 rs ≡ true → take n order ≡ rowOrder rs → n ≡ length rs → i < n
     → Turn rs i (getD order i 0)
 order-turn rs n order i h e w q l =
-    let t : ℕ → Row → Bool = λ k r. ltb (k % 65536) (length rs) && leb (r .low) (r .high) in
+    let t : ℕ → Row → Bool = λ k r. ltb (k % 65536) (length rs) && (leb (r .low) (r .high) && eqb (r .target) (k / 65536)) in
     let g : all (λ k. t k (rowAt rs k)) (rowOrder rs) ≡ true = order-all t rs h (λ j r ts b d.
     let s : length (drop j rs) ≡ suc (length ts) = ap length d in
     let m : j < length rs = omega (arith, length-drop j rs) in
-    and-both (lt-ltb ((r .target * 65536 + j) % 65536) (length rs) (omega arith)) (le-leb (r .low) (r .high) (row-ordered 0 rs j r ts e d))) in
+    and-both (lt-ltb ((r .target * 65536 + j) % 65536) (length rs) (omega arith))
+    (and-both (le-leb (r .low) (r .high) (row-ordered 0 rs j r ts e d)) (eq-eqb (r .target) ((r .target * 65536 + j) / 65536) (omega arith)))) in
     let k : ℕ = getD (rowOrder rs) i 0 in
     let same : getD order i 0 ≡ k = sym (getD-take n order i 0 l) ∙ ap (λ (z : List ℕ). getD z i 0) w in
     let long : i < length (rowOrder rs) = omega (arith, order-length rs) in
     let p : t k (rowAt rs k) ≡ true = all-at (λ k. t k (rowAt rs k)) (rowOrder rs) i g long in
+    let q2 = and-right (ltb (k % 65536) (length rs)) _ p in
     let there : i < length (inOrder rs) = rw length-map long in
     rw same
     (record {
       place = ltb-true _ _ (and-left (ltb (k % 65536) (length rs)) _ p);
-      ordered = leb-true _ _ (and-right (ltb (k % 65536) (length rs)) _ p);
+      ordered = leb-true _ _ (and-left (leb (rowAt rs k .low) (rowAt rs k .high)) _ q2);
+      goal = eqb-true _ _ (and-right (leb (rowAt rs k .low) (rowAt rs k .high)) _ q2);
       next = next (rowAt rs 0) (inOrder rs) i there ∙ ap (λ (z : Row). z ∷ drop (i + 1) (inOrder rs)) (List·getD-map (rowAt rs) (rowOrder rs) i 0);
     })
 
@@ -106,27 +133,67 @@ or-zero a b =
     let y : b ≡ 0 = eqb-true _ _ (and-right (eqb a 0) _ e) in
     eq-eqb (bitOr a b) 0 (omega (arith, or-add-and a b)))
 
-word-zero : (a b : ℕ) → eqb (a + b * 65536) 0 ≡ (eqb a 0 && eqb b 0)
-word-zero a b =
+pub or-row : (s : ℕ) (r : Row) (u : Bool)
+    → (eqb s 0 && (eqb (r .low) 0 && (eqb (r .high) 0 && (eqb (r .target) 0 && u)))) ≡ (eqb (orRow s r) 0 && u)
+or-row s r u = rw (or-zero (bitOr (bitOr s (r .low)) (r .high)) (r .target), or-zero (bitOr s (r .low)) (r .high), or-zero s (r .low)) (go (eqb s 0) (eqb (r .low) 0) (eqb (r .high) 0) (eqb (r .target) 0) u)
+  where
+    go : (a b c d e : Bool) → (a && (b && (c && (d && e)))) ≡ ((((a && b) && c) && d) && e)
+    go false b c d e = refl
+    go true false c d e = refl
+    go true true false d e = refl
+    go true true true false e = refl
+    go true true true true e = refl
+
+-- The next row of an array, in the word or still to come.
+pub unused-next : (rows : List Row) (s i k : ℕ) → k ≡ i + 1 → i < length rows
+    → (eqb s 0 && unusedRows (drop i rows)) ≡ (eqb (orRow s (getD rows i noRow)) 0 && unusedRows (drop k rows))
+unused-next rows s i k e h = rw (e, next noRow rows i h) (or-row s (getD rows i noRow) (unusedRows (drop (i + 1) rows)))
+
+-- The next two, in a word that is told.
+unused-two : (rows : List Row) (s w i j k : ℕ) → j ≡ i + 1 → k ≡ i + 2 → w ≡ orRow (orRow s (getD rows i noRow)) (getD rows j noRow) → k ≤ length rows
+    → (eqb s 0 && unusedRows (drop i rows)) ≡ (eqb w 0 && unusedRows (drop k rows))
+unused-two rows s w i j k e f q h =
+    unused-next rows s i j e (omega arith)
+    ∙ unused-next rows (orRow s (getD rows i noRow)) j k (omega arith) (omega arith)
+    ∙ ap (λ (x : ℕ). eqb x 0 && unusedRows (drop k rows)) (sym q)
+
+-- The next eight.
+module _ (rows : List Row) (s a b c d i : ℕ) where
+  pub unused-eight :
+      a ≡ orRow (orRow s (getD rows i noRow)) (getD rows (i + 1) noRow)
+      → b ≡ orRow (orRow a (getD rows (i + 2) noRow)) (getD rows (i + 3) noRow)
+      → c ≡ orRow (orRow b (getD rows (i + 4) noRow)) (getD rows (i + 5) noRow)
+      → d ≡ orRow (orRow c (getD rows (i + 6) noRow)) (getD rows (i + 7) noRow)
+      → i + 8 ≤ length rows
+      → (eqb s 0 && unusedRows (drop i rows)) ≡ (eqb d 0 && unusedRows (drop (i + 8) rows))
+  unused-eight e f g q h =
+      unused-two rows s a i (i + 1) (i + 2) refl refl e (omega arith)
+      ∙ unused-two rows a b (i + 2) (i + 3) (i + 4) (omega arith) (omega arith) f (omega arith)
+      ∙ unused-two rows b c (i + 4) (i + 5) (i + 6) (omega arith) (omega arith) g (omega arith)
+      ∙ unused-two rows c d (i + 6) (i + 7) (i + 8) (omega arith) (omega arith) q (omega arith)
+
+-- One pair more is unused.
+pair-zero : (a b : ℕ) → eqb (a + b * 256) 0 ≡ (eqb a 0 && eqb b 0)
+pair-zero a b =
     same-yes _ _
-    (λ e. let z : a + b * 65536 ≡ 0 = eqb-true _ _ e in and-both (eq-eqb a 0 (omega arith)) (eq-eqb b 0 (omega arith)))
+    (λ e. let z : a + b * 256 ≡ 0 = eqb-true _ _ e in and-both (eq-eqb a 0 (omega arith)) (eq-eqb b 0 (omega arith)))
     (λ e. let x : a ≡ 0 = eqb-true _ _ (and-left (eqb a 0) _ e) in
     let y : b ≡ 0 = eqb-true _ _ (and-right (eqb a 0) _ e) in
-    eq-eqb (a + b * 65536) 0 (omega arith))
+    eq-eqb (a + b * 256) 0 (omega arith))
 
-pub unused-step : (s t : ℕ) (r : Row) (u : Bool)
-    → (eqb s 0 && (eqb t 0 && (eqb (r .low) 0 && (eqb (r .high) 0 && (eqb (r .target) 0 && u)))))
-    ≡ (eqb (bitOr s (r .low + r .high * 65536)) 0 && (eqb (bitOr t (r .target)) 0 && u))
-unused-step s t r u = rw (or-zero s (r .low + r .high * 65536), or-zero t (r .target), word-zero (r .low) (r .high)) (go (eqb s 0) (eqb t 0) (eqb (r .low) 0) (eqb (r .high) 0) (eqb (r .target) 0) u)
+pub pair-step : (s a b : ℕ) (u : Bool) → (eqb s 0 && (eqb a 0 && (eqb b 0 && u))) ≡ (eqb (bitOr s (a + b * 256)) 0 && u)
+pair-step s a b u = rw (or-zero s (a + b * 256), pair-zero a b) (go (eqb s 0) (eqb a 0) (eqb b 0) u)
   where
-    go : (a b c d e f : Bool) → (a && (b && (c && (d && (e && f))))) ≡ ((a && (c && d)) && ((b && e) && f))
-    go false b c d e f = refl
-    go true true true true e f = refl
-    go true true true false e f = refl
-    go true true false d e f = refl
-    go true false true true e f = refl
-    go true false true false e f = refl
-    go true false false d e f = refl
+    go : (a b c d : Bool) → (a && (b && (c && d))) ≡ ((a && (b && c)) && d)
+    go false b c d = refl
+    go true false c d = refl
+    go true true c d = refl
+
+-- What fails in the first two parts fails in all three.
+pub rows-apart : (a b c : Bool) → (a && b) ≡ false → (a && (b && c)) ≡ false
+rows-apart false b c e = refl
+rows-apart true false c e = refl
+rows-apart true true c e = absurd (true≢false e)
 
 -- The rows written down, and put in order.
 module _ (rs : List Row) (n : ℕ) (was order : List ℕ) (q : length rs ≡ n) (w : order ≡ orderKeys 0 rs ++ drop (length rs) was) where

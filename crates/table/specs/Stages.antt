@@ -2,12 +2,13 @@
 use mathlib.Core.Path.{_≡_}
 use mathlib.Core.Bool.{Bool, true, not, _&&_}
 use mathlib.Core.List.{List, [], _∷_, _++_}
-use Prim.Native.Nat.{ℕ, _+_}
+use Prim.Native.Nat.{ℕ, _+_, _<_}
 use lib.Dec.{leb, eqb}
-use lib.ListN.{length, drop}
+use lib.Bits.{bitOr}
+use lib.ListN.{length, drop, getD, replicate}
 use Rattle.table.specs.declared.Row.{Row}
 use Rattle.table.specs.declared.Table.{Table}
-use Rattle.table.specs.Table.{usedRows, targetEnd, rising, rowsSound, levelsSound, typed}
+use Rattle.table.specs.Table.{noRow, usedRows, targetEnd, rising, unusedRows, rowsSound, levelsSound, typed}
 use Rattle.table.specs.Order.{orderKeys, rowOrder}
 
 -- each row's targets begin above the end of those before, the first at `f` or above
@@ -21,13 +22,22 @@ fieldsSound t ls =
     not (eqb (t .from) 0)
     && (not (eqb (t .to) 0) && (leb (t .pairs) 16 && (leb (t .count) 64 && (levelsSound ls (t .pairs) && typed t ls))))
 
+-- a word together with every place of a row
+abbrev pub orRow : ℕ → Row → ℕ
+orRow s r = bitOr (bitOr (bitOr s (r .low)) (r .high)) (r .target)
+
+-- the number after each row's targets
+abbrev pub EndsOf : Table → List ℕ → Type 0
+EndsOf t ends = (j : ℕ) → j < t .count → getD ends j 0 ≡ targetEnd (getD (t .rows) j noRow) + 1
+
 -- what the pass over the rows answers, and what it writes
-pub record RowsRise (rs : List Row) (was : List ℕ) (sources targets : Bool) (order : List ℕ) : Type 0 where
-  pub rise : sources ≡ rising 0 rs
-  pub ordered : sources ≡ true → targets ≡ chain 0 rs
-  pub written : sources ≡ true → order ≡ orderKeys 0 rs ++ drop (length rs) was
+pub record RowsRise (t : Table) (sources targets : Bool) (order ends : List ℕ) : Type 0 where
+  pub rise : sources ≡ (rising 0 (usedRows t) && unusedRows (drop (t .count) (t .rows)))
+  pub ordered : sources ≡ true → targets ≡ chain 0 (usedRows t)
+  pub written : sources ≡ true → order ≡ orderKeys 0 (usedRows t) ++ drop (length (usedRows t)) (replicate 64 0)
+  pub after : sources ≡ true → EndsOf t ends
 
 -- what the test of the rows answers, and what it writes
-pub record RowsOrder (t : Table) (was : List ℕ) (r : Bool) (order : List ℕ) : Type 0 where
+pub record RowsOrder (t : Table) (r : Bool) (order : List ℕ) : Type 0 where
   pub sound : r ≡ rowsSound t
-  pub written : r ≡ true → order ≡ rowOrder (usedRows t) ++ drop (t .count) was
+  pub written : r ≡ true → order ≡ rowOrder (usedRows t) ++ drop (t .count) (replicate 64 0)

@@ -1,12 +1,13 @@
 // Renumbering tables: rows of categories and pairs of levels, and what makes them sound (document 01, "Records").
 ghost use mathlib.Core.Path.{_≡_};
-ghost use mathlib.Core.Bool.{true};
-ghost use Prim.Native.Nat.{_+_, _*_, _≤_};
+ghost use mathlib.Core.Bool.{true, _&&_};
+ghost use Prim.Native.Nat.{_+_, _*_, _≤_, min};
+ghost use lib.Dec.{leb};
 ghost use lib.ListN.{length, take, drop, replicate};
-ghost use Rattle.table.specs.Table.{usedRows, rising, unusedRows, targetsApart, levelsRise, unusedPairs, levelsSound, levelNumbers, tableSound};
+ghost use Rattle.table.specs.Table.{usedRows, targetEnd, rising, targetsApart, levelsRise, unusedPairs, levelsSound, levelNumbers, tableSound};
 ghost use Rattle.table.specs.Numbers.{partnerOf};
 ghost use Rattle.table.specs.Order.{rowOrder, orderOf};
-ghost use Rattle.table.specs.Stages.{fieldsSound, RowsRise, RowsOrder};
+ghost use Rattle.table.specs.Stages.{fieldsSound, orRow, EndsOf, RowsRise, RowsOrder};
 use order::sort_keys;
 
 // The categories from low to high go to those from target on.
@@ -44,8 +45,8 @@ pub fn table_sound(table: Table, levels: [[u8; 2]; 16]) -> bool
 pub fn table_order(table: Table, levels: [[u8; 2]; 16], order: &mut [u32; 64]) -> bool
     ensures { λ r. ⌜ (r ≡ tableSound table levels) × (now (order .exit) ≡ orderOf table levels) ⌝ }
 {
-    clear(order);
     if !fields_sound(table, levels) {
+        clear(order);
         return false;
     }
     if rows_sound(table, order) {
@@ -90,11 +91,10 @@ fn fields_sound(table: Table, levels: [[u8; 2]; 16]) -> bool
 pub fn partner_of(levels: [[u8; 2]; 16], pairs: usize, level: u8) -> Partner
     ensures { λ r. ⌜ r ≡ partnerOf (take pairs levels) level ⌝ }
 {
+    // one bound, for with two the compiler takes all sixteen pairs apart
+    let n = fewer(pairs, 16);
     let mut i: usize = 0;
-    while i < pairs {
-        if 16 <= i {
-            return Partner::Missing;
-        }
+    while i < n {
         let pair = levels[i];
         if pair[0] == level {
             return Partner::Level(pair[1]);
@@ -102,6 +102,15 @@ pub fn partner_of(levels: [[u8; 2]; 16], pairs: usize, level: u8) -> Partner
         i += 1;
     }
     Partner::Missing
+}
+
+fn fewer(a: usize, b: usize) -> usize
+    ensures { λ r. ⌜ r ≡ min a b ⌝ }
+{
+    if b < a {
+        return b;
+    }
+    a
 }
 
 // Whether the first `count` pairs rise strictly on both sides and the others are zero.
@@ -150,50 +159,64 @@ fn pairs_unused(levels: [[u8; 2]; 16], count: usize) -> bool
     requires { ⌜ count ≤ 16 ⌝ }
     ensures { λ r. ⌜ r ≡ unusedPairs (drop count levels) ⌝ }
 {
+    let mut rest: u16 = 0;
     let mut i = count;
     while i < 16 {
-        if levels[i][0] != 0 {
-            return false;
-        }
-        if levels[i][1] != 0 {
-            return false;
-        }
+        let pair = levels[i];
+        rest = rest | pair_word(pair[0], pair[1]);
         i += 1;
     }
-    true
+    rest == 0
 }
 
-// Whether the sources rise and every end keeps to the highest category, and whether the targets rise as they stand.
+// Both levels as they lie in memory.
+fn pair_word(a: u8, b: u8) -> u16
+    ensures { λ r. ⌜ r ≡ a + b * 256 ⌝ }
+{
+    a as u16 + (b as u16) * 256
+}
+
+// Whether the sources rise, every end keeps to the highest category and every place past the rows in use is zero; and whether the targets rise as
+// they stand.
 struct Rise {
     sources: bool,
     targets: bool,
 }
 
+fn to_rise(sources: bool, targets: bool) -> Rise
+    ensures { λ r. ⌜ (r .sources ≡ sources) × (r .targets ≡ targets) ⌝ }
+{
+    Rise {
+        sources: sources,
+        targets: targets,
+    }
+}
+
 // Whether the rows are sound, which the order of their targets shows; they are put in order only where they do not stand so.
 fn rows_sound(t: Table, order: &mut [u32]) -> bool
     requires { ⌜ (t .count ≤ 64) × (length (now order) ≡ 64) ⌝ }
-    ensures { λ r. ⌜ RowsOrder t (now (order .entry)) r (now (order .exit)) ⌝ }
+    ensures { λ r. ⌜ RowsOrder t r (now (order .exit)) ⌝ }
 {
     let n = t.count;
-    let rise = rows_rise(t, order);
+    let mut ends = [0u32; 64];
+    let rise = rows_rise(t, order, &mut ends);
     if !rise.sources {
-        return false;
-    }
-    if !rows_unused(t) {
         return false;
     }
     if rise.targets {
         return true;
     }
     sort_keys(order, n);
-    targets_apart(t, order)
+    targets_apart(t, order, &ends)
 }
 
-// One pass over the rows in use; the targets are written down with the rows' numbers.
-fn rows_rise(t: Table, order: &mut [u32]) -> Rise
-    requires { ⌜ (t .count ≤ 64) × (length (now order) ≡ 64) ⌝ }
-    ensures { λ r. ⌜ RowsRise (usedRows t) (now (order .entry)) (r .sources) (r .targets) (now (order .exit)) ⌝ }
+// The only pass over the rows, so that they are copied once: those in use are written down by their targets, with their numbers and the numbers
+// after their targets; of the others all places are read, eight rows at a time, for a test at each costs more.
+fn rows_rise(t: Table, order: &mut [u32], ends: &mut [u32]) -> Rise
+    requires { ⌜ (t .count ≤ 64) × (length (now order) ≡ 64) × (length (now ends) ≡ 64) ⌝ }
+    ensures { λ r. ⌜ RowsRise t (r .sources) (r .targets) (now (order .exit)) (now (ends .exit)) ⌝ }
 {
+    clear(order);
     let n = t.count;
     let mut targets = true;
     let mut floor: u32 = 0;
@@ -201,88 +224,89 @@ fn rows_rise(t: Table, order: &mut [u32]) -> Rise
     let mut i: usize = 0;
     while i < n {
         let row = t.rows[i];
-        let low = row.low as u32;
-        let high = row.high as u32;
+        if !row_rises(row, floor) {
+            return to_rise(false, false);
+        }
         let target = row.target as u32;
-        if low < floor {
-            return Rise {
-                sources: false,
-                targets: false,
-            };
-        }
-        if high < low {
-            return Rise {
-                sources: false,
-                targets: false,
-            };
-        }
-        if 65534 < high {
-            return Rise {
-                sources: false,
-                targets: false,
-            };
-        }
-        let end = target + (high - low);
-        if 65534 < end {
-            return Rise {
-                sources: false,
-                targets: false,
-            };
-        }
         targets = targets & (past <= target);
-        past = end + 1;
+        past = after_targets(row);
         order[i] = target * 65536 + (i as u32);
-        floor = high + 1;
+        ends[i] = past;
+        floor = (row.high as u32) + 1;
         i += 1;
     }
-    Rise {
-        sources: true,
-        targets: targets,
+    let mut rest: u16 = 0;
+    while i <= 56 {
+        rest = or_two(rest, t.rows[i], t.rows[i + 1]);
+        rest = or_two(rest, t.rows[i + 2], t.rows[i + 3]);
+        rest = or_two(rest, t.rows[i + 4], t.rows[i + 5]);
+        rest = or_two(rest, t.rows[i + 6], t.rows[i + 7]);
+        i += 8;
     }
-}
-
-// Whether every place past the rows in use is zero: all are read, for a test at each costs more.
-fn rows_unused(t: Table) -> bool
-    requires { ⌜ t .count ≤ 64 ⌝ }
-    ensures { λ r. ⌜ r ≡ unusedRows (drop (t .count) (t .rows)) ⌝ }
-{
-    let mut sources: u32 = 0;
-    let mut targets: u16 = 0;
-    let mut i = t.count;
     while i < 64 {
-        let row = t.rows[i];
-        sources = sources | source_word(row.low, row.high);
-        targets = targets | row.target;
+        rest = or_row(rest, t.rows[i]);
         i += 1;
     }
-    (sources == 0) & (targets == 0)
+    to_rise(rest == 0, targets)
 }
 
-// Both ends as they lie in memory.
-fn source_word(low: u16, high: u16) -> u32
-    ensures { λ r. ⌜ r ≡ low + high * 65536 ⌝ }
+// Whether a row's source begins at the floor or above, and both ends keep to the highest category.
+fn row_rises(row: Row, floor: u32) -> bool
+    ensures { λ r. ⌜ r ≡ (leb floor (row .low) && (leb (row .low) (row .high) && (leb (row .high) 65534 && leb (targetEnd row) 65534))) ⌝ }
 {
-    low as u32 + (high as u32) * 65536
+    let low = row.low as u32;
+    let high = row.high as u32;
+    if low < floor {
+        return false;
+    }
+    if high < low {
+        return false;
+    }
+    if 65534 < high {
+        return false;
+    }
+    let end = (row.target as u32) + (high - low);
+    end <= 65534
+}
+
+// The number after a row's targets.
+fn after_targets(row: Row) -> u32
+    requires { ⌜ row .low ≤ row .high ⌝ }
+    ensures { λ r. ⌜ r ≡ targetEnd row + 1 ⌝ }
+{
+    let low = row.low as u32;
+    let high = row.high as u32;
+    let target = row.target as u32;
+    target + (high - low) + 1
+}
+
+// The word with every place of a row.
+fn or_row(rest: u16, row: Row) -> u16
+    ensures { λ r. ⌜ r ≡ orRow rest row ⌝ }
+{
+    rest | row.low | row.high | row.target
+}
+
+fn or_two(rest: u16, a: Row, b: Row) -> u16
+    ensures { λ r. ⌜ r ≡ orRow (orRow rest a) b ⌝ }
+{
+    or_row(or_row(rest, a), b)
 }
 
 // Whether each row's targets, in their order, begin above the end of those before.
-fn targets_apart(t: Table, order: &[u32]) -> bool
-    requires { ⌜ (t .count ≤ 64) × (length (now order) ≡ 64) × (rising 0 (usedRows t) ≡ true) × (take (t .count) (now order) ≡ rowOrder (usedRows t)) ⌝ }
+fn targets_apart(t: Table, order: &[u32], ends: &[u32]) -> bool
+    requires { ⌜ (t .count ≤ 64) × (length (now order) ≡ 64) × (length (now ends) ≡ 64) × (rising 0 (usedRows t) ≡ true) × (take (t .count) (now order) ≡ rowOrder (usedRows t)) × EndsOf t (now ends) ⌝ }
     ensures { λ r. ⌜ r ≡ targetsApart (usedRows t) ⌝ }
 {
-    let n = t.count;
     let mut apart = true;
     let mut past: u32 = 0;
     let mut i: usize = 0;
-    while i < n {
+    while i < t.count {
         let k = order[i];
-        let j = (k % 65536) as usize;
-        let row = t.rows[j];
-        let low = row.low as u32;
-        let high = row.high as u32;
-        let target = row.target as u32;
+        let target = k / 65536;
         apart = apart & (past <= target);
-        past = target + (high - low) + 1;
+        let j = (k % 65536) as usize;
+        past = ends[j];
         i += 1;
     }
     apart

@@ -3,7 +3,7 @@ use borrow.Author.Needs.{needs}
 use native.Mathlib.Omega.{arith}
 use borrow.Author.Tests.{not-true, not-false, eq-eqb, ne-eqb, le-leb, lt-leb}
 use mathlib.Core.Path.{_≡_, sym, _∙_, ap}
-use mathlib.Core.Bool.{Bool, true, false}
+use mathlib.Core.Bool.{Bool, true, false, _||_}
 use Prim.Native.Nat.{ℕ}
 use lib.ListN.{length, take}
 use lib.Seq.{length-take-le}
@@ -27,9 +27,16 @@ returns-2 c =
     let t = c .before in
     (λ d. rw (eq-eqb _ _ (t .before .if1 .left), lt-leb _ 120 (t .if2 .taken)) (c .stop .ensures), λ z. absurd (omega (arith, ap (λ (v : Verdict). v .number) (c .stop .ensures))))
 
+-- toward unlabelled hosts
+returns-3 : tie.Need-returns-3
+unfolding fittedBy
+returns-3 c =
+    let e = c .before in
+    (λ d. rw (eq-eqb _ _ (e .before .if1 .left), le-leb _ 120 (e .if2 .left), c .if3 .taken), λ z. e .if2 .left)
+
 slice-aggregate-keys-length : tie.Need-slice-aggregate-keys-length
 slice-aggregate-keys-length c =
-    let e = c .before in
+    let e = c .before .before in
     let s = e .before .before .before .before in
     sym (length-take-le (s .args .held .count) (s .args .keys .now) (omega (arith, e .if2 .left, s .pre)))
 
@@ -44,27 +51,29 @@ stop-requires-2 c κs = search needs
 
 -- the room is tested as the definition does
 roomed : (c : tie.After-has-room) (d : ℕ) →
-    let s = c .before .before .before .before .before .before .before in
-    hasRoomFor (lengthOf (keysSpelled (s .args .permitted) d (s .args .held .level) (take (s .args .held .count) (s .args .keys .now)))) (s .args .kept) ≡ c .has-room .result
+    let s = c .before .before .before .before .before .before .before .before in
+    (s .args .unlabelled || hasRoomFor (lengthOf (keysSpelled (s .args .permitted) d (s .args .held .level) (take (s .args .held .count) (s .args .keys .now)))) (s .args .kept)) ≡ c .has-room .result
 roomed c d =
-    let s = c .before .before .before .before .before .before .before in
-    ap (λ (n : ℕ). hasRoomFor n (s .args .kept)) (sym (c .before .keys-length .ensures d (s .args .held .level))) ∙ sym (c .has-room .ensures)
-
-returns-3 : tie.Need-returns-3
-unfolding fittedBy
-returns-3 c =
-    let r = c .before .before in
-    let e = r .before .before .before in (
-      λ d. rw (eq-eqb _ _ (e .before .if1 .left), le-leb _ 120 (e .if2 .left), roomed r d ∙ not-true _ (c .before .if3 .taken)) (c .stop2 .ensures),
-      λ z. absurd (omega (arith, ap (λ (v : Verdict). v .number) (c .stop2 .ensures))),
-    )
+    let l = c .before .before .before in
+    let s = l .before .before .before .before .before in
+    rw (l .if3 .left)
+    (ap (λ (n : ℕ). hasRoomFor n (s .args .kept)) (sym (c .before .keys-length .ensures d (s .args .held .level))) ∙ sym (c .has-room .ensures))
 
 returns-4 : tie.Need-returns-4
 unfolding fittedBy
 returns-4 c =
+    let r = c .before .before in
+    let e = r .before .before .before .before in (
+      λ d. rw (eq-eqb _ _ (e .before .if1 .left), le-leb _ 120 (e .if2 .left), roomed r d ∙ not-true _ (c .before .if4 .taken)) (c .stop2 .ensures),
+      λ z. absurd (omega (arith, ap (λ (v : Verdict). v .number) (c .stop2 .ensures))),
+    )
+
+returns-5 : tie.Need-returns-5
+unfolding fittedBy
+returns-5 c =
     let r = c .before in
-    let e = r .before .before .before in
-    (λ d. rw (eq-eqb _ _ (e .before .if1 .left), le-leb _ 120 (e .if2 .left), roomed r d ∙ not-false _ (c .if3 .left)), λ z. e .if2 .left)
+    let e = r .before .before .before .before in
+    (λ d. rw (eq-eqb _ _ (e .before .if1 .left), le-leb _ 120 (e .if2 .left), roomed r d ∙ not-false _ (c .if4 .left)), λ z. e .if2 .left)
 
 pub fit-spec : {M : Type 1} → statement M
 fit-spec =
@@ -73,9 +82,10 @@ fit-spec =
     returns
     stop-requires
     returns-2
+    returns-3
     slice-aggregate-keys-length
     keys-length-requires
     has-room-requires
     stop-requires-2
-    returns-3
-    returns-4)
+    returns-4
+    returns-5)

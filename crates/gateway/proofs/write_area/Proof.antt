@@ -10,14 +10,14 @@ use Rattle.gateway.proofs.write_area.Tie as tie
 returns : tie.Need-returns
 returns c = record { nothing = λ z. refl; counted = λ z. absurd (c .if1 .taken z); written = λ z. absurd (c .if1 .taken z) }
 
-slice-aggregate-write-keys : tie.Need-slice-aggregate-write-keys
-slice-aggregate-write-keys c =
+slice-aggregate-put-option : tie.Need-slice-aggregate-put-option
+slice-aggregate-put-option c =
     let e = c .before in
     let s = e .before .before .before .before .before in
     sym (length-take-le (s .args .verdict .count) (s .args .keys .now) (s .pre (e .if1 .left)))
 
-write-keys-requires : tie.Need-write-keys-requires
-write-keys-requires c κs = search needs
+put-option-requires : tie.Need-put-option-requires
+put-option-requires c κs = search needs
 
 write-rest-requires : tie.Need-write-rest-requires
 write-rest-requires c κs = search needs
@@ -33,8 +33,8 @@ returns-2 c =
     let s = e .before .before .before .before .before in
     record {
       nothing = λ z. absurd (z (e .if1 .left));
-      counted = λ z. r .write-rest .ensures .0 ∙ (λ i. restCount (w .write-keys .ensures .0 i) (s .args .kept) (keptOf (s .args .area .now)) (length (w .write-keys .ensures .1 i)));
-      written = λ z. r .write-rest .ensures .1 ∙ (λ i. restOf (w .write-keys .ensures .0 i) (s .args .kept) (keptOf (s .args .area .now)) (w .write-keys .ensures .1 i));
+      counted = λ z. r .write-rest .ensures .0 ∙ (λ i. restCount (w .put-option .ensures .0 i) (s .args .kept) (keptOf (s .args .area .now)) (length (w .put-option .ensures .1 i)));
+      written = λ z. r .write-rest .ensures .1 ∙ (λ i. restOf (w .put-option .ensures .0 i) (s .args .kept) (keptOf (s .args .area .now)) (w .put-option .ensures .1 i));
     }
 
 pub write-area-spec : {M : Type 1} → statement M
@@ -42,8 +42,8 @@ write-area-spec =
     tie.close
     (tie.spec
     returns
-    slice-aggregate-write-keys
-    write-keys-requires
+    slice-aggregate-put-option
+    put-option-requires
     write-rest-requires
     same-length
     returns-2)

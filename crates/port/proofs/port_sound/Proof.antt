@@ -6,8 +6,8 @@ use mathlib.Core.Bool.{true, false, and-false}
 use Rattle.basic.specs.Settings.{basicSound}
 use Rattle.option.specs.Permitted.{someOf}
 use Rattle.port.specs.declared.Port.{Port}
-use Rattle.port.specs.Port.{rangeSound, assignedSound, portSound}
-use Rattle.port.proofs.Laws.{sound-range, assigned-last, assigned-required}
+use Rattle.port.specs.Port.{rangeSound, assignedSound, defaultLies, portSound}
+use Rattle.port.proofs.Laws.{Range, sound-range, default-ill, assigned-last, assigned-required}
 use Rattle.port.proofs.port_sound.Statement.{statement}
 use Rattle.port.proofs.port_sound.Tie as tie
 
@@ -21,15 +21,24 @@ port-of c = c .before .before .before .before .before .before .before .before .b
 range : (c : tie.Else3) → rangeSound (port-of c .lowest) (port-of c .highest) (port-of c .domain) ≡ true
 range c = sym (c .before .range-sound .ensures) ∙ not-false _ (c .if3 .left)
 
+bounds : (c : tie.Else3) → Range (port-of c .lowest) (port-of c .highest) (port-of c .domain)
+bounds c = sound-range (port-of c .lowest) (port-of c .highest) (port-of c .domain) (range c)
+
 settings : (c : tie.Else4) → basicSound (port-of (c .before .before) .basic) ≡ true
 settings c = sym (c .before .basic-sound .ensures) ∙ not-false _ (c .if4 .left)
 
+default : (c : tie.Else5) →
+    let p = port-of (c .before .before .before .before) in
+    defaultLies (p .unlabelled) (p .lowest) (p .highest) (p .default) ≡ true
+default c = sym (c .before .default-sound .ensures) ∙ not-false _ (c .if5 .left)
+
 -- the assigned label is what is left
-last : (c : tie.Else4) → assignedSound (port-of (c .before .before)) ≡ portSound (port-of (c .before .before))
+last : (c : tie.Else5) → assignedSound (port-of (c .before .before .before .before)) ≡ portSound (port-of (c .before .before .before .before))
 last c =
-    let r = c .before .before in
+    let b = c .before .before in
+    let r = b .before .before in
     let s = r .before .before .before .before in
-    assigned-last (port-of r) (s .before .before .before .if1 .left) (range r) (settings c) (permitted s)
+    assigned-last (port-of r) (s .before .before .before .if1 .left) (range r) (settings b) (permitted s) (default c)
 
 returns : tie.Need-returns
 unfolding portSound
@@ -56,24 +65,27 @@ returns-4 : tie.Need-returns-4
 unfolding portSound
 returns-4 c = simp (sym (c .before .basic-sound .ensures) ∙ not-true _ (c .if4 .taken), and-false)
 
-is-zero-requires : tie.Need-is-zero-requires
-is-zero-requires c κs = search needs
+default-sound-requires : tie.Need-default-sound-requires
+default-sound-requires c κs = let r = bounds (c .before .before) in (r .low-formed, r .high-formed)
 
 returns-5 : tie.Need-returns-5
-returns-5 c =
-    let b = c .before .before .before in
-    c .is-zero .ensures ∙ sym (assigned-required (port-of (b .before .before)) true (c .before .if5 .taken)) ∙ last b
+returns-5 c = default-ill (port-of (c .before .before .before .before)) (sym (c .before .default-sound .ensures) ∙ not-true _ (c .if5 .taken))
 
-assigned-within-requires : tie.Need-assigned-within-requires
-assigned-within-requires c κs =
-    let e = c .before .before .before .before in
-    let r = sound-range (port-of e .lowest) (port-of e .highest) (port-of e .domain) (range e) in
-    (r .low-formed, r .high-formed)
+is-zero-requires : tie.Need-is-zero-requires
+is-zero-requires c κs = search needs
 
 returns-6 : tie.Need-returns-6
 returns-6 c =
     let b = c .before .before .before in
-    c .assigned-within .ensures ∙ sym (assigned-required (port-of (b .before .before)) false (c .before .if5 .left)) ∙ last b
+    c .is-zero .ensures ∙ sym (assigned-required (port-of (b .before .before .before .before)) true (c .before .if6 .taken)) ∙ last b
+
+lies-within-requires : tie.Need-lies-within-requires
+lies-within-requires c κs = let r = bounds (c .before .before .before .before .before .before) in (r .low-formed, r .high-formed)
+
+returns-7 : tie.Need-returns-7
+returns-7 c =
+    let b = c .before .before .before in
+    c .lies-within .ensures ∙ sym (assigned-required (port-of (b .before .before .before .before)) false (c .before .if6 .left)) ∙ last b
 
 pub port-sound-spec : {M : Type 1} → statement M
 port-sound-spec =
@@ -86,7 +98,9 @@ port-sound-spec =
     returns-3
     basic-sound-requires
     returns-4
-    is-zero-requires
+    default-sound-requires
     returns-5
-    assigned-within-requires
-    returns-6)
+    is-zero-requires
+    returns-6
+    lies-within-requires
+    returns-7)

@@ -1,20 +1,23 @@
+-- `table::pairs_unused` meets its contract.
 use borrow.Author.Needs.{needs}
-use borrow.Author.Tests.{eq-eqb, ne-eqb}
 use native.Mathlib.Omega.{arith}
 use Prim.Native.Nat.{_≤_, _-_, _+_}
 use mathlib.Core.Path.{_≡_, sym, _∙_}
+use mathlib.Core.Bool.{_&&_, and-true}
 use mathlib.Core.List.{[], _∷_}
+use lib.Dec.{eqb}
 use lib.ListN.{drop, getD, length, drop-of-length-le}
-use Rattle.table.specs.Table.{unusedPairs}
 use Rattle.label.proofs.Steps.{next}
+use Rattle.table.specs.Table.{unusedPairs}
+use Rattle.table.proofs.Order.{pair-step}
 use Rattle.table.proofs.pairs_unused.Statement.{statement}
 use Rattle.table.proofs.pairs_unused.Tie as tie
 
 abbrev Inv-loop : tie.InvT-loop
-Inv-loop count levels i₀ i = (i ≤ 16) × (unusedPairs (drop count levels) ≡ unusedPairs (drop i levels))
+Inv-loop count levels rest₀ i₀ rest i = (i ≤ 16) × (unusedPairs (drop count levels) ≡ (eqb rest 0 && unusedPairs (drop i levels)))
 
 abbrev μ-loop : tie.MeasureT-loop
-μ-loop count levels i₀ i = 16 - i
+μ-loop count levels rest₀ i₀ rest i = 16 - i
 
 sized : (c : tie.Start Inv-loop μ-loop) → length (c .args .t1) ≡ 16
 sized c = search needs
@@ -28,50 +31,41 @@ seen c = next [] (c .before .before .args .t1) (c .before .loop .i) (omega (arit
 loop-holds : tie.Need-loop-holds Inv-loop μ-loop
 loop-holds c = search needs
 
-mul-if1 : tie.Need-mul-if1 Inv-loop μ-loop
-mul-if1 c = omega arith
+mul-pair : tie.Need-mul-pair Inv-loop μ-loop
+mul-pair c = search needs
 
-index-1-if1 : tie.Need-index-1-if1 Inv-loop μ-loop
-index-1-if1 c = omega arith
+array-copy-out-pair : tie.Need-array-copy-out-pair Inv-loop μ-loop
+array-copy-out-pair c = search needs
 
-index-2-if1 : tie.Need-index-2-if1 Inv-loop μ-loop
-index-2-if1 c = omega arith
+array-read-pair-word : tie.Need-array-read-pair-word Inv-loop μ-loop
+array-read-pair-word c = search needs
 
-returns : tie.Need-returns Inv-loop μ-loop
-returns c =
-    let d = c .before .before in
-    sym (d .before .loop .inv .1 ∙ rw (seen d) (simp (ne-eqb _ _ (c .if1 .taken))))
+array-read-pair-word-2 : tie.Need-array-read-pair-word-2 Inv-loop μ-loop
+array-read-pair-word-2 c = search needs
 
-mul-if2 : tie.Need-mul-if2 Inv-loop μ-loop
-mul-if2 c = omega arith
-
-index-1-if2 : tie.Need-index-1-if2 Inv-loop μ-loop
-index-1-if2 c = omega arith
-
-index-2-if2 : tie.Need-index-2-if2 Inv-loop μ-loop
-index-2-if2 c = omega arith
-
-returns-2 : tie.Need-returns-2 Inv-loop μ-loop
-returns-2 c =
-    let d = c .before .before .before .before in
-    sym (d .before .loop .inv .1 ∙ rw (seen d) (simp (eq-eqb _ _ (c .before .before .if1 .left), ne-eqb _ _ (c .if2 .taken))))
+pair-word-requires : tie.Need-pair-word-requires Inv-loop μ-loop
+pair-word-requires c κs = search needs
 
 add-i : tie.Need-add-i Inv-loop μ-loop
-add-i c = omega arith
+add-i c = search needs
 
 loop-less : tie.Need-loop-less Inv-loop μ-loop
-loop-less c = omega arith
+loop-less c = search needs
 
 loop-again : tie.Need-loop-again Inv-loop μ-loop
 loop-again c =
-    let d = c .before .before .before .before in
-    (omega arith, d .before .loop .inv .1 ∙ rw (seen d) (simp (eq-eqb _ _ (c .before .before .if1 .left), eq-eqb _ _ (c .if2 .left))))
+    let d = c .before .before in
+    let v = d .before .loop in
+    let l = d .before .before .args .t1 in
+    let p = getD l (v .i) [] in
+    (omega arith, v .inv .1 ∙ rw (seen d, c .pair-word .ensures) (pair-step (v .rest) (getD p 0 0) (getD p 1 0) (unusedPairs (drop (v .i + 1) l))))
 
-returns-3 : tie.Need-returns-3 Inv-loop μ-loop
-returns-3 c =
-    sym
-    (c .before .loop .inv .1
-    ∙ rw (drop-of-length-le (c .before .before .args .t1) {i = c .before .loop .i} (omega (arith, sized (c .before .before)))))
+returns : tie.Need-returns Inv-loop μ-loop
+returns c =
+    let v = c .before .loop in
+    let s = c .before .before in
+    let none = drop-of-length-le (s .args .t1) {i = v .i} (omega (arith, sized s)) in
+    sym (v .inv .1 ∙ rw none (and-true (eqb (v .rest) 0)))
 
 pub pairs-unused-spec : {M : Type 1} → statement M
 pairs-unused-spec =
@@ -80,15 +74,12 @@ pairs-unused-spec =
     Inv-loop
     μ-loop
     loop-holds
-    mul-if1
-    index-1-if1
-    index-2-if1
-    returns
-    mul-if2
-    index-1-if2
-    index-2-if2
-    returns-2
+    mul-pair
+    array-copy-out-pair
+    array-read-pair-word
+    array-read-pair-word-2
+    pair-word-requires
     add-i
     loop-less
     loop-again
-    returns-3)
+    returns)

@@ -2,77 +2,81 @@
 use borrow.Author.Needs.{needs}
 use borrow.Author.Tests.{eq-eqb, ne-eqb}
 use native.Mathlib.Omega.{arith}
-use Prim.Native.Nat.{_≤_, _-_, _+_}
+use Prim.Native.Nat.{_≤_, _<_, _-_, _+_}
 use mathlib.Core.Path.{_≡_, refl, sym, _∙_}
 use mathlib.Core.List.{[], _∷_}
-use lib.ListN.{take, drop, getD, length}
-use Rattle.label.proofs.Steps.{used-up}
+use lib.ListN.{take, drop, getD, length, length-take, drop-of-length-le}
 use Rattle.table.specs.Numbers.{partnerOf}
-use Rattle.table.proofs.Levels.{next-there, none-there}
+use Rattle.table.proofs.Levels.{next-there}
 use Rattle.table.proofs.partner_of.Statement.{statement}
 use Rattle.table.proofs.partner_of.Tie as tie
 
 abbrev Inv-loop : tie.InvT-loop
-Inv-loop pairs level levels i₀ i =
-    (i ≤ pairs) × (partnerOf (take pairs levels) level ≡ partnerOf (drop i (take pairs levels)) level)
+Inv-loop pairs level levels n i₀ i =
+    (i ≤ n) × (partnerOf (take pairs levels) level ≡ partnerOf (drop i (take pairs levels)) level)
 
 abbrev μ-loop : tie.MeasureT-loop
-μ-loop pairs level levels i₀ i = pairs - i
+μ-loop pairs level levels n i₀ i = n - i
 
 sized : (c : tie.Start Inv-loop μ-loop) → length (c .args .t1) ≡ 16
 sized c = search needs
 
-seen : (c : tie.Else1 Inv-loop μ-loop) →
+-- what the turn reads is there
+held : (c : tie.In-loop Inv-loop μ-loop) → (c .before .loop .i < c .before .before .before .args .pairs) × (c .before .loop .i < 16)
+held c =
+    let b = c .before .before in
+    (omega (arith, b .fewer .ensures, c .loop-test .taken), omega (arith, b .fewer .ensures, c .loop-test .taken))
+
+seen : (c : tie.In-loop Inv-loop μ-loop) →
     let l = c .before .before .before .args .t1 in
     let n = c .before .before .before .args .pairs in
-    let i = c .before .before .loop .i in
+    let i = c .before .loop .i in
     drop i (take n l) ≡ getD l i [] ∷ drop (i + 1) (take n l)
 seen c =
     let s = c .before .before .before in
-    next-there [] (s .args .t1) (s .args .pairs) (c .before .before .loop .i) (c .before .loop-test .taken)
-    (omega (arith, sized s, c .if1 .left))
+    next-there [] (s .args .t1) (s .args .pairs) (c .before .loop .i) (held c .0) (omega (arith, sized s, held c .1))
+
+fewer-requires : tie.Need-fewer-requires Inv-loop μ-loop
+fewer-requires c κs = search needs
 
 loop-holds : tie.Need-loop-holds Inv-loop μ-loop
 loop-holds c = (omega arith, refl)
 
-returns : tie.Need-returns Inv-loop μ-loop
-returns c =
-    let l = c .before .before in
-    let s = l .before in
-    sym (l .loop .inv .1 ∙ rw (none-there (s .args .t1) (s .args .pairs) (l .loop .i) (omega (arith, sized s, c .if1 .taken))))
-
 mul-pair : tie.Need-mul-pair Inv-loop μ-loop
-mul-pair c = omega arith
+mul-pair c = omega (arith, held c .1)
 
 array-copy-out-pair : tie.Need-array-copy-out-pair Inv-loop μ-loop
-array-copy-out-pair c = omega arith
+array-copy-out-pair c = omega (arith, held c .1)
 
-array-read-if2 : tie.Need-array-read-if2 Inv-loop μ-loop
-array-read-if2 c = omega arith
+array-read-if1 : tie.Need-array-read-if1 Inv-loop μ-loop
+array-read-if1 c = search needs
 
-array-read-t17 : tie.Need-array-read-t17 Inv-loop μ-loop
-array-read-t17 c = omega arith
+array-read-t18 : tie.Need-array-read-t18 Inv-loop μ-loop
+array-read-t18 c = search needs
 
-returns-2 : tie.Need-returns-2 Inv-loop μ-loop
-returns-2 c =
-    let e = c .before .before in
-    sym (e .before .before .loop .inv .1 ∙ rw (seen e) (simp (eq-eqb _ _ (c .if2 .taken))))
+returns : tie.Need-returns Inv-loop μ-loop
+returns c =
+    let d = c .before .before in
+    sym (d .before .loop .inv .1 ∙ rw (seen d) (simp (eq-eqb _ _ (c .if1 .taken))))
 
 add-i : tie.Need-add-i Inv-loop μ-loop
-add-i c = omega arith
+add-i c = search needs
 
 loop-less : tie.Need-loop-less Inv-loop μ-loop
-loop-less c = omega arith
+loop-less c = search needs
 
 loop-again : tie.Need-loop-again Inv-loop μ-loop
 loop-again c =
-    let e = c .before .before in
-    (omega arith, e .before .before .loop .inv .1 ∙ rw (seen e) (simp (ne-eqb _ _ (c .if2 .left))))
+    let d = c .before .before in
+    (omega arith, d .before .loop .inv .1 ∙ rw (seen d) (simp (ne-eqb _ _ (c .if1 .left))))
 
-returns-3 : tie.Need-returns-3 Inv-loop μ-loop
-returns-3 c =
-    let s = c .before .before in
-    sym (c .before .loop .inv .1 ∙ rw (used-up (s .args .t1) (s .args .pairs) (c .before .loop .i) (c .loop-test .left)))
+returns-2 : tie.Need-returns-2 Inv-loop μ-loop
+returns-2 c =
+    let b = c .before .before in
+    let s = b .before in
+    let v = c .before .loop in
+    let none : drop (v .i) (take (s .args .pairs) (s .args .t1)) ≡ [] = drop-of-length-le (take (s .args .pairs) (s .args .t1)) {i = v .i} (simp length-take (omega (arith, sized s, b .fewer .ensures, c .loop-test .left))) in
+    sym (v .inv .1 ∙ rw none)
 
 pub partner-of-spec : {M : Type 1} → statement M
 partner-of-spec =
@@ -80,14 +84,14 @@ partner-of-spec =
     (tie.spec
     Inv-loop
     μ-loop
+    fewer-requires
     loop-holds
-    returns
     mul-pair
     array-copy-out-pair
-    array-read-if2
-    array-read-t17
-    returns-2
+    array-read-if1
+    array-read-t18
+    returns
     add-i
     loop-less
     loop-again
-    returns-3)
+    returns-2)

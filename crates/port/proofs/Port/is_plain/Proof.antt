@@ -4,6 +4,7 @@ use borrow.Author.Tests.{not-true, not-false}
 use mathlib.Core.Path.{sym, _∙_}
 use mathlib.Core.Bool.{and-false, and-true}
 use Rattle.port.specs.Port.{isPlain}
+use Rattle.port.proofs.Laws.{facing-unlabelled, default-given}
 use Rattle.port.proofs.Port.is_plain.Statement.{statement}
 use Rattle.port.proofs.Port.is_plain.Tie as tie
 
@@ -14,14 +15,26 @@ returns : tie.Need-returns
 unfolding isPlain
 returns c = simp (sym (c .before .is-usual .ensures) ∙ not-true _ (c .if1 .taken), and-false)
 
+returns-2 : tie.Need-returns-2
+returns-2 c = facing-unlabelled (c .before .before .before .before .args .self) (c .if2 .taken)
+
+is-zero-requires : tie.Need-is-zero-requires
+is-zero-requires c κs = search needs
+
+returns-3 : tie.Need-returns-3
+returns-3 c = default-given (c .before .before .before .before .before .before .before .args .self) (sym (c .before .is-zero .ensures) ∙ not-true _ (c .if3 .taken))
+
 is-off-requires : tie.Need-is-off-requires
 is-off-requires c κs = search needs
 
-returns-2 : tie.Need-returns-2
+returns-4 : tie.Need-returns-4
 unfolding isPlain
-returns-2 c =
-    let u = sym (c .before .before .before .is-usual .ensures) ∙ not-false _ (c .before .before .if1 .left) in
-    c .is-off .ensures ∙ sym (simp (u, and-true))
+returns-4 c =
+    let z = c .before .before in
+    let l = z .before .before .before in
+    let u = l .before in
+    c .is-off .ensures
+    ∙ sym (simp (sym (u .before .is-usual .ensures) ∙ not-false _ (u .if1 .left), l .if2 .left, sym (z .before .is-zero .ensures) ∙ not-false _ (z .if3 .left), and-true))
 
 pub is-plain-spec : {M : Type 1} → statement M
-is-plain-spec = tie.close (tie.spec is-usual-requires returns is-off-requires returns-2)
+is-plain-spec = tie.close (tie.spec is-usual-requires returns returns-2 is-zero-requires returns-3 is-off-requires returns-4)

@@ -9,8 +9,11 @@ off-requires c κs = search needs
 usual-requires : tie.Need-usual-requires
 usual-requires c κs = search needs
 
+empty-requires : tie.Need-empty-requires
+empty-requires c κs = search needs
+
 returns : tie.Need-returns
-returns c = rw (c .before .off .ensures, c .usual .ensures)
+returns c = rw (c .before .before .off .ensures, c .before .usual .ensures, c .empty .ensures)
 
 pub plain-spec : {M : Type 1} → statement M
-plain-spec = tie.close (tie.spec off-requires usual-requires returns)
+plain-spec = tie.close (tie.spec off-requires usual-requires empty-requires returns)
