@@ -19,14 +19,14 @@ pub enum Fault {
 }
 
 pub const FAULTS: [(Fault, &str); 8] = [
-    (Fault::Short, "the frame is cut short"),
+    (Fault::Short, "frame cut short"),
     (Fault::NotIpv4, "no IPv4 datagram"),
-    (Fault::HeaderLength, "the header length is under 20 octets or past the frame"),
-    (Fault::TotalLength, "the total length is under the header length or past the frame"),
-    (Fault::Checksum, "the header checksum is wrong"),
-    (Fault::TimeToLive, "the time to live has run out"),
-    (Fault::Mtu, "the datagram would exceed the MTU of the interface that it leaves by"),
-    (Fault::Unsent, "the interface did not take the frame"),
+    (Fault::HeaderLength, "header length too small or past the frame"),
+    (Fault::TotalLength, "total length too small or past the frame"),
+    (Fault::Checksum, "wrong header checksum"),
+    (Fault::TimeToLive, "time to live run out"),
+    (Fault::Mtu, "longer than the leaving interface's MTU"),
+    (Fault::Unsent, "not taken by the interface"),
 ];
 
 /// A network: an address and how many of its leading bits name the network.

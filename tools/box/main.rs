@@ -18,14 +18,15 @@ use library::{Decision, SLOT};
 use sockets::{Frames, Interface};
 use std::time::{Duration, Instant};
 
-const USAGE: &str = "box GATEWAYFILE INTERFACE PORT NEXTHOP NETWORK INTERFACE PORT NEXTHOP NETWORK [--all] [--quiet] [--every SECONDS]
+const USAGE: &str =
+    "box GATEWAYFILE INTERFACE PORT NEXTHOP NETWORK INTERFACE PORT NEXTHOP NETWORK [--all] [--quiet] [--every SECONDS] [--times]
 
 PORT is a number of a port of the gateway file, from 0; NEXTHOP the link address that frames leave to; NETWORK an address and its bits.
---all tells the datagrams that pass too, --quiet none; counters are printed on SIGUSR1, at the end, and every so many seconds.";
+--all tells the datagrams that pass too, --quiet none; counters are printed on SIGUSR1, at the end, and every so many seconds, with
+--times also the processor time of each part of the work.";
 
-/// How many frames are taken at once, and how long one may be: the library reads the gateway file once for all of them.
-const MANY: usize = 64;
-const LONGEST: usize = 9216;
+/// How many frames are taken at once: the library reads the gateway file once for all of them.
+const MANY: usize = 128;
 
 /// One interface, with what is known of it.
 struct Port {
@@ -42,6 +43,7 @@ struct Counters {
     numbers: [u64; 19],
     faults: [u64; FAULTS.len()],
     sent: u64,
+    turns: u64,
     taking: Duration,
     deciding: Duration,
     sending: Duration,
@@ -69,18 +71,20 @@ struct Side<'a> {
     from: &'a Port,
     to: &'a Port,
     tell: Tell,
+    times: bool,
 }
 
 impl Side<'_> {
     /// Takes what waits, decides it, sends what passes. Answers whether there was anything.
     fn turn(&self, pair: [&Interface; 2], b: &mut Buffers, counters: &mut Counters) -> bool {
-        let begun = Instant::now();
+        let now = || if self.times { sockets::processor_time() } else { Duration::ZERO };
+        let begun = now();
         let n = pair[0].receive(&mut b.taken);
         if n == 0 {
             return false;
         }
         let datagrams = self.take(n, &b.taken, &mut b.records, counters);
-        let asked = Instant::now();
+        let asked = now();
         let decided = library::forward(
             self.file,
             self.from.number,
@@ -88,14 +92,15 @@ impl Side<'_> {
             &b.records[..datagrams.len() * SLOT],
             &mut b.slots[..datagrams.len() * SLOT],
         );
-        let answered = Instant::now();
+        let answered = now();
         let made = self.pass(&datagrams, &b.slots[..decided * SLOT], &mut b.made, counters);
         let sent = pair[1].send(&mut b.made, made);
         counters.sent += sent as u64;
         self.fault(Fault::Unsent, made - sent, counters);
         counters.taking += asked - begun;
         counters.deciding += answered - asked;
-        counters.sending += answered.elapsed();
+        counters.sending += now() - answered;
+        counters.turns += 1;
         true
     }
 
@@ -124,12 +129,13 @@ impl Side<'_> {
         for (datagram, slot) in datagrams.iter().zip(slots.chunks(SLOT)) {
             let decision = library::decision(slot);
             counters.numbers[usize::from(decision.number).min(18)] += 1;
-            self.report(datagram, &decision);
             if decision.number != 0 {
+                self.report(datagram, &decision);
                 continue;
             }
             match frame::rebuild(datagram, decision.area, &link, self.to.mtu, made.room(count)) {
                 Ok(length) => {
+                    self.report(datagram, &decision);
                     made.lengths[count] = length;
                     count += 1;
                 }
@@ -179,10 +185,16 @@ fn print_counters(c: &Counters) {
     for (fault, count) in FAULTS.iter().zip(c.faults).filter(|f| f.1 > 0) {
         println!("COUNTERS {}: {count}", fault.1);
     }
-    let each = |d: Duration| d.as_nanos() as f64 / decided.max(1) as f64;
-    let (taking, deciding, sending) = (each(c.taking), each(c.deciding), each(c.sending));
-    let whole = taking + deciding + sending;
-    println!("COUNTERS nanoseconds a datagram: taking {taking:.0}, deciding {deciding:.0}, sending {sending:.0}, whole {whole:.0}, share of the decision {:.3}", deciding / whole.max(1.0));
+    if c.taking > Duration::ZERO {
+        let each = |d: Duration| d.as_nanos() as f64 / decided.max(1) as f64;
+        let (taking, deciding, sending) = (each(c.taking), each(c.deciding), each(c.sending));
+        let whole = taking + deciding + sending;
+        println!("COUNTERS at once {:.0}, a second of processor time {:.0}", decided as f64 / c.turns.max(1) as f64, 1e9 / whole);
+        println!(
+            "COUNTERS nanoseconds for one: taking {taking:.0}, deciding {deciding:.0} ({:.1} %), sending {sending:.0}, in all {whole:.0}",
+            100.0 * deciding / whole
+        );
+    }
 }
 
 /// The four words of an interface.
@@ -223,16 +235,18 @@ fn main() {
     } else {
         Tell::Drops
     };
-    let frames = || Frames::new(MANY, LONGEST);
+    // a frame that is longer than both interfaces allow is cut, and then its total length is past the frame
+    let frames = || Frames::new(MANY, frame::ETHERNET + left.mtu.max(right.mtu));
     let mut buffers = Buffers { taken: frames(), made: frames(), records: vec![0; MANY * SLOT], slots: vec![0; MANY * SLOT] };
     let mut counters = Counters::default();
     let every = number("--every").map(Duration::from_secs);
+    let times = named("--times");
     let mut told = Instant::now();
     sockets::listen_to_signals();
     println!("READY");
     while !sockets::told_to_end() {
-        let forth = Side { file: &file, from: &left, to: &right, tell }.turn([&pair[0], &pair[1]], &mut buffers, &mut counters);
-        let back = Side { file: &file, from: &right, to: &left, tell }.turn([&pair[1], &pair[0]], &mut buffers, &mut counters);
+        let forth = Side { file: &file, from: &left, to: &right, tell, times }.turn([&pair[0], &pair[1]], &mut buffers, &mut counters);
+        let back = Side { file: &file, from: &right, to: &left, tell, times }.turn([&pair[1], &pair[0]], &mut buffers, &mut counters);
         if sockets::told_to_tell() || every.is_some_and(|e| told.elapsed() >= e) {
             print_counters(&counters);
             told = Instant::now();

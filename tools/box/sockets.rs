@@ -3,6 +3,7 @@
 use std::ffi::{c_int, c_void, CString};
 use std::io::{Error, Result};
 use std::sync::atomic::{AtomicBool, Ordering};
+use std::time::Duration;
 
 const AF_PACKET: c_int = 17;
 const SOCK_RAW: c_int = 3;
@@ -14,6 +15,7 @@ const SIGUSR1: c_int = 10;
 const SIGTERM: c_int = 15;
 const SOL_SOCKET: c_int = 1;
 const SO_RCVBUFFORCE: c_int = 33;
+const CLOCK_THREAD_CPUTIME_ID: c_int = 3;
 
 /// A link-layer address of C, `struct sockaddr_ll`.
 #[repr(C)]
@@ -66,6 +68,7 @@ extern "C" {
     fn sendmmsg(socket: c_int, messages: *mut Message, count: u32, flags: c_int) -> c_int;
     fn poll(sockets: *mut Poll, count: u64, timeout: c_int) -> c_int;
     fn signal(number: c_int, handler: extern "C" fn(c_int)) -> usize;
+    fn clock_gettime(clock: c_int, time: *mut [i64; 2]) -> c_int;
 }
 
 /// Many frames in buffers of one size, with the length of each.
@@ -172,6 +175,13 @@ impl Interface {
 pub fn wait(pair: &[Interface; 2], milliseconds: i32) {
     let mut sockets = [0, 1].map(|i| Poll { socket: pair[i].socket, events: POLLIN, found: 0 });
     unsafe { poll(sockets.as_mut_ptr(), 2, milliseconds) };
+}
+
+/// The processor time of this program so far, with what the kernel did for it.
+pub fn processor_time() -> Duration {
+    let mut time = [0; 2];
+    unsafe { clock_gettime(CLOCK_THREAD_CPUTIME_ID, &mut time) };
+    Duration::new(time[0] as u64, time[1] as u32)
 }
 
 static TELL: AtomicBool = AtomicBool::new(false);
