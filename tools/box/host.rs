@@ -10,7 +10,7 @@ use std::time::{Duration, Instant};
 const USAGE: &str = "host send ADDRESS:PORT OPTIONS OCTETS [TTL]   one UDP datagram with these IP options in hex, or - for none
 host raw INTERFACE FRAME                     one frame, in hex
 host receive ADDRESS:PORT                    a line for each datagram: source, IP options, octets of payload
-host flood ADDRESS:PORT OPTIONS SECONDS      datagrams as fast as they go
+host flood ADDRESS:PORT OPTIONS OCTETS SECONDS  datagrams as fast as they go
 host count ADDRESS:PORT SECONDS              how many datagrams come
 host checksums INTERFACE                     let the kernel write the checksums itself, as on a real wire";
 
@@ -130,13 +130,14 @@ fn receive(at: &str) -> Result<()> {
     }
 }
 
-fn flood(to: &str, options: &str, seconds: f64) -> Result<()> {
+fn flood(to: &str, options: &str, octets: &str, seconds: f64) -> Result<()> {
     let s = sender(options)?;
     s.connect(to)?;
+    let payload = vec![b'x'; octets.parse().unwrap_or(18)];
     let (end, mut sent) = (Instant::now() + Duration::from_secs_f64(seconds), 0u64);
     while Instant::now() < end {
         for _ in 0..256 {
-            sent += u64::from(s.send(&[b'x'; 18]).is_ok());
+            sent += u64::from(s.send(&payload).is_ok());
         }
     }
     println!("sent {sent}, {:.0} a second", sent as f64 / seconds);
@@ -174,7 +175,7 @@ fn main() {
         ["send", to, options, octets, ..] => send(to, options, octets, words.get(4)),
         ["raw", interface, frame] => raw(interface, frame),
         ["receive", at] => receive(at),
-        ["flood", to, options, seconds] => flood(to, options, seconds.parse().unwrap_or(1.0)),
+        ["flood", to, options, octets, seconds] => flood(to, options, octets, seconds.parse().unwrap_or(1.0)),
         ["count", at, seconds] => count(at, seconds.parse().unwrap_or(1.0)),
         ["checksums", interface] => checksums(interface),
         _ => {

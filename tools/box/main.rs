@@ -26,7 +26,7 @@ PORT is a number of a port of the gateway file, from 0; NEXTHOP the link address
 --times also the processor time of each part of the work.";
 
 /// How many frames are taken at once: the library reads the gateway file once for all of them.
-const MANY: usize = 128;
+const MANY: usize = 256;
 
 /// One interface, with what is known of it.
 struct Port {

@@ -6,9 +6,6 @@ ghost use mathlib.Core.Path.{_≡_};
 ghost use Prim.Native.Nat.{_≤_};
 ghost use lib.ListN.{length};
 ghost use Rattle.exports.specs.Answers.{headed, labelBy, factsOf, sampleForwarding, Reads, Spells, Forwards};
-
-mod batch;
-
 use arrival::Facts;
 use gateway::forward;
 use label::Label;

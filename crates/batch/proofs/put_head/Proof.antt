@@ -1,9 +1,9 @@
--- `exports::put_head` meets its contract.
+-- `batch::put_head` meets its contract.
 use borrow.Author.Needs.{needs}
 use native.Mathlib.Omega.{arith}
 use lib.ListN.{length-set}
-use Rattle.exports.proofs.batch.put_head.Statement.{statement}
-use Rattle.exports.proofs.batch.put_head.Tie as tie
+use Rattle.batch.proofs.put_head.Statement.{statement}
+use Rattle.batch.proofs.put_head.Tie as tie
 
 slice-write-slot : tie.Need-slice-write-slot
 slice-write-slot c = search needs

@@ -1,12 +1,12 @@
--- `exports::inglebreek_forward_batch` meets its contract.
+-- `batch::inglebreek_forward_batch` meets its contract.
 use borrow.Author.Needs.{needs}
 use mathlib.Core.Path.{ap}
 use Rattle.file.specs.declared.FileRead.{FileRead}
 use Rattle.file.specs.File.{fileReading}
-use Rattle.exports.specs.Batch.{gatewayOf}
-use Rattle.exports.proofs.Slots.{gateway-is, batch-is}
-use Rattle.exports.proofs.batch.inglebreek_forward_batch.Statement.{statement}
-use Rattle.exports.proofs.batch.inglebreek_forward_batch.Tie as tie
+use Rattle.batch.specs.Batch.{gatewayOf}
+use Rattle.batch.proofs.Slots.{gateway-is, batch-is}
+use Rattle.batch.proofs.inglebreek_forward_batch.Statement.{statement}
+use Rattle.batch.proofs.inglebreek_forward_batch.Tie as tie
 
 read-file-requires : tie.Need-read-file-requires
 read-file-requires c κs = search needs

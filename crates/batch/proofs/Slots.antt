@@ -18,7 +18,7 @@ use Rattle.port.specs.declared.Port.{Port}
 use Rattle.filetable.specs.declared.Renumbering.{Renumbering}
 use Rattle.filetable.specs.TableFormat.{levelsOf}
 use Rattle.fileset.specs.declared.Set.{Set}
-use Rattle.exports.specs.Batch.{Gateway, portAt, missing, isFor, gatewayOf, firstFor, factsIn, areaIn, withHead, forwardingIn, slotOf, batchOf}
+use Rattle.batch.specs.Batch.{Gateway, portAt, missing, isFor, gatewayOf, firstFor, factsIn, areaIn, withHead, forwardingIn, slotOf, batchOf}
 
 -- 1. What is picked.
 

@@ -1,13 +1,13 @@
--- `exports::pick_port` meets its contract.
+-- `batch::pick_port` meets its contract.
 use borrow.Author.Needs.{needs}
 use native.Mathlib.Omega.{arith}
 use mathlib.Core.Path.{_≡_, sym, _∙_}
 use lib.ListN.{length}
 use Rattle.label.proofs.Steps.{length-mapped}
 use Rattle.fileset.specs.Set.{noPort}
-use Rattle.exports.proofs.Slots.{inside, past}
-use Rattle.exports.proofs.batch.pick_port.Statement.{statement}
-use Rattle.exports.proofs.batch.pick_port.Tie as tie
+use Rattle.batch.proofs.Slots.{inside, past}
+use Rattle.batch.proofs.pick_port.Statement.{statement}
+use Rattle.batch.proofs.pick_port.Tie as tie
 
 sized : (c : tie.Start) → length (c .args .t1) ≡ 16
 sized c = search (length-mapped, needs)

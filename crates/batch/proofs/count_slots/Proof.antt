@@ -1,9 +1,9 @@
--- `exports::count_slots` meets its contract.
+-- `batch::count_slots` meets its contract.
 use native.Mathlib.Omega.{arith}
 use borrow.Author.Tests.{lt-ltb, le-ltb}
-use Rattle.exports.specs.Batch.{slotCount}
-use Rattle.exports.proofs.batch.count_slots.Statement.{statement}
-use Rattle.exports.proofs.batch.count_slots.Tie as tie
+use Rattle.batch.specs.Batch.{slotCount}
+use Rattle.batch.proofs.count_slots.Statement.{statement}
+use Rattle.batch.proofs.count_slots.Tie as tie
 
 returns : tie.Need-returns
 unfolding slotCount

@@ -1,7 +1,7 @@
--- `exports::missing_table` meets its contract.
+-- `batch::missing_table` meets its contract.
 use borrow.Author.Needs.{needs}
-use Rattle.exports.proofs.batch.missing_table.Statement.{statement}
-use Rattle.exports.proofs.batch.missing_table.Tie as tie
+use Rattle.batch.proofs.missing_table.Statement.{statement}
+use Rattle.batch.proofs.missing_table.Tie as tie
 
 empty-table-requires : tie.Need-empty-table-requires
 empty-table-requires c κs = search needs

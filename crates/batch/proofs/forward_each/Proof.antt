@@ -1,13 +1,13 @@
--- `exports::forward_each` meets its contract.
+-- `batch::forward_each` meets its contract.
 use mathlib.Core.Path.{_≡_, refl, _∙_}
 use mathlib.Core.List.{_++_}
 use native.Mathlib.Omega.{arith}
 use Prim.Native.Nat.{_≤_, _-_, _*_, _+_}
 use lib.ListN.{length, take, drop}
-use Rattle.exports.specs.Batch.{batchOf}
-use Rattle.exports.proofs.Slots.{at-start, turn, part-length, whole-length, at-end}
-use Rattle.exports.proofs.batch.forward_each.Statement.{statement}
-use Rattle.exports.proofs.batch.forward_each.Tie as tie
+use Rattle.batch.specs.Batch.{batchOf}
+use Rattle.batch.proofs.Slots.{at-start, turn, part-length, whole-length, at-end}
+use Rattle.batch.proofs.forward_each.Statement.{statement}
+use Rattle.batch.proofs.forward_each.Tie as tie
 
 abbrev Inv-loop : tie.InvT-loop
 Inv-loop arriving leaving table levels n input output₀ at₀ i₀ output at i =

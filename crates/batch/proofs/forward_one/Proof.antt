@@ -1,9 +1,9 @@
--- `exports::forward_one` meets its contract.
+-- `batch::forward_one` meets its contract.
 use borrow.Author.Needs.{needs}
 use native.Mathlib.Omega.{arith}
-use Rattle.exports.proofs.Slots.{one}
-use Rattle.exports.proofs.batch.forward_one.Statement.{statement}
-use Rattle.exports.proofs.batch.forward_one.Tie as tie
+use Rattle.batch.proofs.Slots.{one}
+use Rattle.batch.proofs.forward_one.Statement.{statement}
+use Rattle.batch.proofs.forward_one.Tie as tie
 
 shared-slice-read-t11 : tie.Need-shared-slice-read-t11
 shared-slice-read-t11 c = search needs

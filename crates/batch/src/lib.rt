@@ -7,7 +7,7 @@ ghost use Prim.Native.Nat.{_≤_, _*_};
 ghost use lib.ListN.{length, getD};
 ghost use Rattle.file.specs.File.{fileReading};
 ghost use Rattle.fileset.specs.Set.{noPort};
-ghost use Rattle.exports.specs.Batch.{missing, firstFor, gatewayOf, slotCount, withHead, slotOf, batchOf};
+ghost use Rattle.batch.specs.Batch.{missing, firstFor, gatewayOf, slotCount, withHead, slotOf, batchOf};
 use arrival::Decision;
 use arrival::Facts;
 use file::read_file;

@@ -1,4 +1,4 @@
--- `exports::choose_table` meets its contract.
+-- `batch::choose_table` meets its contract.
 use borrow.Author.Needs.{needs}
 use native.Mathlib.Omega.{arith}
 use Prim.Native.Nat.{_-_, _≤_}
@@ -6,10 +6,10 @@ use mathlib.Core.Path.{_≡_, refl, _∙_}
 use lib.ListN.{length, drop}
 use Rattle.label.proofs.Steps.{length-mapped}
 use Rattle.fileset.proofs.Sets.{outTable}
-use Rattle.exports.specs.Batch.{firstFor}
-use Rattle.exports.proofs.Slots.{found, goes, none-left}
-use Rattle.exports.proofs.batch.choose_table.Statement.{statement}
-use Rattle.exports.proofs.batch.choose_table.Tie as tie
+use Rattle.batch.specs.Batch.{firstFor}
+use Rattle.batch.proofs.Slots.{found, goes, none-left}
+use Rattle.batch.proofs.choose_table.Statement.{statement}
+use Rattle.batch.proofs.choose_table.Tie as tie
 
 abbrev Inv-loop : tie.InvT-loop
 Inv-loop from to tables i₀ i = (i ≤ 8) × (firstFor from to tables ≡ firstFor from to (drop i tables))
