@@ -16,6 +16,7 @@ mod sockets;
 use frame::{Fault, Network, FAULTS};
 use library::{Decision, SLOT};
 use sockets::{Frames, Interface};
+use std::io::Write;
 use std::time::{Duration, Instant};
 
 const USAGE: &str =
@@ -38,15 +39,28 @@ struct Port {
     mtu: usize,
 }
 
-#[derive(Default)]
 struct Counters {
-    numbers: [u64; 19],
+    numbers: [u64; 256],
     faults: [u64; FAULTS.len()],
     sent: u64,
     turns: u64,
     taking: Duration,
     deciding: Duration,
     sending: Duration,
+}
+
+impl Counters {
+    fn none() -> Counters {
+        let none = Duration::ZERO;
+        Counters { numbers: [0; 256], faults: [0; FAULTS.len()], sent: 0, turns: 0, taking: none, deciding: none, sending: none }
+    }
+}
+
+/// A line on standard output; that nobody reads it any more is no reason to stop.
+macro_rules! tell {
+    ($($words:tt)*) => {{
+        let _ = writeln!(std::io::stdout(), $($words)*);
+    }};
 }
 
 /// What is told of each datagram.
@@ -128,7 +142,7 @@ impl Side<'_> {
         let mut count = 0;
         for (datagram, slot) in datagrams.iter().zip(slots.chunks(SLOT)) {
             let decision = library::decision(slot);
-            counters.numbers[usize::from(decision.number).min(18)] += 1;
+            counters.numbers[usize::from(decision.number)] += 1;
             if decision.number != 0 {
                 self.report(datagram, &decision);
                 continue;
@@ -149,7 +163,7 @@ impl Side<'_> {
         let place = FAULTS.iter().position(|f| f.0 == fault).unwrap_or(0);
         counters.faults[place] += times as u64;
         if self.tell != Tell::Nothing && times > 0 {
-            println!("DROP {} > {}: {}", self.from.name, self.to.name, FAULTS[place].1);
+            tell!("DROP {} > {}: {}", self.from.name, self.to.name, FAULTS[place].1);
         }
     }
 
@@ -157,8 +171,8 @@ impl Side<'_> {
         let (address, words) =
             (|at: usize| datagram.fixed[at..at + 4].iter().map(u8::to_string).collect::<Vec<_>>().join("."), library::words(d.number));
         match self.tell {
-            Tell::All if d.number == 0 => println!("FORWARD {} > {}: {}", address(12), address(16), hex(d.area)),
-            Tell::All | Tell::Drops if d.number != 0 => println!(
+            Tell::All if d.number == 0 => tell!("FORWARD {} > {}: {}", address(12), address(16), hex(d.area)),
+            Tell::All | Tell::Drops if d.number != 0 => tell!(
                 "DROP {} > {}: number {}, {words}; ICMP type {}, code {}, pointer {}",
                 address(12),
                 address(16),
@@ -178,19 +192,19 @@ fn hex(octets: &[u8]) -> String {
 
 fn print_counters(c: &Counters) {
     let decided: u64 = c.numbers.iter().sum();
-    println!("COUNTERS decided {decided} sent {}", c.sent);
+    tell!("COUNTERS decided {decided} sent {}", c.sent);
     for (number, count) in c.numbers.iter().enumerate().filter(|n| *n.1 > 0) {
-        println!("COUNTERS number {number}, {}: {count}", library::words(number as u8));
+        tell!("COUNTERS number {number}, {}: {count}", library::words(number as u8));
     }
     for (fault, count) in FAULTS.iter().zip(c.faults).filter(|f| f.1 > 0) {
-        println!("COUNTERS {}: {count}", fault.1);
+        tell!("COUNTERS {}: {count}", fault.1);
     }
     if c.taking > Duration::ZERO {
         let each = |d: Duration| d.as_nanos() as f64 / decided.max(1) as f64;
         let (taking, deciding, sending) = (each(c.taking), each(c.deciding), each(c.sending));
         let whole = taking + deciding + sending;
-        println!("COUNTERS at once {:.0}, a second of processor time {:.0}", decided as f64 / c.turns.max(1) as f64, 1e9 / whole);
-        println!(
+        tell!("COUNTERS at once {:.0}, a second of processor time {:.0}", decided as f64 / c.turns.max(1) as f64, 1e9 / whole);
+        tell!(
             "COUNTERS nanoseconds for one: taking {taking:.0}, deciding {deciding:.0} ({:.1} %), sending {sending:.0}, in all {whole:.0}",
             100.0 * deciding / whole
         );
@@ -226,6 +240,14 @@ fn main() {
     let file = std::fs::read(&places[0]).unwrap_or_else(|e| end(&format!("{}: {e}", places[0])));
     let [left, right] =
         [1, 5].map(|at| read_port(&places[at..at + 4]).unwrap_or_else(|| end(&format!("interface {}\n{USAGE}", places[at]))));
+    // 2 is answered to every datagram where the file is refused or has no port of that number: better said before the first
+    for (from, to) in [(&left, &right), (&right, &left)] {
+        let mut slot = [0; SLOT];
+        library::forward(&file, from.number, to.number, &[0; SLOT], &mut slot);
+        if library::decision(&slot).number == 2 {
+            end(&format!("{} is refused, or has no ports {} and {}", places[0], from.number, to.number));
+        }
+    }
     let open = |name: &str| Interface::open(name).unwrap_or_else(|e| end(&format!("{name}: {e}")));
     let pair = [open(&left.name), open(&right.name)];
     let tell = if named("--quiet") {
@@ -238,12 +260,12 @@ fn main() {
     // a frame that is longer than both interfaces allow is cut, and then its total length is past the frame
     let frames = || Frames::new(MANY, frame::ETHERNET + left.mtu.max(right.mtu));
     let mut buffers = Buffers { taken: frames(), made: frames(), records: vec![0; MANY * SLOT], slots: vec![0; MANY * SLOT] };
-    let mut counters = Counters::default();
+    let mut counters = Counters::none();
     let every = number("--every").map(Duration::from_secs);
     let times = named("--times");
     let mut told = Instant::now();
     sockets::listen_to_signals();
-    println!("READY");
+    tell!("READY");
     while !sockets::told_to_end() {
         let forth = Side { file: &file, from: &left, to: &right, tell, times }.turn([&pair[0], &pair[1]], &mut buffers, &mut counters);
         let back = Side { file: &file, from: &right, to: &left, tell, times }.turn([&pair[1], &pair[0]], &mut buffers, &mut counters);

@@ -237,8 +237,10 @@ fn a_million_random_frames_do_no_harm() {
 #[test]
 fn the_words_are_those_of_the_rules() {
     let rules = std::fs::read_to_string("docs/RULES.md").unwrap();
-    for number in 0..=18 {
-        let row = format!("\n| {number} | {} |", library::words(number));
-        assert!(rules.contains(&row), "docs/RULES.md has no row {row}");
+    let table = rules.split("| No. | Name |").nth(1).unwrap().lines().skip(2);
+    let rows: Vec<Vec<&str>> = table.take_while(|l| l.starts_with('|')).map(|l| l.split('|').map(str::trim).collect()).collect();
+    assert!(rows.len() >= 19);
+    for row in rows {
+        assert_eq!(library::words(row[1].parse().unwrap()), row[2], "number {}", row[1]);
     }
 }
