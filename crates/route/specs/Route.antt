@@ -16,9 +16,9 @@ routesOf (p ∷ l ∷ []) = []
 routesOf (p ∷ l ∷ n ∷ []) = []
 routesOf (p ∷ l ∷ n ∷ d ∷ ns) = record { prefix = p; length = l; port = n; domain = d } ∷ routesOf ns
 
--- the number that the first `length` of an address's 32 bits are
+-- the number that the first so many of an address's 32 bits are
 abbrev pub firstBits : ℕ → ℕ → ℕ
-firstBits length address = address / 2 ^ (32 - length)
+firstBits bits address = address / 2 ^ (32 - bits)
 
 -- an address matches where its first `length` bits are the prefix's; of length 0 every address does
 abbrev pub matches : Route → ℕ → Bool

@@ -33,17 +33,17 @@ use Rattle.tables.specs.declared.Tables.{Tables}
 use Rattle.tables.specs.Tables.{usedTables, allTablesSound, tablesSound, noTableFrom, firstTable}
 use Rattle.tables.specs.Theorems.{NoneFor}
 use Rattle.tables.proofs.Theorems.{first-table}
-use Rattle.routing.specs.Routing.{Routing, arrivingListed, setSound, chosen, arrivingPort, portBy, leavingPort, tableBetween, between, chosenPair, setCheck, leavingBasicBy, noRoute, routeCheck, routingChecks, routingOf, routedOutput}
+use Rattle.routing.specs.Routing.{Routing, arrivingListed, boxSound, chosen, arrivingPort, portBy, leavingPort, tableBetween, between, chosenPair, setCheck, leavingBasicBy, noRoute, routeCheck, routingChecks, routingOf, routedOutput}
 use Rattle.routing.proofs.Lists.{skip, cut, refuses, writes-nothing}
 
 -- the parts of a sound set
-module _ (b : Routing) (e : setSound b ≡ true) where
+module _ (b : Routing) (e : boxSound b ≡ true) where
   ports-of : portsSound (b .ports) ≡ true
-  unfolding setSound
+  unfolding boxSound
   ports-of = and-left (portsSound (b .ports)) (tablesSound (b .tables) && (arrivingListed b && routesSound (domainsOf (b .ports)) (b .routes))) e
 
   rest-of : (tablesSound (b .tables) && (arrivingListed b && routesSound (domainsOf (b .ports)) (b .routes))) ≡ true
-  unfolding setSound
+  unfolding boxSound
   rest-of = and-right (portsSound (b .ports)) (tablesSound (b .tables) && (arrivingListed b && routesSound (domainsOf (b .ports)) (b .routes))) e
 
   tables-of : allTablesSound (usedTables (b .tables)) ≡ true
@@ -121,7 +121,7 @@ module _ (b : Routing) (e : setSound b ≡ true) where
     output-of out = rw (first-routed, c)
 
 -- without a route
-module _ (b : Routing) (e : setSound b ≡ true) (c : chosen b ≡ NoRoute) where
+module _ (b : Routing) (e : boxSound b ≡ true) (c : chosen b ≡ NoRoute) where
   route-none-matches : routeCheck b ≡ some noRoute
   unfolding routeCheck
   route-none-matches = rw c
@@ -160,7 +160,7 @@ module _ (b : Routing) (e : setSound b ≡ true) (c : chosen b ≡ NoRoute) wher
   unwritten-of out = writes-nothing (firstOf (routingChecks b)) (sizes (chosenPair b) ∷ arrived) noRoute first-unrouted (optionOctets (leavingOption (crossing (chosenPair b)))) (keptOf (b .area)) out
 
 -- an unsound set
-module _ (b : Routing) (e : setSound b ≡ false) where
+module _ (b : Routing) (e : boxSound b ≡ false) where
   set-some : setCheck b ≡ some (silent 2)
   unfolding setCheck
   set-some = rw e

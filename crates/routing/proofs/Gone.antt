@@ -27,7 +27,7 @@ use Rattle.ports.proofs.Laws.{few-enough, count-known, domains-known, survey-so
 use Rattle.tables.specs.declared.Tables.{Tables}
 use Rattle.tables.specs.Tables.{tablesSound}
 use Rattle.routing.specs.declared.Way.{Way}
-use Rattle.routing.specs.Routing.{Routing, setSound, chosen, between, chosenPair, noRoute, routingOf, routedOutput}
+use Rattle.routing.specs.Routing.{Routing, boxSound, chosen, between, chosenPair, noRoute, routingOf, routedOutput}
 use Rattle.routing.specs.Stages.{routingFor, knownSound, wayBy, wayOf, unroutedChecks, unroutedOf, goneBy, goneOut}
 use Rattle.routing.proofs.Lists.{skip, cut}
 use Rattle.routing.proofs.Decides.{arriving-sound, routed-of, output-of, unrouted-of, unwritten-of, unsound-of, untouched-of}
@@ -37,8 +37,8 @@ module _ (ps : List Port) (ts : Tables) (rs : List ℕ) (i destination : ℕ) (f
   b = routingFor ps ts rs i destination facts area room
 
   -- what is known of the ports is enough to tell whether the set is sound
-  known-set : knownSound (surveyOf ps) ts rs i ≡ setSound b
-  unfolding knownSound setSound
+  known-set : knownSound (surveyOf ps) ts rs i ≡ boxSound b
+  unfolding knownSound boxSound
   known-set = go (portsSound ps) refl
     where
       go : (t : Bool) → portsSound ps ≡ t
@@ -68,17 +68,17 @@ module _ (ps : List Port) (ts : Tables) (rs : List ℕ) (i destination : ℕ) (f
   abbrev Goes : Way → List ℕ → Type 0
   Goes w out = (goneBy w (portAt ps i) (portAt ps (w .leaving)) ts facts area room ≡ routingOf b) × (goneOut w (portAt ps i) (portAt ps (w .leaving)) ts facts area room out ≡ routedOutput b out)
 
-  by-choice : setSound b ≡ true → (c : Chosen) → chosen b ≡ c → (out : List ℕ) → Goes (wayBy c) out
+  by-choice : boxSound b ≡ true → (c : Chosen) → chosen b ≡ c → (out : List ℕ) → Goes (wayBy c) out
   unfolding goneBy goneOut
   by-choice e NoRoute c out = (unrouted-answer (arriving-sound b e) ∙ sym (unrouted-of b e c), sym (unwritten-of b e c out))
   by-choice e (By r) c out = (sym (routed-of b e r c), sym (output-of b e r c out))
 
-  by-set : (t : Bool) → setSound b ≡ t → (out : List ℕ) → Goes (cond t (wayBy (chosen b)) nowhere) out
+  by-set : (t : Bool) → boxSound b ≡ t → (out : List ℕ) → Goes (cond t (wayBy (chosen b)) nowhere) out
   unfolding goneBy goneOut
   by-set true e out = by-choice e (chosen b) refl out
   by-set false e out = (unsound-answer ∙ sym (unsound-of b e), sym (untouched-of b e out))
 
-  found-way : (s : Survey) (w : Way) → s ≡ surveyOf ps → w ≡ wayOf s ts rs i destination → w ≡ cond (setSound b) (wayBy (chosen b)) nowhere
+  found-way : (s : Survey) (w : Way) → s ≡ surveyOf ps → w ≡ wayOf s ts rs i destination → w ≡ cond (boxSound b) (wayBy (chosen b)) nowhere
   unfolding wayOf chosen
   found-way s w es ew =
       ew
@@ -89,7 +89,7 @@ module _ (ps : List Port) (ts : Tables) (rs : List ℕ) (i destination : ℕ) (f
       → (d ≡ goneBy w a l ts facts area room) × (zs ≡ goneOut w a l ts facts area room out) → (d ≡ routingOf b) × (zs ≡ routedOutput b out)
   gone s w a l d out zs es ew ea el g =
       let k = found-way s w es ew in
-      let h = subst (λ (v : Way). Goes v out) (sym k) (by-set (setSound b) refl out) in (
+      let h = subst (λ (v : Way). Goes v out) (sym k) (by-set (boxSound b) refl out) in (
         g .0 ∙ ap (λ (p : Port). goneBy w p l ts facts area room) ea ∙ ap (λ (p : Port). goneBy w (portAt ps i) p ts facts area room) el ∙ h .0,
         g .1 ∙ ap (λ (p : Port). goneOut w p l ts facts area room out) ea ∙ ap (λ (p : Port). goneOut w (portAt ps i) p ts facts area room out) el ∙ h .1,
       )

@@ -38,8 +38,8 @@ abbrev pub arrivingListed : Routing → Bool
 arrivingListed b = ltb (b .arriving) (length (b .ports))
 
 -- at most 64 ports and 8 tables, each sound, read or not; the arriving port is listed; the routes are sound for these ports
-unfoldable pub setSound : Routing → Bool
-setSound b = portsSound (b .ports) && (tablesSound (b .tables) && (arrivingListed b && routesSound (domainsOf (b .ports)) (b .routes)))
+unfoldable pub boxSound : Routing → Bool
+boxSound b = portsSound (b .ports) && (tablesSound (b .tables) && (arrivingListed b && routesSound (domainsOf (b .ports)) (b .routes)))
 
 -- the route that decides
 unfoldable pub chosen : Routing → Chosen
@@ -79,7 +79,7 @@ chosenPair b = between (arrivingPort b) (leavingPort b) (b .tables) (b .facts) (
 
 -- 2: the set is unsound
 unfoldable pub setCheck : Routing → Option Refusal
-setCheck b = when (not (setSound b)) (silent 2)
+setCheck b = when (not (boxSound b)) (silent 2)
 
 -- 21 of the leaving port: without a route there is none
 abbrev pub leavingBasicBy : Chosen → Forwarding → Option Refusal
