@@ -41,7 +41,7 @@ use Rattle.arrival.specs.Checks.{Refusal, faulty, barred, when, firstOf,
 use Rattle.arrival.specs.declared.Verdict.{Verdict}
 use Rattle.arrival.specs.Decision.{arrivalChecks}
 use Rattle.arrival.specs.Verdict.{verdictOf, stopped, going, keysBy, arrivalOf, arrivalKeys, Arrives}
-use Rattle.arrival.specs.Stages.{placeChecks, basicChecks, basicVerdict, isOpen, insteadOf, beforeRange, heldBetween, ArrivesAt}
+use Rattle.arrival.specs.Stages.{placeChecks, basicChecks, isOpen, insteadOf, beforeRange, heldBetween, ArrivesAt}
 use Rattle.arrival.proofs.Pointer.{reading-pointer, reading-number}
 use Rattle.arrival.proofs.First.{first-append, Real, late-else, Late, late-first, late-when, late-real, Early, AllEarly, early-first, early-when, between, before-none, before-zero, first-none, when-none, not-false-yes}
 use Rattle.arrival.proofs.Verdicts.{held-in-range, label-stands}
@@ -365,28 +365,29 @@ on-some p area o e g = ap (λ (t : Bool). octetsAt (basicIn (walkOf t area)) are
 pub open-closed : (r : Verdict) (o : Option Refusal) → isOpen (r .number) ≡ false → r ≡ beforeRange r o
 open-closed r o e = sym (ap (λ (b : Bool). cond b (insteadOf r o) r) e)
 
-module _ (way : Way) (area : List ℕ) (code at : ℕ) (x : BasicReading) (is : x ≡ basicReading (optionAt at area)) where
-  abbrev by-reading : BasicReading → Verdict
-  by-reading y =
-      verdictOf
-      (firstOf
-      (when (not (eqb (y .number) 0)) (faulty 19 at) ∷ none ∷ when (not (passesWay way (y .level) (y .flags))) (barred 21 code) ∷ []))
-      0 0
+module _ (r : Verdict) (way : Way) (area : List ℕ) (code : ℕ) (asked : isOpen (r .number) ≡ true) where
+  answered-by : (b : Place) (o : Option Refusal) → firstOf (basicChecks b true way area code) ≡ o
+      → insteadOf r o ≡ beforeRange r (firstOf (basicChecks b true way area code))
+  answered-by b o e = sym (ap (λ (t : Bool). cond t (insteadOf r (firstOf (basicChecks b true way area code))) r) asked ∙ ap (insteadOf r) e)
 
-  pub basic-bad : (x .number ≡ 0 → ⊥) → stopped 19 12 0 (20 + at) ≡ verdictOf (firstOf (basicChecks (At at) true way area code)) 0 0
-  basic-bad h = sym (ap by-reading (sym is) ∙ rw (ne-eqb (x .number) 0 h))
+  pub basic-missing : stopped 20 12 1 130 ≡ beforeRange r (firstOf (basicChecks Nowhere true way area code))
+  basic-missing = answered-by Nowhere _ refl
 
-  pub basic-outside : x .number ≡ 0 → passesWay way (x .level) (x .flags) ≡ false → stopped 21 3 code 0 ≡ verdictOf (firstOf (basicChecks (At at) true way area code)) 0 0
-  basic-outside h e = sym (ap by-reading (sym is) ∙ rw (eq-eqb (x .number) 0 h, e))
+  module _ (at : ℕ) (x : BasicReading) (is : x ≡ basicReading (optionAt at area)) where
+    abbrev by-reading : BasicReading → Option Refusal
+    by-reading y =
+        firstOf
+        (when (not (eqb (y .number) 0)) (faulty 19 at) ∷ none ∷ when (not (passesWay way (y .level) (y .flags))) (barred 21 code) ∷ [])
 
-  pub basic-passes : x .number ≡ 0 → passesWay way (x .level) (x .flags) ≡ true → going 0 0 ≡ verdictOf (firstOf (basicChecks (At at) true way area code)) 0 0
-  basic-passes h e = sym (ap by-reading (sym is) ∙ rw (eq-eqb (x .number) 0 h, e))
+    pub basic-bad : (x .number ≡ 0 → ⊥) → stopped 19 12 0 (20 + at) ≡ beforeRange r (firstOf (basicChecks (At at) true way area code))
+    basic-bad h = answered-by (At at) (some (faulty 19 at)) (ap by-reading (sym is) ∙ rw (ne-eqb (x .number) 0 h))
 
--- their place among the others
-put-before : (r : Verdict) (o : Option Refusal) → Real o
-    → cond (eqb (verdictOf o 0 0 .number) 0) r (cond (isOpen (r .number)) (verdictOf o 0 0) r) ≡ beforeRange r o
-put-before r none h = sym (before-none r)
-put-before r (some x) h = rw (ne-eqb (x .number) 0 h)
+    pub basic-outside : x .number ≡ 0 → passesWay way (x .level) (x .flags) ≡ false
+        → stopped 21 3 code 0 ≡ beforeRange r (firstOf (basicChecks (At at) true way area code))
+    basic-outside h e = answered-by (At at) (some (barred 21 code)) (ap by-reading (sym is) ∙ rw (eq-eqb (x .number) 0 h, e))
+
+    pub basic-passes : x .number ≡ 0 → passesWay way (x .level) (x .flags) ≡ true → r ≡ beforeRange r (firstOf (basicChecks (At at) true way area code))
+    basic-passes h e = answered-by (At at) none (ap by-reading (sym is) ∙ rw (eq-eqb (x .number) 0 h, e))
 
 -- Checks 1 and 2, and then those of the walk.
 module _ (p : Port) (area keys : List ℕ) (code : ℕ) where
@@ -431,29 +432,21 @@ module _ (p : Port) (area keys : List ℕ) (code : ℕ) where
                 rw (q, a .1) (w .stands (ap (λ (x : Verdict). x .number) (sym q) ∙ z)));
           }
 
-      -- a port that does not read option 130 meets none; one that does asks them
-      pub port-arrives : (l b : Place) (keys′ : List ℕ) (r said v : Verdict) → walkAt p area ≡ Sound l b → ArrivesAt l p area code keys keys′ r
-          → said ≡ basicVerdict (p .basic .on) b (p .basic .receiving) area code
-          → v ≡ cond (eqb (said .number) 0) r (cond (isOpen (r .number)) said r)
-          → Arrives p area code keys keys′ v
-      port-arrives l b keys′ r said v e w f g =
-          subst (Arrives p area code keys keys′) (sym (g ∙ go (p .basic .on) refl)) (port-placed l b keys′ r e w)
-        where
-          at-on : Bool → Verdict
-          at-on t = beforeRange r (firstOf (basicChecks b t (p .basic .receiving) area code))
+      -- where the port does not read option 130 there is none
+      pub port-off : (l b : Place) (keys′ : List ℕ) (r : Verdict) → walkAt p area ≡ Sound l b → p .basic .on ≡ false → ArrivesAt l p area code keys keys′ r
+          → Arrives p area code keys keys′ r
+      port-off l b keys′ r e f w =
+          let q : b ≡ Nowhere = off-nowhere area l b (ap (λ (x : Bool). walkOf x area) (sym f) ∙ e) in
+          let o : firstOf (basicChecks b (p .basic .on) (p .basic .receiving) area code) ≡ none = rw (q, f) in
+          subst (Arrives p area code keys keys′) (ap (beforeRange r) o ∙ before-none r) (port-placed l b keys′ r e w)
 
-          put : Verdict → Verdict
-          put s = cond (eqb (s .number) 0) r (cond (isOpen (r .number)) s r)
-
-          go : (t : Bool) → p .basic .on ≡ t → put said ≡ at-on (p .basic .on)
-          go false n =
-              let q : b ≡ Nowhere = off-nowhere area l b (ap (λ (x : Bool). walkOf x area) (sym n) ∙ e) in
-              let o : firstOf (basicChecks b (p .basic .on) (p .basic .receiving) area code) ≡ none = rw (q, n) in
-              ap put (f ∙ ap (λ (x : Bool). basicVerdict x b (p .basic .receiving) area code) n) ∙ sym (ap (beforeRange r) o ∙ before-none r)
-          go true n =
-              ap put (f ∙ ap (λ (x : Bool). basicVerdict x b (p .basic .receiving) area code) n)
-              ∙ put-before r (firstOf (basicChecks b true (p .basic .receiving) area code)) (basic-real b true (p .basic .receiving) area code)
-              ∙ ap at-on (sym n)
+      -- where it does, they are asked
+      pub port-on : (l b : Place) (keys′ : List ℕ) (r v : Verdict) → walkAt p area ≡ Sound l b → p .basic .on ≡ true → ArrivesAt l p area code keys keys′ r
+          → v ≡ beforeRange r (firstOf (basicChecks b true (p .basic .receiving) area code)) → Arrives p area code keys keys′ v
+      port-on l b keys′ r v e f w g =
+          subst (Arrives p area code keys keys′)
+          (ap (λ (t : Bool). beforeRange r (firstOf (basicChecks b t (p .basic .receiving) area code))) f ∙ sym g)
+          (port-placed l b keys′ r e w)
 
 pub octets-of : (b : List ℕ) → ((i : ℕ) → getD b i 0 < 256) → Octets b
 octets-of [] h = tt

@@ -1,5 +1,5 @@
 -- What the stages of a decision answer, in the terms of the checks; no public contract names these but for the inputs put together.
-use mathlib.Core.Bool.{Bool, true, cond, not, _||_}
+use mathlib.Core.Bool.{Bool, cond, not, _||_}
 use mathlib.Core.List.{List, [], _∷_}
 use mathlib.Core.Option.{Option, none, some}
 use mathlib.Core.Path.{_≡_}
@@ -54,10 +54,6 @@ basicChecks b on way area code =
     ∷ missingBasicBy (octetsAt b area) on
     ∷ when (not (basicPasses on way (octetsAt b area))) (barred 21 code)
     ∷ []
-
--- what they answer, where the port reads option 130
-abbrev pub basicVerdict : Bool → Place → Way → List ℕ → ℕ → Verdict
-basicVerdict on b way area code = cond on (verdictOf (firstOf (basicChecks b true way area code)) 0 0) (going 0 0)
 
 -- 19 to 21 are still to be asked: no check applies, or 14, which comes after them
 abbrev pub isOpen : ℕ → Bool

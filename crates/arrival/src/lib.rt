@@ -30,8 +30,8 @@ ghost use Rattle.basic.specs.Alone.{basicReading};
 ghost use Rattle.port.specs.Port.{portSound};
 ghost use Rattle.arrival.specs.Decision.{silenced, deliverOf};
 ghost use Rattle.arrival.specs.Verdict.{stopped, going, Arrives, concluded};
-ghost use Rattle.arrival.specs.Checks.{basicIn, optionAt};
-ghost use Rattle.arrival.specs.Stages.{deliveryOf, ArrivesAt, basicVerdict, isOpen, basicRead, reported, heldBetween, hostedBy};
+ghost use Rattle.arrival.specs.Checks.{firstOf, basicIn, optionAt};
+ghost use Rattle.arrival.specs.Stages.{deliveryOf, ArrivesAt, basicChecks, isOpen, beforeRange, basicRead, reported, heldBetween, hostedBy};
 
 // What is decided: 0 and the label (and, of a forwarding, the count of the leaving area), or a refusal's number with its ICMP type (`kind`),
 // code and pointer.
@@ -97,10 +97,12 @@ pub fn arrive(port: Port, area: &[u8], code: u8, keys: &mut [u32]) -> Verdict
     match walk_area(area, on) {
         Walk::Refused(number, at) => stop(number, 12, 0, (20 + at) as u8),
         Walk::Sound(label, basic) => {
-            // before anything is written, so that the settings are not copied for a later look
-            let said = judge_basic(on, port.basic.receiving, area, basic, code);
             let arrived = arrive_at(port, area, label, code, keys);
-            put_before(arrived, said)
+            if !on {
+                // no option 130 was met
+                return arrived;
+            }
+            check_basic(arrived, port.basic.receiving, area, basic, code)
         }
     }
 }
@@ -293,14 +295,14 @@ fn hold_within(
     }
 }
 
-// Checks 19 to 21, with the place of the option 130; none applies at a port that does not read it.
-fn judge_basic(on: bool, way: Way, area: &[u8], place: Place, code: u8) -> Verdict
+// Checks 19 to 21 of a port that reads option 130, which come before 14, with the place of the option 130.
+fn check_basic(arrived: Verdict, way: Way, area: &[u8], place: Place, code: u8) -> Verdict
     requires { ⌜ length (now area) ≤ 40 ⌝ }
     requires { ⌜ placedIn Basic place (now area) ⌝ }
-    ensures { λ r. ⌜ r ≡ basicVerdict on place way (now (area .entry)) code ⌝ }
+    ensures { λ r. ⌜ r ≡ beforeRange arrived (firstOf (basicChecks place true way (now (area .entry)) code)) ⌝ }
 {
-    if !on {
-        return go_on(0, 0);
+    if !is_open(arrived.number) {
+        return arrived;
     }
     match place {
         Place::Nowhere => stop(20, 12, 1, 130),
@@ -312,22 +314,9 @@ fn judge_basic(on: bool, way: Way, area: &[u8], place: Place, code: u8) -> Verdi
             if !passes_way(way, read.level, read.flags) {
                 return stop(21, 3, code, 0);
             }
-            go_on(0, 0)
+            arrived
         }
     }
-}
-
-// What 19 to 21 say, before 14 and after 13.
-fn put_before(arrived: Verdict, said: Verdict) -> Verdict
-    ensures { λ r. ⌜ r ≡ cond (eqb (said .number) 0) arrived (cond (isOpen (arrived .number)) said arrived) ⌝ }
-{
-    if said.number == 0 {
-        return arrived;
-    }
-    if !is_open(arrived.number) {
-        return arrived;
-    }
-    said
 }
 
 // Reads the option 130 at an octet.

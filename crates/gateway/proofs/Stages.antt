@@ -31,19 +31,20 @@ use Rattle.arrival.specs.Verdict.{verdictOf, stopped, going, arrivalOf, Arrives
 use Rattle.area.specs.Area.{walkOf, octetsAt}
 use Rattle.basic.specs.declared.BasicReading.{BasicReading}
 use Rattle.basic.specs.declared.Way.{Way}
+use Rattle.basic.specs.Settings.{passesWay}
 use Rattle.arrival.specs.Stages.{heldBetween, beforeRange, basicRead}
 use Rattle.arrival.proofs.First.{first-append, first-one, first-none, Late, Early, early-first, between}
 use Rattle.arrival.proofs.Arrival.{Held, beforeChecks, arrival-early, arrival-held, arrival-late, off-none, on-some}
 use Rattle.arrival.proofs.Verdicts.{held-in-set, concluded-refused, concluded-done}
 use Rattle.gateway.specs.Crossing.{Forwarding, sameDomain, leavingBasicCheck, Crossing, crossing, stays, hasNumbers, numberCheck, leavingLevel, leavingRuns, leavingCheck, leavingLabel, leavingOption, noRoom, spellingCheck}
 use Rattle.gateway.specs.Forward.{forwardChecks, forwardOf, outputOf}
-use Rattle.gateway.specs.Stages.{recordedBy, sends, sentBy, tabledBy, numberedBy, Crosses, heldBy, hasRoomFor, fittedBy, putCount, putFront, Writes}
+use Rattle.gateway.specs.Stages.{recordedBy, sentBy, tabledBy, numberedBy, Crosses, heldBy, hasRoomFor, fittedBy, putCount, putFront, Writes}
 use Rattle.gateway.proofs.Crossings.{Over, leavingVerdict, stays-verdict, stays-over, unsound-verdict, numberless-verdict, carried-verdict, carried-over}
 use Rattle.gateway.proofs.Forwards.{reachChecks, reach-arrival, reach-late, recordsTest, forward-area, forward-room, forward-record, forward-arrival, forward-number, forward-range, forward-spelling, forward-none, forward-refused, forward-written, room-is, kept-fits}
 
 -- 21 of the leaving port, by what a second walk found
 abbrev sending : Bool → Bool → Way → BasicReading → Option Refusal
-sending from on way x = when (not (sends from on way x)) (barred 21 9)
+sending from on way x = when (not (cond from (on && passesWay way (x .level) (x .flags)) (not on))) (barred 21 9)
 
 abbrev barredBy : Bool → Way → Option (List ℕ) → Option Refusal
 barredBy on way o = when (not (basicPasses on way o)) (barred 21 9)
@@ -62,7 +63,7 @@ pub record Ran (f : Forwarding) (own own′ far far′ out out′ : List ℕ) (a
   pub far-room : 184 ≤ length far
   pub arrives : Arrives (f .arriving) (f .area) 9 own own′ a
   pub ready : r ≡ recordedBy a (f .room) (portSound (f .leaving))
-  pub sent : u ≡ sentBy r (sends (f .arriving .basic .on) (f .leaving .basic .on) (f .leaving .basic .sending) (basicRead (octetsAt (basicIn (walkOf true (f .area))) (f .area))))
+  pub sent : u ≡ sentBy r (f .arriving .basic .on) (f .leaving .basic .on) (f .leaving .basic .sending) (basicRead (octetsAt (basicIn (walkOf true (f .area))) (f .area)))
   pub crosses : Crosses u (f .arriving .domain) (f .leaving .domain) (f .table) (f .levels) own′ far far′ c
   pub held : h ≡ heldBy c (lowestOut (f .leaving)) (highestOut (f .leaving)) far′
   pub counted : kept ≡ cond (eqb (h .number) 0) (length (keptOf (f .area))) 0

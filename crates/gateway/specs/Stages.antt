@@ -41,13 +41,9 @@ crossingChecks x = numberCheck x ∷ leavingCheck x ∷ when (ltb 120 (length (l
 unfoldable pub recordedBy : Verdict → ℕ → Bool → Verdict
 recordedBy r room sound = cond (eqb (r .number) 1) r (cond (ltb room 40) (stopped 1 0 0 0) (cond sound r (stopped 2 0 0 0)))
 
--- what passes the leaving port, of the option 130 of an area: `from` and `on` say whether the arriving and the leaving port read it
-abbrev pub sends : Bool → Bool → Way → BasicReading → Bool
-sends from on way x = cond from (on && passesWay way (x .level) (x .flags)) (not on)
-
--- 21 of the leaving port, before 14
-unfoldable pub sentBy : Verdict → Bool → Verdict
-sentBy r passes = beforeRange r (when (not passes) (barred 21 9))
+-- 21 of the leaving port, before 14: `from` and `on` say whether the arriving and the leaving port read option 130
+unfoldable pub sentBy : Verdict → Bool → Bool → Way → BasicReading → Verdict
+sentBy r from on way x = beforeRange r (when (not (cond from (on && passesWay way (x .level) (x .flags)) (not on))) (barred 21 9))
 
 -- 2 of the table, before 3 to 21
 unfoldable pub tabledBy : Verdict → Table → List (List ℕ) → Verdict

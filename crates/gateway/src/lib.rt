@@ -33,10 +33,11 @@ ghost use lib.ListN.{length};
 ghost use lib.Dec.{eqb};
 ghost use Rattle.leaving.specs.Kept.{keptOf};
 ghost use Rattle.gateway.specs.Forward.{forwardOf, outputOf};
+ghost use mathlib.Core.Option.{some};
 ghost use Rattle.area.specs.Area.{walkOf, octetsAt};
-ghost use Rattle.arrival.specs.Checks.{basicIn};
-ghost use Rattle.arrival.specs.Stages.{basicRead};
-ghost use Rattle.gateway.specs.Stages.{forwardingOf, recordedBy, sends, sentBy, tabledBy, numberedBy, Crosses, heldBy, hasRoomFor, fittedBy, putCount, putFront, Writes};
+ghost use Rattle.arrival.specs.Checks.{barred, basicIn};
+ghost use Rattle.arrival.specs.Stages.{beforeRange, basicRead};
+ghost use Rattle.gateway.specs.Stages.{forwardingOf, recordedBy, sentBy, tabledBy, numberedBy, Crosses, heldBy, hasRoomFor, fittedBy, putCount, putFront, Writes};
 
 // Decides whether a datagram is forwarded from the arriving to the leaving port, and writes its leaving area.
 pub fn forward(
@@ -53,17 +54,17 @@ pub fn forward(
 {
     let mut own = [0u32; 120];
     let mut far = [0u32; 184];
-    // both before anything is written, so that the port is not copied for a later look
+    // before anything is written, so that the port is not copied for a later look
     let sound = port_sound(leaving);
-    let passes = pass_sending(
+    let arrived = arrive(arriving, area, 9, &mut own);
+    let ready = check_leaving(arrived, out.len(), sound);
+    let sent = hold_sending(
+        ready,
         arriving.basic.on,
         leaving.basic.on,
         leaving.basic.sending,
         area,
     );
-    let arrived = arrive(arriving, area, 9, &mut own);
-    let ready = check_leaving(arrived, out.len(), sound);
-    let sent = hold_sending(ready, passes);
     let crossed = cross(
         sent,
         arriving.domain,
@@ -112,29 +113,32 @@ fn check_leaving(arrived: Verdict, room: usize, sound: bool) -> Verdict
     arrived
 }
 
-// Whether the area's option 130, or none, passes the leaving port; `from` and `on` say whether the arriving and the leaving port read it.
-fn pass_sending(from: bool, on: bool, sending: Way, area: &[u8]) -> bool
-    ensures { λ r. ⌜ r ≡ sends from on sending (basicRead (octetsAt (basicIn (walkOf true (now (area .entry)))) (now (area .entry)))) ⌝ }
+// Check 21 of the leaving port, which comes before 14; `from` and `on` say whether the arriving and the leaving port read option 130.
+fn hold_sending(ready: Verdict, from: bool, on: bool, sending: Way, area: &[u8]) -> Verdict
+    ensures { λ r. ⌜ r ≡ sentBy ready from on sending (basicRead (octetsAt (basicIn (walkOf true (now (area .entry)))) (now (area .entry)))) ⌝ }
 {
     if !from {
-        return !on;
+        if !on {
+            return ready;
+        }
+        return bar_basic(ready);
     }
     if !on {
-        return false;
+        return bar_basic(ready);
     }
     let read = find_basic(area);
     // copied here, where both ports read it, and not for every datagram
     let way = sending;
-    passes_way(way, read.level, read.flags)
-}
-
-// Check 21 of the leaving port, which comes before 14.
-fn hold_sending(ready: Verdict, passes: bool) -> Verdict
-    ensures { λ r. ⌜ r ≡ sentBy ready passes ⌝ }
-{
-    if passes {
+    if passes_way(way, read.level, read.flags) {
         return ready;
     }
+    bar_basic(ready)
+}
+
+// 21, where no check before it applies.
+fn bar_basic(ready: Verdict) -> Verdict
+    ensures { λ r. ⌜ r ≡ beforeRange ready (some (barred 21 9)) ⌝ }
+{
     if !is_open(ready.number) {
         return ready;
     }

@@ -9,6 +9,7 @@ ghost use lib.ListN.{length, take, drop, set};
 ghost use Rattle.label.specs.Runs.{spaced, unused, covers, countOf};
 ghost use Rattle.label.specs.Label.{used, wellFormed};
 ghost use Rattle.label.specs.Keys.{keyRun, keyRuns, runKey};
+ghost use Rattle.option.specs.Permitted.{usual};
 ghost use Rattle.option.specs.Spelling.{octetsOf, octetsOut, numbersOf, formIf, shorter, leastForm, formFor, bodyFor};
 ghost use Rattle.option.specs.Index.{numbersOut, pairNumber};
 ghost use Rattle.spelling.specs.Spelling.{lengthOf, spellingAnswer, spellingOut};
@@ -290,10 +291,52 @@ fn shorter_of(first: Form, second: Form) -> Form
     second
 }
 
+fn takes_one(one: usize, two: usize, five: usize) -> bool
+    ensures { λ r. ⌜ r ≡ (leb one 30 && (leb one two && leb one five)) ⌝ }
+{
+    one <= BITMAP_OCTETS && (one <= two && one <= five)
+}
+
+fn takes_two(two: usize, five: usize) -> bool
+    ensures { λ r. ⌜ r ≡ (leb two 30 && leb two five) ⌝ }
+{
+    two <= NUMBERS_OCTETS && two <= five
+}
+
+fn takes_five(five: usize) -> bool
+    ensures { λ r. ⌜ r ≡ leb five 28 ⌝ }
+{
+    five <= PAIRS_OCTETS
+}
+
+// The same of tags 1, 2 and 5, which most ports permit.
+fn least_usual(one: usize, two: usize, five: usize) -> Form
+    requires { ⌜ five % 2 ≡ 0 ⌝ }
+    ensures { λ r. ⌜ r ≡ leastForm usual one two five ⌝ }
+{
+    if takes_one(one, two, five) {
+        return Form { tag: 1, size: one };
+    }
+    if takes_two(two, five) {
+        return Form { tag: 2, size: two };
+    }
+    if takes_five(five) {
+        return Form { tag: 5, size: five };
+    }
+    Form {
+        tag: 0,
+        size: NO_OCTETS,
+    }
+}
+
 // Of the permitted forms that hold the categories the shortest, equal lengths to tag 1, then its ten octets, then tag 2, then tag 5.
 fn least(permitted: Spellings, one: usize, two: usize, five: usize) -> Form
+    requires { ⌜ five % 2 ≡ 0 ⌝ }
     ensures { λ r. ⌜ r ≡ leastForm permitted one two five ⌝ }
 {
+    if permitted.is_usual() {
+        return least_usual(one, two, five);
+    }
     let shortest = form_if(permitted.shortest, one, BITMAP_OCTETS, 1, one);
     let ten = form_if(permitted.ten, one, TEN_OCTETS, 1, TEN_OCTETS);
     let numbers = form_if(permitted.numbers, two, NUMBERS_OCTETS, 2, two);

@@ -10,7 +10,7 @@ use Rattle.area.specs.declared.Walk.the-variants.{Sound, Refused}
 use Rattle.area.proofs.Laws.{area-refused, sound-placed}
 use Rattle.port.specs.Port.{portSound}
 use Rattle.arrival.specs.Checks.{badArea, walkAt}
-use Rattle.arrival.proofs.Arrival.{area-short, port-sized, port-unsound, port-walked, port-arrives}
+use Rattle.arrival.proofs.Arrival.{area-short, port-sized, port-unsound, port-walked, port-on, port-off}
 use Rattle.arrival.proofs.arrive.Statement.{statement}
 use Rattle.arrival.proofs.arrive.Tie as tie
 
@@ -98,45 +98,52 @@ stop-requires-4 c κs = search needs
 enum-known-label : tie.Need-enum-known-label
 enum-known-label c = search needs
 
-judge-basic-requires : tie.Need-judge-basic-requires
-judge-basic-requires c κs =
-    let p = c .before in
-    let e = p .before .before .before .before .before in
-    let s = e .before .before .before .before .before in
-    (area-short (s .args .area .now) (small e), sound-placed (s .args .port .basic .on) _ _ _ (found p) .1)
-
 arrive-at-requires : tie.Need-arrive-at-requires
 arrive-at-requires c κs =
-    let p = c .before .before .before in
+    let p = c .before .before in
     let t = p .before .before .before in
     let e = t .before .before in
     let s = e .before .before .before .before .before in
     (area-short (s .args .area .now) (small e), (sound-placed (s .args .port .basic .on) _ _ _ (found p) .0, (ported t, e .if2 .left)))
 
-put-before-requires : tie.Need-put-before-requires
-put-before-requires c κs = search needs
+same-length : tie.Need-same-length
+same-length c = search needs
 
 returns-4 : tie.Need-returns-4
 returns-4 c =
+    let a = c .before .before .before in
+    let p = a .before .before .before in
+    let t = p .before .before .before in
+    let e = t .before .before in
+    let s = e .before .before .before .before .before in
+    port-off (s .args .port) (s .args .area .now) (s .args .keys .now) (s .args .code) (sized e) (ported t) (p .label .given .0 .0) (p .label .given .0 .1 .0) _ _ (found p) (not-true _ (c .if4 .taken)) (a .arrive-at .ensures)
+
+check-basic-requires : tie.Need-check-basic-requires
+check-basic-requires c κs =
+    let p = c .before .before .before .before .before .before in
+    let e = p .before .before .before .before .before in
+    let s = e .before .before .before .before .before in
+    (area-short (s .args .area .now) (small e), sound-placed (s .args .port .basic .on) _ _ _ (found p) .1)
+
+returns-5 : tie.Need-returns-5
+returns-5 c =
     let n = c .before .before in
     let t = n .before .before .before in
     let e = t .before .before in
     let s = e .before .before .before .before .before in
     rw (c .stop4 .ensures) (port-walked (s .args .port) (s .args .area .now) (s .args .keys .now) (s .args .code) (sized e) (ported t) _ _ (walked n))
 
-same-length : tie.Need-same-length
-same-length c = search needs
+same-length-2 : tie.Need-same-length-2
+same-length-2 c = search needs
 
-returns-5 : tie.Need-returns-5
-returns-5 c =
-    let a = c .before .before .before in
-    let j = a .before .before in
-    let p = j .before .before in
+returns-6 : tie.Need-returns-6
+returns-6 c =
+    let a = c .before .before .before .before in
+    let p = a .before .before .before in
     let t = p .before .before .before in
     let e = t .before .before in
     let s = e .before .before .before .before .before in
-    port-arrives (s .args .port) (s .args .area .now) (s .args .keys .now) (s .args .code) (sized e) (ported t) (p .label .given .0 .0) (p .label .given .0 .1 .0) _ (a .arrive-at .result) (j .judge-basic .result) _ (found p)
-    (a .arrive-at .ensures) (j .judge-basic .ensures) (c .put-before .ensures)
+    port-on (s .args .port) (s .args .area .now) (s .args .keys .now) (s .args .code) (sized e) (ported t) (p .label .given .0 .0) (p .label .given .0 .1 .0) _ (a .arrive-at .result) _ (found p) (not-false _ (c .before .if4 .left)) (a .arrive-at .ensures) (c .check-basic .ensures)
 
 pub arrive-spec : {M : Type 1} → statement M
 arrive-spec =
@@ -156,9 +163,10 @@ arrive-spec =
     cast-stop
     stop-requires-4
     enum-known-label
-    judge-basic-requires
     arrive-at-requires
-    put-before-requires
-    returns-4
     same-length
-    returns-5)
+    returns-4
+    check-basic-requires
+    returns-5
+    same-length-2
+    returns-6)

@@ -4,16 +4,13 @@ use native.Mathlib.Omega.{arith}
 use mathlib.Core.Path.{_≡_, refl, sym, _∙_, ap}
 use lib.ListN.{length}
 use Rattle.gateway.specs.Crossing.{Forwarding}
-use Rattle.gateway.specs.Stages.{forwardingOf, recordedBy, sentBy}
+use Rattle.gateway.specs.Stages.{forwardingOf, recordedBy}
 use Rattle.gateway.proofs.Stages.{forwarded}
 use Rattle.gateway.proofs.forward.Statement.{statement}
 use Rattle.gateway.proofs.forward.Tie as tie
 
 port-sound-requires : tie.Need-port-sound-requires
 port-sound-requires c κs = search needs
-
-pass-sending-requires : tie.Need-pass-sending-requires
-pass-sending-requires c κs = search needs
 
 slice-aggregate-arrive : tie.Need-slice-aggregate-arrive
 slice-aggregate-arrive c = search needs
@@ -78,8 +75,7 @@ returns c =
     let u = x .before .before .before in
     let r = u .before in
     let a = r .before .before in
-    let b = a .before .before in
-    let p = b .before in
+    let p = a .before .before in
     let s = p .before .before .before in
     let q =
     forwarded (forwardingOf (s .args .arriving) (s .args .leaving) (s .args .table) (s .args .levels) (s .args .facts) (s .args .area .now) (length (s .args .out .now)))
@@ -91,7 +87,7 @@ returns c =
       far-room = omega arith;
       arrives = a .arrive .ensures;
       ready = r .check-leaving .ensures ∙ ap (recordedBy (a .arrive .result) (length (s .args .out .now))) (p .port-sound .ensures);
-      sent = u .hold-sending .ensures ∙ ap (sentBy (r .check-leaving .result)) (b .pass-sending .ensures);
+      sent = u .hold-sending .ensures;
       crosses = x .cross .ensures;
       held = h .hold-leaving .ensures;
       counted = k .kept-by .ensures;
@@ -105,7 +101,6 @@ forward-spec =
     tie.close
     (tie.spec
     port-sound-requires
-    pass-sending-requires
     slice-aggregate-arrive
     arrive-requires
     check-leaving-requires

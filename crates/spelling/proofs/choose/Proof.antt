@@ -1,13 +1,13 @@
 -- `spelling::choose` meets its contract.
 use borrow.Author.Needs.{needs}
 use native.Mathlib.Omega.{arith}
-use Prim.Native.Nat.{_*_}
-use mathlib.Core.Path.{_≡_, refl, _∙_}
-use lib.ListN.{length, length-map}
+use Prim.Native.Nat.{ℕ, _*_, _/_, _%_}
+use mathlib.Core.Path.{_≡_, refl, ap, _∙_}
+use lib.ListN.{length, getD, length-map}
 use Rattle.label.specs.Runs.{countOf}
 use Rattle.label.specs.Keys.{keyRun, keyRuns}
 use Rattle.option.specs.Spelling.{leastForm}
-use Rattle.spelling.proofs.Sizes.{capped-most, choice-none}
+use Rattle.spelling.proofs.Sizes.{capped-most, pairs-even, choice-none}
 use Rattle.spelling.proofs.Keys.{choice-keys}
 use borrow.Author.Needs.{needs}
 use Rattle.spelling.proofs.choose.Statement.{statement}
@@ -46,7 +46,9 @@ pairs-size-requires : tie.Need-pairs-size-requires
 pairs-size-requires c κs = search needs
 
 least-requires-2 : tie.Need-least-requires-2
-least-requires-2 c κs = search needs
+least-requires-2 c κs =
+    let ks = c .before .before .before .before .before .before .before .args .keys .now in
+    ap (λ (n : ℕ). n % 2) (c .pairs-size .ensures) ∙ pairs-even (length ks) (getD ks 0 0 / 65536)
 
 returns-2 : tie.Need-returns-2
 returns-2 c =

@@ -1,10 +1,24 @@
 -- `spelling::least` meets its contract: the forms that may be taken, and the shorter of them.
 -- Assumes nothing.
 use borrow.Author.Needs.{needs}
-use mathlib.Core.Path.{_∙_}
+use mathlib.Core.Path.{sym, ap, _∙_}
+use Rattle.option.specs.declared.Spellings.{Spellings}
 use Rattle.option.specs.Spelling.{shorter, leastForm}
+use Rattle.option.proofs.Sets.{usual-is}
 use Rattle.spelling.proofs.least.Statement.{statement}
 use Rattle.spelling.proofs.least.Tie as tie
+
+is-usual-requires : tie.Need-is-usual-requires
+is-usual-requires c κs = search needs
+
+least-usual-requires : tie.Need-least-usual-requires
+least-usual-requires c κs = search needs
+
+returns : tie.Need-returns
+returns c =
+    let a = c .before .before .before .args in
+    let u = usual-is (a .permitted) (sym (c .before .before .is-usual .ensures) ∙ c .before .if1 .taken) in
+    c .least-usual .ensures ∙ ap (λ (p : Spellings). leastForm p (a .one) (a .two) (a .five)) (sym u)
 
 form-if-requires : tie.Need-form-if-requires
 form-if-requires c κs = search needs
@@ -27,9 +41,9 @@ shorter-of-requires-2 c κs = search needs
 shorter-of-requires-3 : tie.Need-shorter-of-requires-3
 shorter-of-requires-3 c κs = search needs
 
-returns : tie.Need-returns
+returns-2 : tie.Need-returns-2
 unfolding leastForm
-returns c =
+returns-2 c =
     let pairs = c .before .before .before in
     let numbers = pairs .before in
     let ten = numbers .before in
@@ -41,6 +55,9 @@ pub least-spec : {M : Type 1} → statement M
 least-spec =
     tie.close
     (tie.spec
+    is-usual-requires
+    least-usual-requires
+    returns
     form-if-requires
     form-if-requires-2
     form-if-requires-3
@@ -48,4 +65,4 @@ least-spec =
     shorter-of-requires
     shorter-of-requires-2
     shorter-of-requires-3
-    returns)
+    returns-2)
