@@ -36,6 +36,7 @@
 //                 1 Basic Security: on (1), then for receiving and for sending: lowest level (1), highest level (1), count (2),
 //                   stored (2, at most 256), that many flag fields (2 each)
 //                 2 spellings (1, at most 15): 1 tag 1 shortest, 2 tag 1 with ten bitmap octets, 4 tag 2, 8 tag 5
+//                 4 default label: unlabelled (1), label
 //   wide table    from (4), to (4), level pair count (2), stored (2, at most 16), that many pairs (1 + 1),
 //                 row count (2), lent (2, at most 64), that many rows of low (2), high (2), target low (2)
 //   output   length (2, at most 512, in entries 11 and 12 at most 65535), the octet that fills it (1)
@@ -46,7 +47,7 @@ use std::io::{self, Read, Write};
 
 use crate::basic::{self, BasicRecord, Marking, WayRecord, MAX_FLAG_FIELDS};
 use crate::decision::{deliver, forward, Decision, Facts};
-use crate::entries::{Entries, BASIC_GROUP, GROUPS, SPELLINGS_GROUP};
+use crate::entries::{Entries, BASIC_GROUP, DEFAULT_GROUP, GROUPS, SPELLINGS_GROUP};
 use crate::file::{self, Refusal, SetRecord, Unwritten, MAX_PORTS, MAX_TABLES};
 use crate::label::{HeldLabel, Run, MAX_RUNS};
 use crate::option::{read_alone, read_bitmap_alone, spell_alone, ALL_SPELLINGS, PLAIN_SPELLINGS};
@@ -244,6 +245,10 @@ impl<'a> Fields<'a> {
         if groups & SPELLINGS_GROUP != 0 {
             port.spellings = self.spellings()?;
         }
+        if groups & DEFAULT_GROUP != 0 {
+            port.unlabelled = self.flag()?;
+            port.default = self.label()?;
+        }
         Some(port)
     }
 
@@ -432,7 +437,9 @@ impl Encoder {
         self.port(port);
         let basic = self.spare > 0 || port.basic != PortRecord::PLAIN.basic;
         let spellings = self.spare > 0 || port.spellings != PortRecord::PLAIN.spellings;
-        self.octets.push(if basic { BASIC_GROUP } else { 0 } | if spellings { SPELLINGS_GROUP } else { 0 });
+        let default = self.spare > 0 || port.unlabelled || port.default != PortRecord::PLAIN.default;
+        let groups = [(basic, BASIC_GROUP), (spellings, SPELLINGS_GROUP), (default, DEFAULT_GROUP)];
+        self.octets.push(groups.iter().filter(|(there, _)| *there).map(|(_, group)| group).sum());
         if basic {
             self.octets.push(port.basic.on as u8);
             self.way(&port.basic.receiving);
@@ -440,6 +447,10 @@ impl Encoder {
         }
         if spellings {
             self.octets.push(port.spellings);
+        }
+        if default {
+            self.octets.push(port.unlabelled as u8);
+            self.label(&port.default);
         }
     }
 

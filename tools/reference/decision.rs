@@ -178,6 +178,15 @@ fn decide_forward(
             }
         }
     };
+    // Wish 6: "forwarded exactly when its renumbered label equals the default label; otherwise 17. No option 134 is written [...]; the
+    // kept options always fit, so 18 isn't given". A set of over 120 runs equals no label.
+    if let Some(default) = &leaving.default {
+        if label != *default {
+            return refuse(17);
+        }
+        let octets = build(&[], &met.kept).expect("the kept options of 40 octets have at most 40");
+        return Ok((label, octets));
+    }
     // 17: "forward: outside the leaving port's range". The whole set is tested, also where it has over 120 runs.
     if !leaving.in_range(&label) {
         return refuse(17);
@@ -208,7 +217,7 @@ pub fn forward<'a>(
         Ok((label, octets)) => {
             output[..MAX_OCTETS].fill(0);
             output[..octets.len()].copy_from_slice(&octets);
-            let held = label.held().expect("a label that has a spelling has at most 120 runs");
+            let held = label.held().expect("a label that has a spelling or is a port's has at most 120 runs");
             done(held, octets.len())
         }
     }

@@ -28,6 +28,8 @@ fn port(record: &PortRecord) -> fast::Port {
         assigned: label(&record.assigned),
         basic: fast::basic::Basic { on: record.basic.on, receiving: way(&record.basic.receiving), sending: way(&record.basic.sending) },
         spellings: record.spellings,
+        unlabelled: record.unlabelled,
+        default: label(&record.default),
     }
 }
 

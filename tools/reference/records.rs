@@ -24,9 +24,13 @@ pub struct PortRecord {
     pub basic: BasicRecord,
     /// Wish 5: "the set of permitted spellings", a sum.
     pub spellings: u8,
+    /// Wish 6: "A leaving port may face unlabelled hosts with one default label."
+    pub unlabelled: bool,
+    pub default: HeldLabel,
 }
 
-/// What a sound port record says. `assigned` is none where a label is required, `basic` where option 130 is switched off.
+/// What a sound port record says. `assigned` is none where a label is required, `basic` where option 130 is switched off, `default` where
+/// the port faces labelled hosts.
 pub struct Port {
     pub domain: u32,
     pub lowest: Label,
@@ -34,6 +38,7 @@ pub struct Port {
     pub assigned: Option<Label>,
     pub basic: Option<Basic>,
     pub spellings: u8,
+    pub default: Option<Label>,
 }
 
 impl PortRecord {
@@ -45,14 +50,17 @@ impl PortRecord {
         assigned: HeldLabel::ALL_ZERO,
         basic: BasicRecord::OFF,
         spellings: 0,
+        unlabelled: false,
+        default: HeldLabel::ALL_ZERO,
     };
 
     /// The later fields "as 01 had them".
     pub const PLAIN: PortRecord = PortRecord { spellings: PLAIN_SPELLINGS, ..PortRecord::ALL_ZERO };
 
-    /// Whether the later fields are "as 01 had them".
+    /// Whether a sound port has the later fields "as 01 had them".
     pub fn is_plain(&self) -> bool {
-        self.basic == PortRecord::PLAIN.basic && self.spellings == PortRecord::PLAIN.spellings
+        let plain = PortRecord::PLAIN;
+        self.basic == plain.basic && self.spellings == plain.spellings && self.unlabelled == plain.unlabelled
     }
 
     /// "Sound: nonzero domain, all labels used are well formed and of that domain, lowest ≤ highest. If a label isn't required, the
@@ -84,7 +92,20 @@ impl PortRecord {
         if self.spellings == 0 || self.spellings > ALL_SPELLINGS {
             return None;
         }
-        Some(Port { domain: self.domain, lowest, highest, assigned, basic, spellings: self.spellings })
+        // Wish 6: "The default label must lie in the port's range, and on other ports be all zero, else 2."
+        let default = if self.unlabelled {
+            let default = label_of_domain(&self.default, self.domain)?;
+            if !default.in_range(&lowest, &highest) {
+                return None;
+            }
+            Some(default)
+        } else {
+            if self.default != HeldLabel::ALL_ZERO {
+                return None;
+            }
+            None
+        };
+        Some(Port { domain: self.domain, lowest, highest, assigned, basic, spellings: self.spellings, default })
     }
 }
 

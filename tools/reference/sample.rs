@@ -68,7 +68,8 @@ impl Sample {
         let mut output = [0; MAX_OCTETS];
         let decision = forward(&self.arriving, &self.leaving, self.table.as_ref(), &Facts::NONE, area, &mut output);
         if decision.number == 0 {
-            format!("FORWARD {} {}", decision.count, hex(&output[..decision.count]))
+            // An empty area has no octets to print.
+            format!("FORWARD {} {}", decision.count, hex(&output[..decision.count])).trim_end().to_string()
         } else {
             format!("DROP {} {} {} {}", decision.number, decision.icmp_type, decision.icmp_code, decision.pointer)
         }

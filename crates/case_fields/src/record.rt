@@ -18,12 +18,14 @@ use port::Port;
 use table::Row;
 use table::Table;
 
-// The groups of a port's later fields: option 130, permitted spellings.
+// The groups of a port's later fields: option 130, permitted spellings, the default label of unlabelled hosts.
 const BASIC_GROUP: u8 = 1;
 
 const SPELLINGS_GROUP: u8 = 2;
 
-const ALL_GROUPS: usize = 3;
+const DEFAULT_GROUP: u8 = 4;
+
+const ALL_GROUPS: usize = 7;
 
 pub struct TakenLabel {
     pub label: Label,
@@ -38,6 +40,12 @@ pub struct TakenPort {
 pub struct TakenSpellings {
     pub spellings: Spellings,
     pub next: usize,
+}
+
+struct TakenDefault {
+    unlabelled: bool,
+    label: Label,
+    next: usize,
 }
 
 struct TakenBasic {
@@ -120,12 +128,14 @@ pub fn take_wide_port(case: &[u8], at: usize) -> TakenPort {
     let groups = take_groups(case, taken.next);
     let basic = take_basic(case, groups.next, has_part(groups.value, BASIC_GROUP));
     let spellings = take_spellings_group(case, basic.next, has_part(groups.value, SPELLINGS_GROUP));
+    let default = take_default(case, spellings.next, has_part(groups.value, DEFAULT_GROUP));
     let plain = taken.port;
     let lowest = plain.lowest;
     let highest = plain.highest;
     let assigned = plain.assigned;
     let settings = basic.basic;
     let permitted = spellings.spellings;
+    let given = default.label;
     let port = Port {
         domain: plain.domain,
         lowest: lowest,
@@ -134,10 +144,12 @@ pub fn take_wide_port(case: &[u8], at: usize) -> TakenPort {
         assigned: assigned,
         basic: settings,
         spellings: permitted,
+        unlabelled: default.unlabelled,
+        default: given,
     };
     TakenPort {
         port: port,
-        next: spellings.next,
+        next: default.next,
     }
 }
 
@@ -152,6 +164,25 @@ fn has_part(sum: u8, part: u8) -> bool {
         return false;
     }
     sum / part % 2 == 1
+}
+
+// Whether the hosts are unlabelled, and their default label; labelled ones where the group is not there.
+fn take_default(case: &[u8], at: usize, there: bool) -> TakenDefault {
+    if !there {
+        return TakenDefault {
+            unlabelled: false,
+            label: Label::empty(0, 0),
+            next: at,
+        };
+    }
+    let unlabelled = take_flag(case, at);
+    let taken = take_label(case, unlabelled.next);
+    let label = taken.label;
+    TakenDefault {
+        unlabelled: unlabelled.value,
+        label: label,
+        next: taken.next,
+    }
 }
 
 // Permitted spellings; document 01's where the group is not there.

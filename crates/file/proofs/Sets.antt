@@ -95,7 +95,11 @@ port-unused p e =
     let r : Bool = not (p .required) in
     let g : Bool = isZero (p .assigned) in
     let o : Bool = isOff (p .basic) in
-    let x = and-left (zeroPort p) _ e in
+    let s : Bool = not (someOf (p .spellings)) in
+    let u : Bool = not (p .unlabelled) in
+    let v = and-left (zeroPort p) _ e in
+    let w = and-left (((((((a && l) && h) && r) && g) && o) && s) && u) _ v in
+    let x = and-left ((((((a && l) && h) && r) && g) && o) && s) _ w in
     let y = and-left (((((a && l) && h) && r) && g) && o) _ x in
     let z = and-left ((((a && l) && h) && r) && g) _ y in
     let z1 = and-left (((a && l) && h) && r) _ z in
@@ -108,7 +112,9 @@ port-unused p e =
     let gi : p .assigned ≡ zeroLabel = is-zero (p .assigned) (n .assigned) (and-right (((a && l) && h) && r) _ z) in
     let ba : p .basic ≡ basicOff = off-is (p .basic) (n .receiving) (n .sending) (and-right ((((a && l) && h) && r) && g) _ y) in
     let sp : p .spellings ≡ noSpelling = no-spelling (p .spellings) (not-true _ (and-right (((((a && l) && h) && r) && g) && o) _ x)) in
-    λ i. record { domain = d i; lowest = lo i; highest = hi i; required = re i; assigned = gi i; basic = ba i; spellings = sp i }
+    let un : p .unlabelled ≡ false = not-true _ (and-right ((((((a && l) && h) && r) && g) && o) && s) _ w) in
+    let de : p .default ≡ zeroLabel = is-zero (p .default) (n .default) (and-right (((((((a && l) && h) && r) && g) && o) && s) && u) _ v) in
+    λ i. record { domain = d i; lowest = lo i; highest = hi i; required = re i; assigned = gi i; basic = ba i; spellings = sp i; unlabelled = un i; default = de i }
 
 -- Tables.
 

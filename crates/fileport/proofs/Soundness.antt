@@ -16,7 +16,7 @@ use Rattle.label.proofs.Runs.{first}
 use Rattle.label.proofs.Labels.{Formed, formed, well-formed, formed-of, used-length, of-used, leq-says}
 use Rattle.port.specs.declared.Port.{Port}
 pub use Rattle.port.proofs.Zero.{is-zero}
-use Rattle.port.specs.Port.{plainPort, isPlain, portSound, rangeSound, assignedSound}
+use Rattle.port.specs.Port.{plainPort, isPlain, portSound, rangeSound, assignedSound, defaultSound}
 use Rattle.option.specs.Permitted.{someOf}
 use Rattle.basic.specs.Settings.{isOff, basicSound, wayZero}
 use Rattle.port.proofs.Laws as port
@@ -143,6 +143,7 @@ pub record Places (p : Port) : Type 0 where
   pub assigned : length (p .assigned .runs) ≡ 120
   pub receiving : length (p .basic .receiving .flags) ≡ 256
   pub sending : length (p .basic .sending .flags) ≡ 256
+  pub default : length (p .default .runs) ≡ 120
 
 pub places : (p : Port) → typedPort p ≡ true → Places p
 unfolding typedPort
@@ -150,17 +151,19 @@ places p e =
     let e1 = and-right (eqb (length (p .lowest .runs)) 120) _ e in
     let e2 = and-right (eqb (length (p .highest .runs)) 120) _ e1 in
     let e3 = and-right (eqb (length (p .assigned .runs)) 120) _ e2 in
+    let e4 = and-right (eqb (length (p .basic .receiving .flags)) 256) _ e3 in
     record {
       lowest = eqb-true _ _ (and-left (eqb (length (p .lowest .runs)) 120) _ e);
       highest = eqb-true _ _ (and-left (eqb (length (p .highest .runs)) 120) _ e1);
       assigned = eqb-true _ _ (and-left (eqb (length (p .assigned .runs)) 120) _ e2);
       receiving = eqb-true _ _ (and-left (eqb (length (p .basic .receiving .flags)) 256) _ e3);
-      sending = eqb-true _ _ (and-right (eqb (length (p .basic .receiving .flags)) 256) _ e3);
+      sending = eqb-true _ _ (and-left (eqb (length (p .basic .sending .flags)) 256) _ e4);
+      default = eqb-true _ _ (and-right (eqb (length (p .basic .sending .flags)) 256) _ e4);
     }
 
 pub typed-port : (p : Port) → Places p → typedPort p ≡ true
 unfolding typedPort
-typed-port p n = rw (eq-eqb _ _ (n .lowest), eq-eqb _ _ (n .highest), eq-eqb _ _ (n .assigned), eq-eqb _ _ (n .receiving), eq-eqb _ _ (n .sending))
+typed-port p n = rw (eq-eqb _ _ (n .lowest), eq-eqb _ _ (n .highest), eq-eqb _ _ (n .assigned), eq-eqb _ _ (n .receiving), eq-eqb _ _ (n .sending), eq-eqb _ _ (n .default))
 
 port-says : (p : Port) → typedPort p ≡ true → portSound p ≡ true → isPlain p ≡ true → Sound portFormat p
 unfolding Sound portFormat
@@ -180,7 +183,7 @@ port-says p t e plain =
           ),
         ),
       ),
-      sym (port.plain-is p (n .receiving) (n .sending) plain),
+      sym (port.plain-is p (n .receiving) (n .sending) (n .default) plain),
     )
 
 assigned-said : (p : Port) (q : Bool) → Sound (labelFormat (cond q 0 (p .domain))) (p .assigned) → cond q true (inRange (p .lowest) (p .highest) (p .assigned)) ≡ true
@@ -198,12 +201,16 @@ later : (P : Port → Type 0) → ((d : ℕ) (lo hi : Label) (r : Bool) (a : Lab
 later P q p h = subst P (made p h) (q (p .domain) (p .lowest) (p .highest) (p .required) (p .assigned))
 
 plain-plain : (d : ℕ) (lo hi : Label) (r : Bool) (a : Label) → isPlain (plainPort d lo hi r a) ≡ true
-unfolding isPlain isOff basicSound wayZero
+unfolding isPlain isOff basicSound wayZero isZero
 plain-plain d lo hi r a = refl
 
 plain-basic : (d : ℕ) (lo hi : Label) (r : Bool) (a : Label) → basicSound (plainPort d lo hi r a .basic) ≡ true
 unfolding basicSound wayZero
 plain-basic d lo hi r a = refl
+
+plain-default : (d : ℕ) (lo hi : Label) (r : Bool) (a : Label) → defaultSound (plainPort d lo hi r a) ≡ true
+unfolding defaultSound isZero
+plain-default d lo hi r a = refl
 
 sound-said : (p : Port) → Sound portFormat p → portSound p ≡ true
 unfolding Sound portFormat portSound rangeSound assignedSound
@@ -213,7 +220,8 @@ sound-said p h =
     let hi = label-said (p .domain) (p .highest) d (h .0 .1 .1 .0 .0) in
     let b = later (λ q. basicSound (q .basic) ≡ true) plain-basic p h in
     let s = later (λ q. someOf (q .spellings) ≡ true) (λ d lo hi r a. refl) p h in
-    rw (ne-eqb (p .domain) 0 (λ z. omega arith), eq-eqb _ _ (lo .1), eq-eqb _ _ (hi .1), h .0 .1 .1 .0 .1, b, s, and-true)
+    let f = later (λ q. defaultSound q ≡ true) plain-default p h in
+    rw (ne-eqb (p .domain) 0 (λ z. omega arith), eq-eqb _ _ (lo .1), eq-eqb _ _ (hi .1), h .0 .1 .1 .0 .1, b, s, f, and-true)
     (assigned-said p (p .required) (h .0 .1 .1 .1 .1 .0) (h .0 .1 .1 .1 .1 .1))
 
 port-said : (p : Port) → Sound portFormat p → (portSound p ≡ true) × (isPlain p ≡ true)
@@ -233,4 +241,5 @@ port-typed p h =
       assigned = label-places (cond (p .required) 0 (p .domain)) (p .assigned) (h .0 .1 .1 .1 .1 .0);
       receiving = later (λ q. length (q .basic .receiving .flags) ≡ 256) (λ d lo hi r a. refl) p h;
       sending = later (λ q. length (q .basic .sending .flags) ≡ 256) (λ d lo hi r a. refl) p h;
+      default = later (λ q. length (q .default .runs) ≡ 120) (λ d lo hi r a. refl) p h;
     })

@@ -24,7 +24,8 @@ typedPort p =
     && (eqb (length (p .highest .runs)) 120
     && (eqb (length (p .assigned .runs)) 120
     && (eqb (length (p .basic .receiving .flags)) 256
-    && eqb (length (p .basic .sending .flags)) 256)))
+    && (eqb (length (p .basic .sending .flags)) 256
+    && eqb (length (p .default .runs)) 120))))
 
 pub record PortsSaid : Type 0 where
   pub says : (p : Port) → typedPort p ≡ true → portSound p ≡ true → isPlain p ≡ true → Sound portFormat p

@@ -18,21 +18,11 @@ use Rattle.table.specs.declared.Row.{Row}
 use Rattle.table.specs.declared.Table.{Table}
 use Rattle.table.specs.Table.{tableSound, typed, levelsSound, rowsSound, unusedRows, unusedPairs}
 use Rattle.format.proofs.Places.{Held, padded-length}
-use Rattle.fileport.proofs.Soundness.{Places, typed-port}
 use Rattle.filetable.specs.declared.LevelPair.{LevelPair}
 use Rattle.filetable.specs.declared.Renumbering.{Renumbering}
 use Rattle.filetable.specs.TableFormat.{levelsOf}
 use Rattle.filetable.specs.Theorems.{twoEach, typedPairs, renumberingSound}
 use Rattle.fileset.specs.Set.{noSpelling, zeroPort, zeroTable, usedPort, unusedPort, usedTable, unusedTable}
-
-module _ (p : Port) (n : Places p) where
-  pub used-port : portSound p ≡ usedPort p
-  unfolding usedPort
-  used-port = rw (typed-port p n) (sym (and-true (portSound p)))
-
-  pub unused-port : zeroPort p ≡ unusedPort p
-  unfolding unusedPort
-  unused-port = rw (typed-port p n) (sym (and-true (zeroPort p)))
 
 module _ (r : Renumbering) (a : length (r .table .rows) ≡ 64) (b : typedPairs r ≡ true) where
   pub used-table : tableSound (r .table) (levelsOf r) ≡ usedTable r
@@ -82,6 +72,8 @@ outPort =
       assigned = outLabel;
       basic = record { on = false; receiving = outWay; sending = outWay };
       spellings = noSpelling;
+      unlabelled = false;
+      default = outLabel;
     }
 
 abbrev pub outPair : LevelPair

@@ -26,7 +26,7 @@ noSpelling = record { shortest = false; ten = false; numbers = false; pairs = fa
 
 abbrev pub noPort : Port
 noPort =
-    record { domain = 0; lowest = zeroLabel; highest = zeroLabel; required = false; assigned = zeroLabel; basic = basicOff; spellings = noSpelling }
+    record { domain = 0; lowest = zeroLabel; highest = zeroLabel; required = false; assigned = zeroLabel; basic = basicOff; spellings = noSpelling; unlabelled = false; default = zeroLabel }
 
 abbrev pub emptySet : Set
 emptySet = record { portcount = 0; ports = replicate 16 noPort; tablecount = 0; tables = replicate 8 noTable }
@@ -34,7 +34,7 @@ emptySet = record { portcount = 0; ports = replicate 16 noPort; tablecount = 0; 
 -- every number of the port is 0
 unfoldable pub zeroPort : Port → Bool
 zeroPort p =
-    (((((eqb (p .domain) 0 && isZero (p .lowest)) && isZero (p .highest)) && not (p .required)) && isZero (p .assigned)) && isOff (p .basic)) && not (someOf (p .spellings))
+    (((((((eqb (p .domain) 0 && isZero (p .lowest)) && isZero (p .highest)) && not (p .required)) && isZero (p .assigned)) && isOff (p .basic)) && not (someOf (p .spellings))) && not (p .unlabelled)) && isZero (p .default)
 
 -- every number of the table and of its level pairs is 0
 unfoldable pub zeroTable : Table → List (List ℕ) → Bool

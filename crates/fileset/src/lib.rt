@@ -3,12 +3,15 @@ ghost use mathlib.Core.Path.{_≡_};
 ghost use mathlib.Core.Bool.{true, cond};
 ghost use mathlib.Core.List.{map};
 ghost use Prim.Native.Nat.{_≤_};
+ghost use lib.Dec.{eqb};
 ghost use lib.ListN.{length, take};
+ghost use Rattle.fileport.specs.Theorems.{typedPort};
 ghost use Rattle.format.specs.Places.{placesFit};
 ghost use Rattle.filetable.specs.TableFormat.{noTable, levelsOf};
 ghost use Rattle.filetable.specs.Theorems.{typedPairs};
 ghost use Rattle.fileset.specs.Set.{noPort, emptySet, zeroPort, zeroTable, usedPort, unusedPort, usedTable, unusedTable, setSound};
 use basic::Basic;
+use basic::Way;
 use filetable::LevelPair;
 use filetable::Renumbering;
 use label::Label;
@@ -45,6 +48,8 @@ pub fn empty_port() -> Port
             numbers: false,
             pairs: false,
         },
+        unlabelled: false,
+        default: none,
     }
 }
 
@@ -117,17 +122,62 @@ fn port_zero(port: Port) -> bool
     let off = basic.is_off();
     let spellings = port.spellings;
     let some = spellings.some();
-    (port.domain == 0) & low & high & !port.required & given & off & !some
+    let default = port.default;
+    let unset = default.is_zero();
+    (port.domain == 0)
+        & low
+        & high
+        & !port.required
+        & given
+        & off
+        & !some
+        & !port.unlabelled
+        & unset
+}
+
+// A label has its 120 places, and a way its 256: their types say so.
+fn label_typed(label: Label) -> bool
+    ensures { λ r. ⌜ r ≡ eqb (length (label .runs)) 120 ⌝ }
+{
+    true
+}
+
+fn way_typed(way: Way) -> bool
+    ensures { λ r. ⌜ r ≡ eqb (length (way .flags)) 256 ⌝ }
+{
+    true
+}
+
+fn port_typed(port: Port) -> bool
+    ensures { λ r. ⌜ r ≡ typedPort port ⌝ }
+{
+    let lowest = port.lowest;
+    let highest = port.highest;
+    let assigned = port.assigned;
+    let basic = port.basic;
+    let receiving = basic.receiving;
+    let sending = basic.sending;
+    let default = port.default;
+    let low = label_typed(lowest);
+    let high = label_typed(highest);
+    let given = label_typed(assigned);
+    let first = way_typed(receiving);
+    let second = way_typed(sending);
+    let last = label_typed(default);
+    low & (high & (given & (first & (second & last))))
 }
 
 // Whether a port suits its place: sound in one that is used, all zero in another.
 fn port_fits(port: Port, used: bool) -> bool
     ensures { λ r. ⌜ r ≡ cond used (usedPort port) (unusedPort port) ⌝ }
 {
+    let typed = port_typed(port);
     if used {
-        return port_sound(port);
+        let sound = port_sound(port);
+        return sound & typed;
     }
-    port_zero(port)
+    let zero = port_zero(port);
+    zero & typed
 }
 
 // Whether every number of the table and its level pairs is 0: a table of no pairs and rows is sound where the places of both are zero.

@@ -6,7 +6,7 @@ use crate::cases::{
     MAX_OUTPUT, MAX_ROOM, READ, READ_AND_WRITE, READ_BASIC, READ_FILE, RENUMBER, REVERSE, SPELL, SPELL_PERMITTED, WITHIN, WRITE_BASIC,
     WRITE_FILE,
 };
-use crate::entries::{Entries, BASIC_GROUP, GROUPS, SPELLINGS_GROUP};
+use crate::entries::{Entries, BASIC_GROUP, DEFAULT_GROUP, GROUPS, SPELLINGS_GROUP};
 use crate::file::SetRecord;
 use crate::label::HeldLabel;
 
@@ -94,7 +94,12 @@ fn bad_basic_group(round: usize) -> Vec<u8> {
 /// A port's groups in a case that is good otherwise: bad ones, or a group that is not built.
 fn spoil_groups(octets: &mut Vec<u8>, groups_at: usize, round: usize) {
     if round % 5 == 4 {
-        octets.splice(groups_at..groups_at + 1, [SPELLINGS_GROUP, [16, 255, 29, 128][round / 5 % 4]]);
+        let mut groups = vec![SPELLINGS_GROUP, [16, 255, 29, 128][round / 5 % 4]];
+        if round % 2 == 0 {
+            // `unlabelled` is neither 0 nor 1.
+            groups = vec![DEFAULT_GROUP, [2, 255, 3, 128][round / 5 % 4], 0, 0, 0, 0, 0, 0, 0];
+        }
+        octets.splice(groups_at..groups_at + 1, groups);
     } else if round % 5 == 3 {
         let groups = [2, 4, 8, 16, 32, 64, 128, 255];
         octets[groups_at] = groups.iter().copied().cycle().skip(round / 5).find(|groups| groups & !GROUPS != 0).unwrap_or(255);

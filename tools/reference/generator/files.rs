@@ -558,7 +558,11 @@ pub fn set_unsound(random: &mut Random, turn: usize, _number: u8) -> Made {
             // Spellings alone, in a place past the count and in one within it.
             0 => set.ports[ports] = PortRecord::PLAIN,
             1 => set.ports[port].spellings = 0,
-            clause => break_basic(random, &mut set.ports[ports], BASIC_CLAUSES - clause),
+            // A default label in a place past the count.
+            2 => set.ports[ports].unlabelled = true,
+            3 => set.ports[MAX_PORTS - 1].default.places[MAX_RUNS - 1].high = 1,
+            4 | 5 => break_default(random, &mut set.ports[port], round / 12 * 2 + round % 12 - 4 + turn % 7),
+            clause => break_basic(random, &mut set.ports[ports], BASIC_CLAUSES - clause + 4),
         },
         _ => break_table(random, &mut set.tables[table], round * 2 + way - 16),
     }
@@ -570,7 +574,11 @@ pub fn set_named(random: &mut Random, turn: usize, _number: u8) -> Made {
     let mut set = rich_set(random);
     let ports = set.port_count as usize;
     let port = turn % ports;
-    match turn / 2 % 3 {
+    match turn / 2 % 4 {
+        3 => {
+            set.ports[port].unlabelled = true;
+            set.ports[port].default = random.pick(&[set.ports[port].lowest.clone(), set.ports[port].highest.clone()]);
+        }
         0 => {
             let (receiving, sending) = (any_way(random), any_way(random));
             switch_on(&mut set.ports[port], receiving, sending);

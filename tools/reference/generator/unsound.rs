@@ -125,6 +125,48 @@ pub fn break_port(random: &mut Random, port: &mut PortRecord, clause: usize) {
     }
 }
 
+/// Clauses of a port's default label.
+pub const DEFAULT_CLAUSES: usize = ILL_FORMED + 12;
+
+/// Breaks one clause of a sound port's default label.
+pub fn break_default(random: &mut Random, port: &mut PortRecord, clause: usize) {
+    let clause = clause % DEFAULT_CLAUSES;
+    port.unlabelled = clause < ILL_FORMED + 6;
+    port.default = if port.unlabelled { port.lowest.clone() } else { HeldLabel::ALL_ZERO };
+    if clause < ILL_FORMED {
+        return ill_form(random, &mut port.default, clause);
+    }
+    match clause - ILL_FORMED {
+        0 => port.default.domain = other_domain(random, port.domain),
+        1 => port.default = HeldLabel::ALL_ZERO,
+        // "The default label must lie in the port's range"
+        2 => {
+            required_with(port, |_| {});
+            port.highest.level = port.highest.level.max(1);
+            port.lowest.level = port.lowest.level.max(1);
+            port.default.level = port.lowest.level - 1;
+        }
+        3 => {
+            required_with(port, |_| {});
+            port.highest.level = port.highest.level.min(254);
+            port.lowest.level = port.lowest.level.min(254);
+            port.default.level = port.highest.level + 1;
+        }
+        4 => add_category(random, &mut port.default, &port.highest),
+        5 => {
+            let lowest = port.lowest.clone();
+            lack_category(random, &mut port.default, &lowest);
+        }
+        // "and on other ports be all zero"
+        6 => port.default = port.lowest.clone(),
+        7 => port.default.domain = port.domain,
+        8 => port.default.level = 1,
+        9 => port.default.count = 1,
+        10 => port.default.places[0].high = 1,
+        _ => port.default.places[MAX_RUNS - 1].low = 1,
+    }
+}
+
 pub fn not_required(port: &mut PortRecord) {
     if port.required {
         port.required = false;

@@ -1,8 +1,9 @@
-// Forwards and deliveries at wide ports: those of documents 01's ports, and with the Basic Security option.
+// Forwards and deliveries at wide ports: with the Basic Security option, permitted spellings and default labels.
 
 use crate::basic::{Marking, BASIC_SECURITY};
 use crate::cases::Case;
-use crate::option::{spell, ALL_SPELLINGS, MAX_OCTETS, PLAIN_SPELLINGS};
+use crate::label::{HeldLabel, Run, HIGHEST_CATEGORY, MAX_RUNS};
+use crate::option::{spell, ALL_SPELLINGS, CIPSO, MAX_OCTETS, PLAIN_SPELLINGS};
 use crate::records::PortRecord;
 
 use super::basic::*;
@@ -11,7 +12,9 @@ use super::drafts::*;
 use super::faults::*;
 use super::forward::*;
 use super::random::Random;
-use super::sets::Shape;
+use super::ranges::*;
+use super::sets::*;
+use super::tables::Targets;
 use super::unsound::*;
 use super::Made;
 
@@ -91,6 +94,14 @@ fn wide_draft(random: &mut Random, wish: &Wish, on: (bool, bool)) -> WideForward
     let case = &mut draft.case;
     case.arriving.spellings = any_spellings(random);
     case.leaving.spellings = any_spellings(random);
+    // An arriving port's default label decides nothing.
+    if random.chance(1, 6) {
+        let default = random.pick(&[case.arriving.lowest.clone(), case.arriving.highest.clone(), draft.label.clone()]);
+        face_unlabelled(&mut case.arriving, &default);
+    }
+    if let (Some(label), true) = (&draft.leaving_label, random.chance(1, 10)) {
+        face_unlabelled(&mut case.leaving, label);
+    }
     let marking = mark(random, &mut draft.datagram, &mut case.arriving, Some(&mut case.leaving), on);
     WideForward { draft, marking }
 }
@@ -210,6 +221,103 @@ pub fn wide_forward_unsound(random: &mut Random, turn: usize, _number: u8) -> Ma
     forward_case(wide.draft, random)
 }
 
+/// A port around the label that faces unlabelled hosts, with the label as default.
+fn face_unlabelled(port: &mut PortRecord, label: &HeldLabel) {
+    port.unlabelled = true;
+    port.default = label.clone();
+}
+
+/// The unsound default labels of either port.
+pub fn wide_forward_unsound_default(random: &mut Random, turn: usize, _number: u8) -> Made {
+    let mut wide = wide_draft(random, &Wish { rich: true, ..ANY }, switched(turn, 0));
+    let case = &mut wide.draft.case;
+    break_default(random, if turn % 2 == 0 { &mut case.arriving } else { &mut case.leaving }, turn / 2);
+    forward_case(wide.draft, random)
+}
+
+/// Leaves by a port with a default label: equal labels, also one without a spelling; no options, and kept ones that fill the area.
+pub fn wide_forward_default(random: &mut Random, turn: usize, _number: u8) -> Made {
+    let wish = match turn % 6 {
+        // Only an assigned label can have no spelling and arrive.
+        0 => Wish { shape: Some(Shape::Unspellable), labelled: Some(false), ..ANY },
+        1 => Wish { labelled: Some(false), ..ANY },
+        2 => Wish { shape: Some(Shape::Bitmap), targets: Targets::High, same_domain: Some(false), ..ANY },
+        3 => Wish { rich: true, ..ANY },
+        _ => ANY,
+    };
+    let mut wide = wide_draft(random, &wish, switched(turn, 0));
+    let draft = &mut wide.draft;
+    if let Some(label) = &draft.leaving_label {
+        face_unlabelled(&mut draft.case.leaving, label);
+    }
+    match turn % 5 {
+        // Nothing but the CIPSO option and the 130, or nothing at all.
+        0 | 1 => {
+            let cipso = draft.datagram.cipso;
+            let mut place = 0;
+            draft.datagram.options.retain(|option| {
+                place += 1;
+                Some(place - 1) == cipso || option[0] == BASIC_SECURITY
+            });
+            draft.datagram.cipso = draft.datagram.options.iter().position(|option| option[0] == CIPSO);
+        }
+        // More than a spelled option would leave room for.
+        2 | 3 => {
+            let used: usize = draft.datagram.options.iter().map(Vec::len).sum();
+            if used + 2 <= MAX_OCTETS {
+                let option = kept_option(random, MAX_OCTETS - used);
+                draft.datagram.options.push(option);
+            }
+        }
+        _ => {}
+    }
+    forward_case(wide.draft, random)
+}
+
+/// Other labels than the default one: by one category, by level, above, below and beside it.
+pub fn wide_forward_other_default(random: &mut Random, turn: usize, _number: u8) -> Made {
+    let mut wide = wide_draft(random, &wish_for_spelling(turn), switched(turn, 0));
+    let case = &mut wide.draft.case;
+    let label = match &wide.draft.leaving_label {
+        Some(label) => label.clone(),
+        None => return forward_case(wide.draft, random),
+    };
+    let mut other = label.clone();
+    match turn % 7 {
+        0 => add_category(random, &mut other, &label),
+        1 => lack_category(random, &mut other, &label),
+        2 => other.level = label.level.wrapping_add(1),
+        3 => other.level = label.level.wrapping_sub(1),
+        4 => other = HeldLabel::empty(label.domain, label.level),
+        5 => other = held(label.domain, label.level, &[Run { low: 0, high: HIGHEST_CATEGORY }]),
+        _ => {
+            add_category(random, &mut other, &label);
+            other.level = random_level(random);
+        }
+    }
+    // Both lie in the port's range.
+    case.leaving.lowest = HeldLabel::empty(label.domain, 0);
+    case.leaving.highest = held(label.domain, 255, &[Run { low: 0, high: HIGHEST_CATEGORY }]);
+    face_unlabelled(&mut case.leaving, &other);
+    if turn % 2 == 0 && case.arriving.domain == case.leaving.domain {
+        // The arriving port's default label would be the equal one.
+        face_unlabelled(&mut case.arriving, &label);
+    }
+    forward_case(wide.draft, random)
+}
+
+/// A set of over 120 runs equals no default label, not even one with its first 120 runs.
+pub fn wide_forward_over_large_default(random: &mut Random, turn: usize, _number: u8) -> Made {
+    let (mut draft, pieces) = over_large_draft(random, turn);
+    let domain = draft.case.leaving.domain;
+    let meant = draft.label.label().expect("it is well formed");
+    let level = draft.case.table.sound().and_then(|table| table.renumber(&meant)).map_or(0, |set| set.level);
+    let kept = pieces.len().min(MAX_RUNS);
+    let first = if turn % 3 == 2 { pieces.len() - kept } else { 0 };
+    face_unlabelled(&mut draft.case.leaving, &held(domain, level, &pieces[first..first + kept]));
+    forward_case(draft, random)
+}
+
 /// What permits a spelling of the leaving label, and what does not, at either port. The leaving port's set alone decides.
 fn permit(random: &mut Random, wide: &mut WideForward, turn: usize, may: bool) {
     let label = match wide.draft.leaving_label.as_ref().and_then(|label| label.label()) {
@@ -326,6 +434,10 @@ struct WideDeliver {
 fn wide_delivery(random: &mut Random, wish: &Wish, on: bool) -> WideDeliver {
     let mut draft = deliver_draft(random, wish);
     draft.case.port.spellings = any_spellings(random);
+    if random.chance(1, 6) {
+        let default = random.pick(&[draft.case.port.lowest.clone(), draft.case.port.highest.clone(), draft.label.clone()]);
+        face_unlabelled(&mut draft.case.port, &default);
+    }
     let marking = mark(random, &mut draft.datagram, &mut draft.case.port, None, (on, false));
     WideDeliver { draft, marking }
 }
@@ -379,6 +491,12 @@ pub fn wide_deliver_unsound(random: &mut Random, turn: usize, _number: u8) -> Ma
         Some(1) => break_port(random, &mut wide.draft.case.port, 3 * ILL_FORMED + turn),
         Some(_) => break_host(random, &mut wide.draft.case.host, turn),
     }
+    deliver_case(wide.draft, random)
+}
+
+pub fn wide_deliver_unsound_default(random: &mut Random, turn: usize, _number: u8) -> Made {
+    let mut wide = wide_delivery(random, &Wish { rich: true, ..ANY }, turn % 2 == 0);
+    break_default(random, &mut wide.draft.case.port, turn);
     deliver_case(wide.draft, random)
 }
 

@@ -1,4 +1,4 @@
-// The Basic Security option: the option alone over all its octets, and vectors of wide ports.
+// The Basic Security option alone over all its octets, and vectors of wide ports.
 
 use crate::basic::{read_alone, write_alone, Marking, BASIC_SECURITY, LEVELS, MAX_FLAGS};
 use crate::cases::line_of;
@@ -146,7 +146,35 @@ fn wide_ports(tally: &mut Tally) {
     check("2 before the refusal by name", line(&unsound), "2 0 -");
 }
 
+/// Wish 6: a leaving port with the default label of level 3 and no categories.
+fn default_labels(tally: &mut Tally) {
+    let unlabelled = "04 01 00000005030000";
+    let mut check = |what: &str, found: String, expected: &str| tally.equal(what, found, expected.to_string());
+    check("an empty area", forward(OFF, unlabelled, ""), "0 ");
+    check("no option 134 leaves", forward(OFF, unlabelled, "860a00000005 01040003 0101"), "0 ");
+    check("kept options leave", forward(OFF, unlabelled, "0703 00 860a00000005 01040003 8802 00"), "0 0703008802000000");
+    check("another spelling of the label", forward(OFF, unlabelled, "860b00000005 0105000300 00"), "0 ");
+    check("another level", forward(OFF, unlabelled, "860a00000005 01040004 0000"), "17 3 9 0");
+    check("a category fewer", forward(OFF, "04 01 00000005030101 00000000", ""), "2 0 0 0");
+    check("out of range", forward(OFF, "04 01 000000050a0000", ""), "2 0 0 0");
+    check("out of range at the arriving port", forward("04 01 000000050a0000", OFF, ""), "2 0 0 0");
+    check("of another domain", forward(OFF, "04 01 00000006030000", ""), "2 0 0 0");
+    check("no default label", forward(OFF, "04 01 00000000000000", ""), "2 0 0 0");
+    check("a default label on a labelled port", forward(OFF, "04 00 00000005030000", ""), "2 0 0 0");
+    check("all zero on a labelled port", forward(OFF, "04 00 00000000000000", ""), "0 860a00000005010400030000");
+    check("the arriving port's default label", forward("04 01 00000005040000", OFF, ""), "0 860a00000005010400030000");
+    check("unlabelled is 2", forward(OFF, "04 02 00000005030000", ""), "BROKEN");
+    let both = format!("05 01 {} {} 01 00000005030000", SECRET_0, SECRET_0);
+    check("the option 130 is kept", forward(&both, &both, "82035a01"), "0 82035a00");
+    check("21 before 17", forward(OFF, &both, "860a00000005 01040004 0000"), "21 3 9 0");
+    check("no spelling is permitted", forward(OFF, "06 00 01 00000005030000", ""), "2 0 0 0");
+    check("entry 12", line(&format!("0c 01 01 {} {} 00 00 0000 ee", PORT, unlabelled)), "NAMED 0 -");
+    let whole = format!("0f {} 00 {} {} {} {} 00 0029 ee", PORT, PORT, unlabelled, NO_TABLE, QUIET);
+    check("the whole line", line(&whole), &format!("0 0 0 0 0 5 3 0 {}ee", "00".repeat(40)));
+}
+
 pub fn basic(tally: &mut Tally) {
     option_alone(tally);
     wide_ports(tally);
+    default_labels(tally);
 }

@@ -20,13 +20,18 @@ is-off-requires c κs = search needs
 some-requires : tie.Need-some-requires
 some-requires c κs = search needs
 
+is-zero-requires-4 : tie.Need-is-zero-requires-4
+is-zero-requires-4 c κs = search needs
+
 returns : tie.Need-returns
 unfolding zeroPort
 returns c =
-    let off = c .before .before .before .before in
+    let unset = c .before .before .before in
+    let some = unset .before .before in
+    let off = some .before .before in
     let given = off .before .before in
-    rw (given .before .before .is-zero .ensures, given .before .is-zero2 .ensures, given .is-zero3 .ensures, off .is-off .ensures, c .before .before .some .ensures) refl
+    rw (given .before .before .is-zero .ensures, given .before .is-zero2 .ensures, given .is-zero3 .ensures, off .is-off .ensures, some .some .ensures, unset .is-zero4 .ensures) refl
 
 pub port-zero-spec : {M : Type 1} → statement M
 port-zero-spec =
-    tie.close (tie.spec is-zero-requires is-zero-requires-2 is-zero-requires-3 is-off-requires some-requires returns)
+    tie.close (tie.spec is-zero-requires is-zero-requires-2 is-zero-requires-3 is-off-requires some-requires is-zero-requires-4 returns)
