@@ -3,3 +3,4 @@ pub mod Decides
 pub mod Unrouted
 pub mod Gone
 pub mod Theorems
+pub mod Demands
