@@ -69,7 +69,7 @@ module _ (b : Routing) (e : boxSound b ≡ true) where
   pairBy r = between (arrivingPort b) (portAt (b .ports) (r .port)) (b .tables) (b .facts) (b .area) (b .room)
 
   -- no record that the two-port decision reads is unsound
-  records-none : (r : Route) → chosen b ≡ By r → records (pairBy r) ≡ none
+  pub records-none : (r : Route) → chosen b ≡ By r → records (pairBy r) ≡ none
   unfolding records
   records-none r c =
       let t = first-table .sound (arrivingPort b .domain) (portAt (b .ports) (r .port) .domain) (usedTables (b .tables)) tables-of in

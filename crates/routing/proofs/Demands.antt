@@ -41,7 +41,7 @@ sizes-real b = go (badArea (b .area) || ltb (b .room) 40)
     go true = λ z. omega arith
     go false = tt
 
-passes-of : (b : Routing) → routingOf b .number ≡ 0 → Passing b
+pub passes-of : (b : Routing) → routingOf b .number ≡ 0 → Passing b
 passes-of b z = by-set (boxSound b) refl
   where
     number : {d e : Decision} → d ≡ e → d .number ≡ 0 → e .number ≡ 0

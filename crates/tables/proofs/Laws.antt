@@ -4,13 +4,17 @@ use mathlib.Core.Bool.{Bool, true, false, cond, _&&_}
 use mathlib.Core.List.{List, [], _∷_}
 use Prim.Native.Nat.{ℕ, zero, suc, _+_, _<_, _≤_}
 use native.Mathlib.Omega.{arith}
-use lib.ListN.{length, take, drop, getD, drop-of-length-le}
+use lib.ListN.{length, take, drop, getD, length-take, drop-of-length-le}
 use Rattle.table.specs.Table.{tableSound}
-use Rattle.table.proofs.Levels.{next-there, none-there}
+use Rattle.table.proofs.Levels.{next-there}
 use Rattle.filetable.specs.declared.Renumbering.{Renumbering}
 use Rattle.filetable.specs.TableFormat.{levelsOf}
 use Rattle.fileset.proofs.Sets.{outTable}
 use Rattle.tables.specs.Tables.{allTablesSound, isFor, noTableFrom, firstTable}
+
+-- past the last that is there
+none-there : {A : Type 0} (l : List A) (n i : ℕ) → length l ≤ i → drop i (take n l) ≡ []
+none-there l n i h = drop-of-length-le (take n l) {i = i} (simp length-take (omega arith))
 
 at-most : (n : ℕ) (rs : List Renumbering) → length (take n rs) ≤ n
 at-most zero rs = omega arith
