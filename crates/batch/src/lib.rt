@@ -178,7 +178,7 @@ fn capped(n: u8) -> usize
 // The first five octets of a slot.
 fn put_head(d: Decision, slot: &mut [u8])
     requires { ⌜ length (now slot) ≡ 64 ⌝ }
-    ensures { λ _. ⌜ now (slot .exit) ≡ withHead d (now (slot .entry)) ⌝ }
+    ensures { λ _. ⌜ (now (slot .exit) ≡ withHead d (now (slot .entry))) × (length (now (slot .exit)) ≡ 64) ⌝ }
 {
     slot[0] = d.number;
     slot[1] = d.kind;

@@ -76,8 +76,8 @@ returns c =
           (k .capped .ensures .3)
           (f .forward .ensures .0)
           (f .forward .ensures .1)
-          (p .put-head .ensures),
-      omega (arith, c .before .slot2 .given),
+          (p .put-head .ensures .0),
+      p .put-head .ensures .1,
     )
 
 pub forward-one-spec : {M : Type 1} → statement M

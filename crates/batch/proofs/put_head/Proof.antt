@@ -27,7 +27,7 @@ same-length : tie.Need-same-length
 same-length c = search needs
 
 returns : tie.Need-returns
-returns c = search needs
+returns c = (search needs, simp length-set (omega arith))
 
 pub put-head-spec : {M : Type 1} → statement M
 put-head-spec =
