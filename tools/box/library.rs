@@ -86,6 +86,7 @@ pub fn words(number: u8) -> &'static str {
         19 => "bad option 130",
         20 => "option 130 missing",
         21 => "outside the 130 range",
+        22 => "no route",
         _ => "a number that this box has no words for",
     }
 }

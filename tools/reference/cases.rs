@@ -22,6 +22,8 @@
 //   15 forward     wide port, wide port, wide table, facts, n (1), n octets, output     as 6
 //   16 deliver     wide port, host, facts, n (1), n octets                  as 7
 //   17 spell       label, spellings (1), output                             as 4
+//   18 in a box    ports (1, at most 64), that many wide ports, tables (1, at most 8), that many wide tables, routes (2, at most 256),
+//                  that many routes, arriving port (1), destination (4), facts, n (1), n octets, output       as 6
 //   22 reverse          wide table, room (2, at most 1024 rows)             number, from, to, pair count, each pair, row count, each row
 //   24 bitmap    n (1), n octets                                            number, count, low and high of each run
 //
@@ -39,6 +41,7 @@
 //                 4 default label: unlabelled (1), label
 //   wide table    from (4), to (4), level pair count (2), stored (2, at most 16), that many pairs (1 + 1),
 //                 row count (2), lent (2, at most 64), that many rows of low (2), high (2), target low (2)
+//   route    prefix (4), length (1), port (1), domain (4)
 //   output   length (2, at most 512, in entries 11 and 12 at most 65535), the octet that fills it (1)
 //
 // Places that are not stored are 0. Counts are free: a count over its limit is what the entries must refuse.
@@ -46,12 +49,13 @@
 use std::io::{self, Read, Write};
 
 use crate::basic::{self, BasicRecord, Marking, WayRecord, MAX_FLAG_FIELDS};
-use crate::decision::{deliver, forward, Decision, Facts};
+use crate::decision::{deliver, forward, forward_in_box, Decision, Facts};
 use crate::entries::{Entries, BASIC_GROUP, DEFAULT_GROUP, GROUPS, SPELLINGS_GROUP};
 use crate::file::{self, Refusal, SetRecord, Unwritten, MAX_PORTS, MAX_TABLES};
 use crate::label::{HeldLabel, Run, MAX_RUNS};
 use crate::option::{read_alone, read_bitmap_alone, spell_alone, ALL_SPELLINGS, PLAIN_SPELLINGS};
 use crate::records::{renumber_alone, reverse, HostRecord, PortRecord, Row, TableRecord, MAX_LEVEL_PAIRS, MAX_ROWS};
+use crate::routes::{BoxRecord, Route, MAX_BOX_PORTS, MAX_BOX_TABLES, MAX_ROUTES};
 
 pub const CONTAINS: u8 = 1;
 pub const WITHIN: u8 = 2;
@@ -70,6 +74,7 @@ pub const WRITE_BASIC: u8 = 14;
 pub const FORWARD_WIDE: u8 = 15;
 pub const DELIVER_WIDE: u8 = 16;
 pub const SPELL_PERMITTED: u8 = 17;
+pub const IN_BOX: u8 = 18;
 pub const REVERSE: u8 = 22;
 pub const BITMAP: u8 = 24;
 
@@ -104,6 +109,16 @@ pub struct DeliverCase {
 }
 
 #[derive(Clone)]
+pub struct BoxCase {
+    pub records: BoxRecord,
+    pub arriving: u8,
+    pub destination: u32,
+    pub facts: Facts,
+    pub area: Vec<u8>,
+    pub output: Output,
+}
+
+#[derive(Clone)]
 pub enum Case {
     Contains(HeldLabel, u16),
     Within(HeldLabel, HeldLabel),
@@ -122,6 +137,7 @@ pub enum Case {
     ForwardWide(Box<ForwardCase>),
     DeliverWide(Box<DeliverCase>),
     SpellPermitted(HeldLabel, u8, Output),
+    InBox(Box<BoxCase>),
     Reverse(TableRecord, usize),
     Bitmap(Vec<u8>),
 }
@@ -319,6 +335,31 @@ impl<'a> Fields<'a> {
         })
     }
 
+    fn route(&mut self) -> Option<Route> {
+        Some(Route { prefix: self.four()?, length: self.one()?, port: self.one()?, domain: self.four()? })
+    }
+
+    fn several<T>(&mut self, count: usize, take: impl Fn(&mut Self) -> Option<T>) -> Option<Vec<T>> {
+        (0..count).map(|_| take(self)).collect()
+    }
+
+    fn in_box(&mut self) -> Option<BoxCase> {
+        let ports = self.stored(MAX_BOX_PORTS)?;
+        let ports = self.several(ports, Fields::wide_port)?;
+        let tables = self.stored(MAX_BOX_TABLES)?;
+        let tables = self.several(tables, Fields::wide_table)?;
+        let routes = self.long_stored(MAX_ROUTES)?;
+        let routes = self.several(routes, Fields::route)?;
+        Some(BoxCase {
+            records: BoxRecord { ports, tables, routes },
+            arriving: self.one()?,
+            destination: self.four()?,
+            facts: self.facts()?,
+            area: self.counted_octets()?,
+            output: self.output()?,
+        })
+    }
+
     fn deliver_wide(&mut self) -> Option<DeliverCase> {
         Some(DeliverCase { port: self.wide_port()?, host: self.host()?, facts: self.facts()?, area: self.counted_octets()? })
     }
@@ -349,6 +390,7 @@ pub fn parse(octets: &[u8], entries: &Entries) -> Option<Case> {
         FORWARD_WIDE => Case::ForwardWide(Box::new(fields.forward_wide()?)),
         DELIVER_WIDE => Case::DeliverWide(Box::new(fields.deliver_wide()?)),
         SPELL_PERMITTED => Case::SpellPermitted(fields.label()?, fields.spellings()?, fields.output()?),
+        IN_BOX => Case::InBox(Box::new(fields.in_box()?)),
         REVERSE => Case::Reverse(fields.wide_table()?, fields.long_stored(MAX_ROOM)?),
         BITMAP => Case::Bitmap(fields.counted_octets()?),
         _ => return None,
@@ -528,6 +570,29 @@ impl Encoder {
         self.output(case.output);
     }
 
+    pub fn in_box(&mut self, case: &BoxCase) {
+        let BoxRecord { ports, tables, routes } = &case.records;
+        self.octets.push(ports.len() as u8);
+        for port in ports {
+            self.wide_port(port);
+        }
+        self.octets.push(tables.len() as u8);
+        for table in tables {
+            self.wide_table(table);
+        }
+        self.two(routes.len() as u16);
+        for route in routes {
+            self.four(route.prefix);
+            self.octets.extend([route.length, route.port]);
+            self.four(route.domain);
+        }
+        self.octets.push(case.arriving);
+        self.four(case.destination);
+        self.flags(&case.facts.listed());
+        self.counted_octets(&case.area);
+        self.output(case.output);
+    }
+
     fn deliver_wide(&mut self, case: &DeliverCase) {
         self.wide_port(&case.port);
         self.host(&case.host);
@@ -616,6 +681,10 @@ pub fn encode(case: &Case, spare: usize) -> Vec<u8> {
             encoder.label(label);
             encoder.octets.push(*spellings);
             encoder.output(*output);
+        }
+        Case::InBox(case) => {
+            encoder.octets.push(IN_BOX);
+            encoder.in_box(case);
         }
         Case::Reverse(table, room) => {
             encoder.octets.push(REVERSE);
@@ -789,6 +858,12 @@ pub fn answer(case: &Case) -> String {
         Case::Forward(case) | Case::ForwardFacts(case) | Case::ForwardWide(case) => {
             let mut octets = vec![case.output.fill; case.output.length];
             let decision = forward(&case.arriving, &case.leaving, &case.table, &case.facts, &case.area, &mut octets);
+            line.decision(&decision);
+            line.output(&octets);
+        }
+        Case::InBox(case) => {
+            let mut octets = vec![case.output.fill; case.output.length];
+            let decision = forward_in_box(&case.records, case.arriving, case.destination, &case.facts, &case.area, &mut octets);
             line.decision(&decision);
             line.output(&octets);
         }

@@ -1,19 +1,22 @@
 // The two jobs: forward and deliver.
 //
 // Document 01, "The order of checks, and each number". "The lowest number wins": the checks stand in the order of their numbers, save that
-// document 02 adds "numbers 19, 20 and 21 after 13, in that order".
+// document 02 adds "numbers 19, 20 and 21 after 13, in that order", and 22 "after 15".
 
 use crate::area::{build, size_fits, walk, Walk};
 use crate::basic::{self, Marking, BASIC_SECURITY};
 use crate::label::{HeldLabel, Label};
 use crate::option::{fault, read, spell, Fault, CIPSO, MAX_OCTETS};
-use crate::records::{HostRecord, Port, PortRecord, TableRecord};
+use crate::records::{HostRecord, Port, PortRecord, Table, TableRecord};
+use crate::routes::BoxRecord;
 
 /// "Pointers count from the header's start: 20 plus the offset in the area."
 const HEADER_OCTETS: usize = 20;
 /// "Gateway code is 9, host code 10."
 const GATEWAY_CODE: u8 = 9;
 const HOST_CODE: u8 = 10;
+/// "No matching route is 22, 3/0/0".
+const NO_ROUTE_CODE: u8 = 0;
 
 const PARAMETER_PROBLEM: u8 = 12;
 const UNREACHABLE: u8 = 3;
@@ -76,6 +79,7 @@ fn report_of(fault: Fault, job_code: u8) -> (u8, u8, u8) {
         6 => (PARAMETER_PROBLEM, OPTION_MISSING, CIPSO),
         20 => (PARAMETER_PROBLEM, OPTION_MISSING, BASIC_SECURITY),
         14..=18 | 21 => (UNREACHABLE, job_code, 0),
+        22 => (UNREACHABLE, NO_ROUTE_CODE, 0),
         _ => (0, 0, 0),
     }
 }
@@ -127,56 +131,41 @@ fn arrive<'a>(area: &'a [u8], port: &Port) -> Result<Arrival<'a>, Fault> {
     Ok(Arrival { label, marking, met })
 }
 
-/// The leaving label and the leaving area, or the first refusal.
-fn decide_forward(
-    arriving: &PortRecord,
-    leaving: &PortRecord,
-    table: Option<&TableRecord>,
-    area: &[u8],
-    output_length: usize,
-) -> Result<(Label, Vec<u8>), Fault> {
-    // 1: "area over 40 octets or not a multiple of 4; on forward, output under 40 octets".
-    if !size_fits(area) || output_length < MAX_OCTETS {
-        return refuse(1);
+/// The label for the leaving port. "With equal port domains the table isn't read and the label stays." None for 16: "table's domains aren't
+/// the two ports', or a level or category has no number"; wish 1: "no table where one is read"; wish 7: "no table for differing domains".
+fn leaving_label(label: Label, arriving: &Port, leaving: &Port, table: Option<&Table>) -> Option<Label> {
+    if arriving.domain == leaving.domain {
+        return Some(label);
     }
-    // 2: "a record that is read is unsound". "Forward reads both ports, and the table when their domains differ".
-    let (arriving, leaving) = match (arriving.sound(), leaving.sound()) {
-        (Some(arriving), Some(leaving)) => (arriving, leaving),
-        _ => return refuse(2),
-    };
-    let domains_differ = arriving.domain != leaving.domain;
-    let table = match table {
-        Some(table) if domains_differ => match table.sound() {
-            Some(table) => Some(table),
-            None => return refuse(2),
-        },
-        _ => None,
-    };
+    let table = table?;
+    if table.from != arriving.domain || table.to != leaving.domain {
+        return None;
+    }
+    table.renumber(&label)
+}
+
+/// Checks 3 to 22 between sound records: the leaving label and the leaving area, or the first refusal. There is no leaving port where no
+/// route matches, and the table is read where the domains differ.
+fn cross(arriving: &Port, leaving: Option<&Port>, table: Option<&Table>, area: &[u8]) -> Result<(Label, Vec<u8>), Fault> {
     // 3 to 13, 19 and 20.
-    let Arrival { label, marking, met } = arrive(area, &arriving)?;
-    // 21: "level or flags out of range at either port".
-    if !arriving.receives(marking.as_ref()) || !leaving.sends(marking.as_ref()) {
+    let Arrival { label, marking, met } = arrive(area, arriving)?;
+    // 21: "level or flags out of range at either port". "without a route, 21 tests the arriving port only".
+    if !arriving.receives(marking.as_ref()) || !leaving.map_or(true, |leaving| leaving.sends(marking.as_ref())) {
         return refuse(21);
     }
     // 14: "outside the arriving port's range".
     if !arriving.in_range(&label) {
         return refuse(14);
     }
-    // 16: "forward, domains differ: table's domains aren't the two ports', or a level or category has no number". "With equal port
-    // domains the table isn't read and the label stays."
-    let label = match table {
-        None if !domains_differ => label,
-        // Wish 1: "no table where one is read: 16".
+    // 22: "No matching route".
+    let leaving = match leaving {
+        Some(leaving) => leaving,
+        None => return refuse(22),
+    };
+    // 16.
+    let label = match leaving_label(label, arriving, leaving, table) {
+        Some(label) => label,
         None => return refuse(16),
-        Some(table) => {
-            if table.from != arriving.domain || table.to != leaving.domain {
-                return refuse(16);
-            }
-            match table.renumber(&label) {
-                Some(renumbered) => renumbered,
-                None => return refuse(16),
-            }
-        }
     };
     // Wish 6: "forwarded exactly when its renumbered label equals the default label; otherwise 17. No option 134 is written [...]; the
     // kept options always fit, so 18 isn't given". A set of over 120 runs equals no label.
@@ -203,6 +192,64 @@ fn decide_forward(
     }
 }
 
+/// Check 1 of a forward: "area over 40 octets or not a multiple of 4; on forward, output under 40 octets".
+fn forward_sizes_fit(area: &[u8], output_length: usize) -> bool {
+    size_fits(area) && output_length >= MAX_OCTETS
+}
+
+/// The decision between two ports.
+fn decide_forward(
+    arriving: &PortRecord,
+    leaving: &PortRecord,
+    table: Option<&TableRecord>,
+    area: &[u8],
+    output_length: usize,
+) -> Result<(Label, Vec<u8>), Fault> {
+    // 1.
+    if !forward_sizes_fit(area, output_length) {
+        return refuse(1);
+    }
+    // 2: "a record that is read is unsound". "Forward reads both ports, and the table when their domains differ".
+    let (arriving, leaving) = match (arriving.sound(), leaving.sound()) {
+        (Some(arriving), Some(leaving)) => (arriving, leaving),
+        _ => return refuse(2),
+    };
+    let domains_differ = arriving.domain != leaving.domain;
+    let table = match table {
+        Some(table) if domains_differ => match table.sound() {
+            Some(table) => Some(table),
+            None => return refuse(2),
+        },
+        _ => None,
+    };
+    // 3 to 18.
+    cross(&arriving, Some(&leaving), table.as_ref(), area)
+}
+
+/// The decision in a box: "each decision equals the two-port decision for the chosen pair, with the first table for that pair of domains".
+fn decide_in_box(
+    records: &BoxRecord,
+    arriving: u8,
+    destination: u32,
+    area: &[u8],
+    output_length: usize,
+) -> Result<(Label, Vec<u8>), Fault> {
+    // 1 comes first, as for two ports.
+    if !forward_sizes_fit(area, output_length) {
+        return refuse(1);
+    }
+    // 2: every record is read.
+    let sound = match records.sound(arriving) {
+        Some(sound) => sound,
+        None => return refuse(2),
+    };
+    let arriving = &sound.ports[arriving as usize];
+    let leaving = sound.leaving(destination);
+    let table = leaving.and_then(|leaving| sound.table(arriving.domain, leaving.domain));
+    // 3 to 22.
+    cross(arriving, leaving, table, area)
+}
+
 /// "forward (gateway, two ports)". "Octets from the count to 39 are 0, octets from 40 on are unchanged." A refusal writes nothing.
 pub fn forward<'a>(
     arriving: &PortRecord,
@@ -212,7 +259,18 @@ pub fn forward<'a>(
     area: &[u8],
     output: &mut [u8],
 ) -> Decision {
-    match decide_forward(arriving, leaving, table.into(), area, output.len()) {
+    let decision = decide_forward(arriving, leaving, table.into(), area, output.len());
+    carry_out(decision, facts, output)
+}
+
+/// The gateway's job in a box of many ports.
+pub fn forward_in_box(records: &BoxRecord, arriving: u8, destination: u32, facts: &Facts, area: &[u8], output: &mut [u8]) -> Decision {
+    let decision = decide_in_box(records, arriving, destination, area, output.len());
+    carry_out(decision, facts, output)
+}
+
+fn carry_out(decision: Result<(Label, Vec<u8>), Fault>, facts: &Facts, output: &mut [u8]) -> Decision {
+    match decision {
         Err(fault) => refused(fault, GATEWAY_CODE, facts),
         Ok((label, octets)) => {
             output[..MAX_OCTETS].fill(0);

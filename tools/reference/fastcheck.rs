@@ -8,6 +8,7 @@ use crate::file::SetRecord;
 use crate::generator::Generator;
 use crate::label::{HeldLabel, Run};
 use crate::records::{PortRecord, TableRecord};
+use crate::routes::Route;
 
 fn label(held: &HeldLabel) -> fast::Label {
     let runs = held.places.map(|run| fast::Run { low: run.low, high: run.high });
@@ -107,6 +108,17 @@ fn add_label(line: &mut Line, returned: &fast::Label) {
     }
 }
 
+fn add_decision(line: &mut Line, decision: &fast::Decision) {
+    for number in [decision.number, decision.icmp_type, decision.icmp_code, decision.pointer, decision.count] {
+        line.number(number as usize);
+    }
+    add_label(line, &decision.label);
+}
+
+fn route(record: &Route) -> fast::boxes::Route {
+    fast::boxes::Route { prefix: record.prefix, length: record.length, port: record.port, domain: record.domain }
+}
+
 /// The fast variant's line, or none for an entry that it doesn't have.
 fn answer(case: &Case) -> Option<String> {
     let mut line = Line::new();
@@ -134,10 +146,18 @@ fn answer(case: &Case) -> Option<String> {
             let mut octets = vec![case.output.fill; case.output.length];
             let (arriving, leaving, table) = (port(&case.arriving), port(&case.leaving), table(&case.table));
             let decision = fast::forward(&arriving, &leaving, &table, case.facts.silence(), &case.area, &mut octets);
-            for number in [decision.number, decision.icmp_type, decision.icmp_code, decision.pointer, decision.count] {
-                line.number(number as usize);
-            }
-            add_label(&mut line, &decision.label);
+            add_decision(&mut line, &decision);
+            line.output(&octets);
+        }
+        Case::InBox(case) => {
+            let mut octets = vec![case.output.fill; case.output.length];
+            let ports: Vec<fast::Port> = case.records.ports.iter().map(port).collect();
+            let tables: Vec<fast::Table> = case.records.tables.iter().map(table).collect();
+            let routes: Vec<fast::boxes::Route> = case.records.routes.iter().map(route).collect();
+            let silenced = case.facts.silence();
+            let decision =
+                fast::boxes::forward_in_box(&ports, &tables, &routes, case.arriving, case.destination, silenced, &case.area, &mut octets);
+            add_decision(&mut line, &decision);
             line.output(&octets);
         }
         Case::ReadFile(octets) => match read_file(octets) {

@@ -5,7 +5,7 @@
 //   decision              forward and deliver        cases      calls read from octets, answered in lines
 //   sample                the sample program's job   fast       the same answers, written for speed
 //   file                  the house file             entries    which calls are built
-//   basic                 one Basic Security option
+//   basic                 one Basic Security option  routes     a box of many ports
 //
 // The other files generate cases and compare answers.
 
@@ -23,6 +23,7 @@ mod generator;
 mod label;
 mod option;
 mod records;
+mod routes;
 mod sample;
 mod selfcheck;
 

@@ -20,7 +20,7 @@ use Rattle.basic.specs.Alone.{basicFound, basicReading, flagOctetsFor, b
 use Rattle.basic.specs.declared.Way.{Way}
 use Rattle.basic.specs.Settings.{atMost, waySound, passesWay}
 use Rattle.basic.specs.Examples.{examples, Read, Written}
-use Rattle.basic.specs.Theorems.{FourLevels, ReadsBasic, OneMeaning, Shortest, WritesBasic, Permitted, PassesExactly}
+use Rattle.basic.specs.Theorems.{FourLevels, ReadsBasic, OneMeaning, ShortestBasic, WritesBasic, BasicPermitted, PassesExactly}
 use Rattle.basic.proofs.Levels.{rule, level-octet, level-rank, is-level, rank-told, levels-apart}
 use Rattle.basic.proofs.Form.{Form, bare, one, two, form, bare-valid, one-valid, two-valid}
 use Rattle.basic.proofs.Settings.{among-says, among-said}
@@ -156,7 +156,7 @@ no-other v f o (two {x = x} {y = y} l e g) m (both-octets d) h =
     let r : y ≡ f % 128 * 2 = omega (arith, m .flags) in
     (λ i. 130 ∷ 5 ∷ m .level i ∷ q i ∷ r i ∷ []) ∙ sym (option-two v f d)
 
-one-shortest : (v f : ℕ) → writable v f ≡ true → Shortest (basicOption v f) v f
+one-shortest : (v f : ℕ) → writable v f ≡ true → ShortestBasic (basicOption v f) v f
 one-shortest v f w =
     record {
       means = written v f w;
@@ -268,7 +268,7 @@ module _ (w : Way) (v f : ℕ) (sound : waySound w ≡ true) where
   used : length (take (w .count) (w .flags)) ≡ min (w .count) (length (w .flags))
   used = length-take (w .count) (w .flags)
 
-  permitted : passesWay w v f ≡ true → Permitted w v f
+  permitted : passesWay w v f ≡ true → BasicPermitted w v f
   unfolding passesWay
   permitted e =
       let r = and-right (atMost (w .lowest) v) _ e in
@@ -279,7 +279,7 @@ module _ (w : Way) (v f : ℕ) (sound : waySound w ≡ true) where
       let j : m .0 < length (w .flags) = omega (arith, m .1, used) in
       record { level = l .1; low = l .2; high = h .2; flags = (m .0, i, j, sym (getD-take (w .count) (w .flags) (m .0) 0 i) ∙ m .2) }
 
-  passes : Permitted w v f → passesWay w v f ≡ true
+  passes : BasicPermitted w v f → passesWay w v f ≡ true
   unfolding passesWay
   passes p =
       let k = p .flags .0 in

@@ -47,7 +47,7 @@ OneMeaning =
     → MeanTheSame o p ↔ ((basicLevel o ≡ basicLevel p) × (basicFlags o ≡ basicFlags p))
 
 -- the option is valid, means the level and the flags, and every other that does is longer
-pub record Shortest (s : List ℕ) (v f : ℕ) : Type 0 where
+pub record ShortestBasic (s : List ℕ) (v f : ℕ) : Type 0 where
   pub means : BasicMeans s v f
   pub shortest : (o : List ℕ) → BasicMeans o v f → length s ≤ length o
   pub only : (o : List ℕ) → BasicMeans o v f → length o ≤ length s → o ≡ s
@@ -56,7 +56,7 @@ pub record Shortest (s : List ℕ) (v f : ℕ) : Type 0 where
 pub record WritesBasic : Type 0 where
   -- a level and flags can be written exactly when some valid option means them; what is written then is the shortest that does
   pub exactly : (v f : ℕ) → (writable v f ≡ false) ↔ ((o : List ℕ) → BasicMeans o v f → ⊥)
-  pub shortest : (v f : ℕ) → writable v f ≡ true → Shortest (basicOption v f) v f
+  pub shortest : (v f : ℕ) → writable v f ≡ true → ShortestBasic (basicOption v f) v f
   -- read alone, it gives level and flags back
   pub back : (v f : ℕ) → writable v f ≡ true → basicReading (basicOption v f) ≡ basicFound v f
   -- an output of at least 5 octets gets it in front, and its count; the octets behind it stay
@@ -74,7 +74,7 @@ pub record WritesBasic : Type 0 where
 
 -- a level and a flag field are permitted one way: the level is one of the four with a rank from that of the lowest to that of the highest, and
 -- the flag field stands, whole, in one of its first `count` places
-pub record Permitted (w : Way) (v f : ℕ) : Type 0 where
+pub record BasicPermitted (w : Way) (v f : ℕ) : Type 0 where
   pub level : isLevel v ≡ true
   pub low : rankOf (w .lowest) ≤ rankOf v
   pub high : rankOf v ≤ rankOf (w .highest)
@@ -82,4 +82,4 @@ pub record Permitted (w : Way) (v f : ℕ) : Type 0 where
 
 -- of settings that are sound
 abbrev pub PassesExactly : Type 0
-PassesExactly = (w : Way) (v f : ℕ) → waySound w ≡ true → (passesWay w v f ≡ true) ↔ Permitted w v f
+PassesExactly = (w : Way) (v f : ℕ) → waySound w ≡ true → (passesWay w v f ≡ true) ↔ BasicPermitted w v f

@@ -161,7 +161,7 @@ fn take_tables(case: &[u8], taken: TakenSet) -> TakenSet {
 }
 
 // Level pairs as a file's set holds them.
-fn pairs_of(levels: [[u8; 2]; 16]) -> [LevelPair; 16] {
+pub fn pairs_of(levels: [[u8; 2]; 16]) -> [LevelPair; 16] {
     let mut pairs = [LevelPair { levels: [0u8; 2] }; 16];
     let mut i: usize = 0;
     while i < 16 {

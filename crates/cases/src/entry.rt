@@ -18,6 +18,7 @@ use case_labels::ask_spell_permitted;
 use case_labels::ask_within;
 use case_labels::ask_write_basic;
 use case_lines::put_broken;
+use case_routing::ask_decide;
 
 // The line of one case.
 pub fn answer(case: &[u8], out: &mut [u8], n: usize) -> usize {
@@ -42,6 +43,7 @@ pub fn answer(case: &[u8], out: &mut [u8], n: usize) -> usize {
         15 => ask_wide_forward(case, at, out, n),
         16 => ask_wide_deliver(case, at, out, n),
         17 => ask_spell_permitted(case, at, out, n),
+        18 => ask_decide(case, at, out, n),
         22 => ask_reverse(case, at, out, n),
         24 => ask_bitmap(case, at, out, n),
         _ => put_broken(out, n),

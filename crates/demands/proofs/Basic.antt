@@ -15,7 +15,7 @@ use Rattle.basic.specs.declared.Way.{Way}
 use Rattle.basic.specs.Option.{BasicMeans}
 use Rattle.basic.specs.Alone.{basicReading}
 use Rattle.basic.specs.Settings.{waySound, passesWay}
-use Rattle.basic.specs.Theorems.{Permitted}
+use Rattle.basic.specs.Theorems.{BasicPermitted}
 use Rattle.basic.proofs.Settings.{on-ways}
 use Rattle.basic.proofs.Theorems.{reads-basic, passes-exactly}
 use Rattle.area.specs.declared.Place.{Place}
@@ -104,7 +104,7 @@ module _ (area : List ℕ) (oct : Octets area) (at : ℕ) (number : basicReading
   means-it = reads-basic .means (optionAt at area) (octets-part (getD area (at + 1) 0) at area (octets-at area oct)) number
 
   pub permits-it : (on : Bool) (way : Way) (o : Option (List ℕ)) → o ≡ some (optionAt at area) → waySound way ≡ true → basicPasses on way o ≡ true
-      → Permitted way (basicReading (optionAt at area) .level) (basicReading (optionAt at area) .flags)
+      → BasicPermitted way (basicReading (optionAt at area) .level) (basicReading (optionAt at area) .flags)
   permits-it on way o e s g =
       passes-exactly way (basicReading (optionAt at area) .level) (basicReading (optionAt at area) .flags) s .0
       (and-right on _ (ap (basicPasses on way) (sym e) ∙ g))
@@ -179,12 +179,12 @@ module _ (p : Port) (area : List ℕ) where
     unfolding arrivingBasic
     octets-is = ap (λ (x : Walk). octetsAt (basicIn x) area) w
 
-    pub way-passes : (on : Bool) (way : Way) → on ≡ true → waySound way ≡ true → Permitted way v f → basicPasses on way (arrivingBasic p area) ≡ true
+    pub way-passes : (on : Bool) (way : Way) → on ≡ true → waySound way ≡ true → BasicPermitted way v f → basicPasses on way (arrivingBasic p area) ≡ true
     way-passes on way e s h =
         let r = reads-basic .back (optionAt at area) v f m in
         (λ i. basicPasses (e i) way (octets-is i)) ∙ ap (λ (x : BasicReading). passesWay way (x .level) (x .flags)) r ∙ passes-exactly way v f s .1 h
 
-    pub on-unbarred : (code : ℕ) → p .basic .on ≡ true → portSound p ≡ true → Permitted (p .basic .receiving) v f → Unbarred p area code
+    pub on-unbarred : (code : ℕ) → p .basic .on ≡ true → portSound p ≡ true → BasicPermitted (p .basic .receiving) v f → Unbarred p area code
     unfolding badBasicCheck missingBasicCheck basicRangeCheck
     on-unbarred code e s h =
         let r = reads-basic .back (optionAt at area) v f m in

@@ -139,7 +139,7 @@ module _ (f : Forwarding) (l : Label) (s : sizes f ≡ none) (r : records f ≡ 
   decision-is = rw checks-are
 
 -- kept options alike have the option 130 alike
-basic-alike : (p q : Port) (a b : List ℕ) (l m : Label) → MeansAt p a l → MeansAt q b m → keptOf a ≡ keptOf b → arrivingBasic p a ≡ arrivingBasic q b
+pub basic-alike : (p q : Port) (a b : List ℕ) (l m : Label) → MeansAt p a l → MeansAt q b m → keptOf a ≡ keptOf b → arrivingBasic p a ≡ arrivingBasic q b
 basic-alike p q a b l m x y k =
     basic-kept p a (At (x .0)) (x .1) (x .2) ∙ ap (λ (ks : List ℕ). basicFrom ks 0) k ∙ sym (basic-kept q b (At (y .0)) (y .1) (y .2))
 

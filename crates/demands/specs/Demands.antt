@@ -12,8 +12,7 @@ use Rattle.label.specs.declared.Label.{Label}
 use Rattle.label.specs.Label.{wellFormed, inRange}
 use Rattle.option.specs.Option.{Octets, Means}
 use Rattle.option.specs.declared.Spellings.{Spellings}
-use Rattle.option.specs.Permitted as spellings
-use Rattle.option.specs.Permitted.{usual}
+use Rattle.option.specs.Permitted.{usual, Permitted}
 use Rattle.option.specs.Spelling.{padded}
 use Rattle.option.specs.Theorems.{Spells, Shortest}
 use Rattle.reading.specs.Reading.{found, readingOf}
@@ -22,7 +21,7 @@ use Rattle.area.specs.declared.Place.{Place}
 use Rattle.area.specs.declared.Place.the-variants.{Nowhere, At}
 use Rattle.area.specs.declared.Walk.the-variants.{Sound}
 use Rattle.basic.specs.Option.{BasicMeans}
-use Rattle.basic.specs.Theorems.{Permitted}
+use Rattle.basic.specs.Theorems.{BasicPermitted}
 use Rattle.leaving.specs.Kept.{keptOf, roundUp, leavingOf}
 use Rattle.port.specs.declared.Port.{Port}
 use Rattle.port.specs.Port.{portSound, hostSound}
@@ -72,7 +71,7 @@ pub data BasicArrives (p : Port) (area : List ℕ) : Type 0 where
       → p .basic .on ≡ true
       → walkAt p area ≡ Sound label (At at)
       → BasicMeans (optionAt at area) v f
-      → Permitted (p .basic .receiving) v f
+      → BasicPermitted (p .basic .receiving) v f
       → BasicArrives p area
 
 -- at both ports of a forwarding: both have it switched off; or both on, and both permit what the option means
@@ -83,8 +82,8 @@ pub data BasicPasses (p q : Port) (area : List ℕ) : Type 0 where
       → q .basic .on ≡ true
       → walkAt p area ≡ Sound label (At at)
       → BasicMeans (optionAt at area) v f
-      → Permitted (p .basic .receiving) v f
-      → Permitted (q .basic .sending) v f
+      → BasicPermitted (p .basic .receiving) v f
+      → BasicPermitted (q .basic .sending) v f
       → BasicPasses p q area
 
 -- a datagram that arrives with label l leaves with label m, spelled as s; toward unlabelled hosts (Wish 6) m is their default label, no spelling is
@@ -190,7 +189,7 @@ pub record AlikeDelivered (d e : Delivery) (l : Label) : Type 0 where
 pub record Demand3 : Type 0 where
   -- given at least 40 octets to write in, every well-formed label is refused a spelling exactly when no permitted option means it
   pub refused : (p : Spellings) (l : Label) (out : List ℕ) → wellFormed l ≡ true → 40 ≤ length out
-      → (spellingAnswer p l (length out) .number ≡ 0 → ⊥) ↔ ((o : List ℕ) → spellings.Permitted p o l → ⊥)
+      → (spellingAnswer p l (length out) .number ≡ 0 → ⊥) ↔ ((o : List ℕ) → Permitted p o l → ⊥)
   -- whatever label the box spells, alone or in a leaving area toward labelled hosts, it writes the shortest permitted option that means it
   pub alone : (p : Spellings) (l : Label) (out : List ℕ) → wellFormed l ≡ true → 40 ≤ length out → spellingAnswer p l (length out) .number ≡ 0
       → (s : List ℕ) × Spells p s l × (spellingAnswer p l (length out) .count ≡ length s) × (take 40 (spellingOut p l out) ≡ padded s)

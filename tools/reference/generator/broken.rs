@@ -2,7 +2,7 @@
 
 use crate::basic::{Marking, LEVELS, MAX_FLAG_FIELDS};
 use crate::cases::{
-    encode, Case, Encoder, Output, BITMAP, CONTAINS, DELIVER, DELIVER_FACTS, DELIVER_WIDE, FORWARD, FORWARD_FACTS, FORWARD_WIDE,
+    encode, Case, Encoder, Output, BITMAP, CONTAINS, DELIVER, DELIVER_FACTS, DELIVER_WIDE, FORWARD, FORWARD_FACTS, FORWARD_WIDE, IN_BOX,
     MAX_OUTPUT, MAX_ROOM, READ, READ_AND_WRITE, READ_BASIC, READ_FILE, RENUMBER, REVERSE, SPELL, SPELL_PERMITTED, WITHIN, WRITE_BASIC,
     WRITE_FILE,
 };
@@ -12,6 +12,7 @@ use crate::label::HeldLabel;
 
 use super::basic::{basic_read, basic_written};
 use super::bitmaps::bitmap_read;
+use super::boxes::{box_forwarded, boxed, Size};
 use super::deliver::delivered;
 use super::drafts::*;
 use super::files::{file_rule_broken, file_written, rich_set, set_written};
@@ -42,6 +43,7 @@ const GOOD: &[(u8, Maker)] = &[
     (FORWARD_WIDE, wide_forwarded),
     (DELIVER_WIDE, wide_delivered),
     (SPELL_PERMITTED, spelled_permitted),
+    (IN_BOX, box_forwarded),
     (REVERSE, reversed),
     (BITMAP, bitmap_read),
 ];
@@ -65,7 +67,33 @@ const LATER_WAYS: &[(u8, Way)] = &[
     (FORWARD_WIDE, bad_wide_forward),
     (DELIVER_WIDE, bad_wide_deliver),
     (SPELL_PERMITTED, bad_spellings),
+    (IN_BOX, long_lists),
+    (IN_BOX, bad_fact_box),
 ];
+
+/// More than 64 ports, 8 tables or 256 routes, though all octets are there.
+fn long_lists(_random: &mut Random, round: usize) -> Vec<u8> {
+    let over = |way: usize, limit: usize| if round % 3 == way { limit + 1 + round / 3 % 2 } else { 1 };
+    let (ports, tables, routes) = (over(0, 64), over(1, 8), over(2, 256));
+    let mut octets = vec![IN_BOX, ports as u8];
+    octets.extend(vec![0; ports * (4 + 3 * 7 + 1 + 1)]);
+    octets.push(tables as u8);
+    octets.extend(vec![0; tables * 16]);
+    octets.extend((routes as u16).to_be_bytes());
+    octets.extend(vec![0; routes * 10]);
+    octets.extend([0; 1 + 4 + 5 + 1]);
+    octets.extend([0, 40, 0]);
+    octets
+}
+
+fn bad_fact_box(random: &mut Random, round: usize) -> Vec<u8> {
+    let case = forward_draft(random, &ANY).finish(random);
+    let after = 1 + case.area.len() + 3;
+    let mut octets = encode(&Case::InBox(Box::new(boxed(random, case, Size::Small))), 0);
+    let fact = octets.len() - after - 1 - round % 5;
+    octets[fact] = [2, 255, 3, 128][round % 4];
+    octets
+}
 
 /// Spellings over 15.
 fn bad_spellings(_random: &mut Random, round: usize) -> Vec<u8> {

@@ -4,13 +4,14 @@
 // the reference gives that answer. So every number of every entry is hit often, whatever the seed. Slots for unsound records and
 // ill-formed labels take the clauses in turn.
 //
-//   labels, reading, bitmaps, files, reverse, forward, deliver, wide, broken     cases of one kind each
+//   labels, reading, bitmaps, files, reverse, forward, deliver, wide, boxes, broken     cases of one kind each
 //   sets, spellings, ranges, tables, drafts, basic     good parts of cases
 //   unsound, faults                             ways to spoil them
 //   sample_records                              records for the sample program
 
 mod basic;
 mod bitmaps;
+mod boxes;
 mod broken;
 mod deliver;
 mod drafts;
@@ -34,14 +35,15 @@ use std::collections::BTreeMap;
 use std::io::{self, Write};
 
 use crate::cases::{
-    encode, line_of, Case, BITMAP, BROKEN, CONTAINS, DELIVER, DELIVER_FACTS, DELIVER_WIDE, FORWARD, FORWARD_FACTS, FORWARD_WIDE, READ,
-    READ_AND_WRITE, READ_BASIC, READ_FILE, RENUMBER, REVERSE, SPELL, SPELL_PERMITTED, WITHIN, WRITE_BASIC, WRITE_FILE,
+    encode, line_of, Case, BITMAP, BROKEN, CONTAINS, DELIVER, DELIVER_FACTS, DELIVER_WIDE, FORWARD, FORWARD_FACTS, FORWARD_WIDE, IN_BOX,
+    READ, READ_AND_WRITE, READ_BASIC, READ_FILE, RENUMBER, REVERSE, SPELL, SPELL_PERMITTED, WITHIN, WRITE_BASIC, WRITE_FILE,
 };
 use crate::decision::Facts;
 use crate::entries::Entries;
 
 use basic::*;
 use bitmaps::*;
+use boxes::*;
 use broken::*;
 use deliver::*;
 use files::*;
@@ -67,6 +69,8 @@ const FORWARD_ANSWERS: &[&str] = &["0", "1", "2", "3", "4", "5", "6", "7", "8", 
 const DELIVER_ANSWERS: &[&str] = &["0", "1", "2", "3", "4", "5", "6", "7", "8", "9", "10", "11", "12", "13", "14", "15"];
 const WIDE_FORWARD_ANSWERS: &[&str] =
     &["0", "1", "2", "3", "4", "5", "6", "7", "8", "9", "10", "11", "12", "13", "14", "16", "17", "18", "19", "20", "21"];
+const BOX_ANSWERS: &[&str] =
+    &["0", "1", "2", "3", "4", "5", "6", "7", "8", "9", "10", "11", "12", "13", "14", "16", "17", "18", "19", "20", "21", "22"];
 const WIDE_DELIVER_ANSWERS: &[&str] =
     &["0", "1", "2", "3", "4", "5", "6", "7", "8", "9", "10", "11", "12", "13", "14", "15", "19", "20", "21"];
 const ANSWERS: &[(u8, &str, &[&str])] = &[
@@ -87,6 +91,7 @@ const ANSWERS: &[(u8, &str, &[&str])] = &[
     (FORWARD_WIDE, "forward", WIDE_FORWARD_ANSWERS),
     (DELIVER_WIDE, "deliver", WIDE_DELIVER_ANSWERS),
     (SPELL_PERMITTED, "spell", &["0", "1", "2", "18"]),
+    (IN_BOX, "in a box", BOX_ANSWERS),
     (REVERSE, "reverse", &["0", "2", "24"]),
     (BITMAP, "bitmap", &["0", "10"]),
 ];
@@ -273,6 +278,33 @@ fn all_slots() -> Vec<Slot> {
         slot(FORWARD_WIDE, 1, "17", wide_forward_over_large_default),
         slot(FORWARD_WIDE, 2, "2", wide_forward_unsound_default),
         slot(DELIVER_WIDE, 1, "2", wide_deliver_unsound_default),
+        slot(IN_BOX, 4, "0", box_forwarded),
+        slot(IN_BOX, 1, "0", box_same_port),
+        slot(IN_BOX, 1, "1", box_wrong_size),
+        slot(IN_BOX, 3, "2", box_unsound),
+        slot(IN_BOX, 1, "3", box_broken),
+        slot(IN_BOX, 1, "4", box_broken),
+        slot(IN_BOX, 1, "5", box_broken),
+        slot(IN_BOX, 1, "6", box_broken),
+        slot(IN_BOX, 1, "7", box_broken),
+        slot(IN_BOX, 1, "8", box_broken),
+        slot(IN_BOX, 1, "9", box_broken),
+        slot(IN_BOX, 1, "10", box_broken),
+        slot(IN_BOX, 1, "11", box_broken),
+        slot(IN_BOX, 1, "12", box_broken),
+        slot(IN_BOX, 1, "13", box_broken),
+        slot(IN_BOX, 1, "19", box_broken),
+        slot(IN_BOX, 1, "20", box_broken),
+        slot(IN_BOX, 2, "21", box_broken),
+        slot(IN_BOX, 1, "21", box_no_route_21),
+        slot(IN_BOX, 2, "14", box_broken),
+        slot(IN_BOX, 3, "22", box_no_route),
+        slot(IN_BOX, 2, "16", box_no_number),
+        slot(IN_BOX, 1, "17", box_broken),
+        slot(IN_BOX, 1, "17", box_other_default),
+        slot(IN_BOX, 1, "18", box_no_room),
+        free_slot(IN_BOX, 1, box_changed),
+        free_slot(IN_BOX, 2, box_several),
         slot(SPELL_PERMITTED, 5, "0", spelled_permitted),
         slot(SPELL_PERMITTED, 1, "1", spell_permitted_short),
         slot(SPELL_PERMITTED, 1, "2", spell_permitted_ill_formed),
@@ -340,6 +372,10 @@ fn with_facts(made: Made, entry: Option<u8>, random: &mut Random, turn: usize) -
         (Made::Case(Case::Deliver(mut case)), Some(DELIVER_FACTS)) => {
             case.facts = facts(random);
             Made::Case(Case::DeliverFacts(case))
+        }
+        (Made::Case(Case::InBox(mut case)), _) => {
+            case.facts = facts(random);
+            Made::Case(Case::InBox(case))
         }
         (Made::Case(Case::Forward(mut case)), Some(FORWARD_WIDE)) => {
             case.facts = facts(random);

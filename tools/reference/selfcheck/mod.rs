@@ -1,6 +1,7 @@
 // Checks of the reference itself: document 01's "Numbers to try", its sample lines, and the points that are easy to misread.
 
 mod basic;
+mod boxes;
 mod files;
 mod permitted;
 mod renumbering;
@@ -403,6 +404,7 @@ pub fn run() -> bool {
     files::files(&mut tally);
     basic::basic(&mut tally);
     permitted::permitted(&mut tally);
+    boxes::boxes(&mut tally);
     renumbering::renumbering(&mut tally);
     walks(&mut tally);
     parsing(&mut tally);

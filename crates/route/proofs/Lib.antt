@@ -1,0 +1,4 @@
+pub mod Laws
+pub mod Keys
+pub mod Longest
+pub mod Examples

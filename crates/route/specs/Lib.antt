@@ -1,0 +1,4 @@
+pub mod Route
+pub mod Stages
+pub mod Theorems
+pub mod Examples

@@ -1,0 +1,4 @@
+pub mod Routing
+pub mod Stages
+pub mod Theorems
+pub mod Demands
