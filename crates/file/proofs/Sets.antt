@@ -33,7 +33,7 @@ use Rattle.filetable.specs.Theorems.{typedPairs, twoEach, renumberingSound}
 use Rattle.filetable.proofs.Soundness.{tables-said, unused-rows, unused-pairs, renumbering-places}
 use Rattle.filetable.proofs.Octets.{table-length}
 use Rattle.fileset.specs.declared.Set.{Set}
-use Rattle.fileset.specs.Set.{noSpelling, noPort, zeroPort, zeroTable, usedPort, unusedPort, usedTable, unusedTable, typed, setSound}
+use Rattle.fileset.specs.Set.{noSpelling, noPort, zeroPort, zeroTable, usedPort, unusedPort, usedTable, unusedTable, typedSet, setSound}
 use Rattle.file.specs.SetFormat.{alike, same, portsFormat, tablesFormat, setOf, setFormat}
 use Rattle.file.specs.Stages.{portOctets, tableOctets}
 use Rattle.file.specs.File.{allPlain, sayable}
@@ -195,7 +195,7 @@ no-table = refl
 
 set-of : (ps : List Port) (ts : List Renumbering) → length ps ≤ 16 → length ts ≤ 8 → Each (λ st a. Sound portFormat a) same 0 ps → Each (λ st a. Sound tableFormat a) same 0 ts
     → setSound (setOf ps ts) ≡ true
-unfolding setSound typed
+unfolding setSound typedSet
 set-of ps ts n m a b =
     rw (
       le-leb (length ps) 16 n,

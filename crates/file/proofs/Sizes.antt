@@ -20,7 +20,7 @@ use Rattle.fileport.specs.PortFormat.{portFormat}
 use Rattle.filetable.specs.declared.Renumbering.{Renumbering}
 use Rattle.filetable.specs.TableFormat.{tableFormat}
 use Rattle.fileset.specs.declared.Set.{Set}
-use Rattle.fileset.specs.Set.{usedPort, unusedPort, usedTable, unusedTable, typed, setSound}
+use Rattle.fileset.specs.Set.{usedPort, unusedPort, usedTable, unusedTable, typedSet, setSound}
 use Rattle.file.specs.SetFormat.{alike, same, portsFormat, tablesFormat, setFormat}
 use Rattle.file.specs.Stages.{portOctets, tableOctets}
 use Rattle.file.specs.File.{fileFormat, totalOf, fileOctets}
@@ -44,7 +44,7 @@ pub record Parts (s : Set) : Type 0 where
   pub table-places : length (s .tables) ≡ 8
 
 pub parts : (s : Set) → setSound s ≡ true → Parts s
-unfolding setSound typed
+unfolding setSound typedSet
 parts s e =
     let a : Bool = leb (s .portcount) 16 in
     let b : Bool = leb (s .tablecount) 8 in

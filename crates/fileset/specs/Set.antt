@@ -54,11 +54,11 @@ unfoldable pub unusedTable : Renumbering → Bool
 unusedTable r = zeroTable (r .table) (levelsOf r) && (eqb (length (r .table .rows)) 64 && typedPairs r)
 
 -- what the types say of every set: 16 and 8 places
-unfoldable pub typed : Set → Bool
-typed s = eqb (length (s .ports)) 16 && eqb (length (s .tables)) 8
+unfoldable pub typedSet : Set → Bool
+typedSet s = eqb (length (s .ports)) 16 && eqb (length (s .tables)) 8
 
 unfoldable pub setSound : Set → Bool
 setSound s =
     (((leb (s .portcount) 16 && leb (s .tablecount) 8) && placesFit usedPort unusedPort (s .portcount) (s .ports))
     && placesFit usedTable unusedTable (s .tablecount) (s .tables))
-    && typed s
+    && typedSet s

@@ -5,7 +5,7 @@ use mathlib.Core.Bool.{true, and-true}
 use mathlib.Core.Path.{_≡_, sym}
 use lib.ListN.{length}
 use Rattle.label.proofs.Steps.{length-mapped}
-use Rattle.fileset.specs.Set.{typed, setSound}
+use Rattle.fileset.specs.Set.{typedSet, setSound}
 use Rattle.fileset.proofs.set_sound.Statement.{statement}
 use Rattle.fileset.proofs.set_sound.Tie as tie
 
@@ -15,8 +15,8 @@ ports-sized c = search (length-mapped, needs)
 tables-sized : (c : tie.Start) → length (c .args .set .tables) ≡ 8
 tables-sized c = search (length-mapped, needs)
 
-all-typed : (c : tie.Start) → typed (c .args .set) ≡ true
-unfolding typed
+all-typed : (c : tie.Start) → typedSet (c .args .set) ≡ true
+unfolding typedSet
 all-typed c = rw (eq-eqb _ _ (ports-sized c), eq-eqb _ _ (tables-sized c))
 
 ports-fit-requires : tie.Need-ports-fit-requires
