@@ -44,7 +44,7 @@ extern "C" {
     ) -> u8;
 }
 
-// The crate `timing`: many calls in one, with a digest of fixed places.
+// The crates `timing` and `timing_parts`: many calls in one, with a digest of fixed places.
 extern "C" {
     fn time_read(octets: *const u8, octets_len: usize, size: usize, times: usize) -> usize;
     fn time_spell(octets: *const u8, octets_len: usize, size: usize, out: *mut u8, out_len: usize, times: usize) -> usize;
@@ -186,7 +186,6 @@ fn every_other_bit(name: &str) -> Input {
 /// Bitmaps alone.
 fn bitmaps(random: &mut Random) -> Vec<Input> {
     vec![
-        Input::new("no octets", |_| vec![]),
         Input::new("10 octets, 12 categories", |_| bitmap(10, random.ascending(12, 0, 79, 1).into_iter())),
         Input::new("30 octets, 12 categories", |_| bitmap(30, random.ascending(12, 0, 239, 1).into_iter())),
         Input::new("30 octets, all zero", |_| vec![0; 30]),
@@ -349,7 +348,7 @@ fn rust_bitmap(octets: &[u8], size: usize, times: usize) -> usize {
         let found = fast::read_bitmap_alone(black_box(&octets[at..at + size]), &mut runs);
         let (number, count) = found.map_or_else(|number| (number, 0), |count| (0, count));
         black_box(&runs);
-        total = mix(mix(total, number as usize), count as usize);
+        total = mix(mix(mix(total, number as usize), count as usize), runs[0].high as usize);
         at = next_place(at, size, last);
     }
     total
@@ -827,16 +826,17 @@ fn dearest(times: &[Measured]) -> String {
 const ABOUT: &str = "# Speed
 
 `tools/bench --record` made this page and the plot: tables, figures and the rows that the text names are those of one run. `tools/bench` alone prints
-the tables. It links the box's static libraries (the crates `exports` and `timing`) and the second program's fast variant (`tools/reference/fast.rs`,
+the tables. It links the box's static libraries (the crates `exports`, `timing` and `timing_parts`) and the second program's fast variant (`tools/reference/fast.rs`,
 ordinary Rust over runs, without the heap) into one program and holds their answers against each other first: every input alone, with every place of
 the label and every octet of the output, then the timed loops. (Through other tables than the sample's the output and a digest stand for the label.)
 
 - Each time is that of one call, in the shortest of 300 rounds of 960 calls; box and Rust take turns, round by round, in one run, and all cases are
   gone through ten times.
 - 64 inputs of a kind take turns, so that the branch predictor does not learn one of them; the seed is fixed. Spelling takes 8 labels in turn.
-- The loops of the box are in the crate `timing`, those of Rust in `tools/bench.rs`; both run over records built once, with an output of 48 octets. Of
+- The loops of the box are in the crates `timing` and `timing_parts` (bitmap and file, which would be second callers in one library), those of Rust in `tools/bench.rs`; both run over records built once, with an output of 48 octets. Of
   every answer the same fixed places go into a number that is returned.
-- A forward checks both ports and the table on every call, in both. Where the renumbered label has no spelling, the answer is 18 and the work up to
+- A forward checks both ports and the table on every call, in both. The ports are of the usual kind (a label is required, no option 130 is read, the range goes from no categories to one
+  run); between others the box takes more, since they are copied (landing 14). Where the renumbered label has no spelling, the answer is 18 and the work up to
   there is the same; the last column says how many of the inputs are forwarded.
 - The table with rows spreads the categories 0 to 255 over rows of equal width whose targets come in scattered order, those below 240 among
   themselves.

@@ -7,7 +7,7 @@ use native.Mathlib.Nat.{add-zero}
 use native.Mathlib.Omega.{arith}
 use borrow.Author.Tests.{ltb-false, leb-true, eqb-true}
 use lib.ListN.{length, getD, take, drop, length-drop, drop-of-length-le}
-use lib.Seq.{getD-drop}
+use lib.Seq.{getD-drop, drop-drop}
 use lib.Dec.{ltb, leb, eqb}
 use Rattle.lists.proofs.Laws.{tail-is}
 use Rattle.area.specs.declared.Kind.{Kind}
@@ -22,7 +22,7 @@ use Rattle.area.specs.declared.Turn.{Turn}
 use Rattle.area.specs.declared.Turn.the-variants.{Done, On}
 use Rattle.area.specs.Area.{kindOf, sizeOf, Met, spanOf, frontOf, metFrom, metOf, judge, judged, walkOf, WholeAt, placedIn}
 use Rattle.area.specs.Meets.{StandIn}
-use Rattle.area.specs.Stages.{turnOf}
+use Rattle.area.specs.Stages.{turnOf, isMet, octetOf, placeOf}
 use Rattle.area.proofs.Meets.{met-stand}
 
 -- an option of n octets is at least 2 long, and in the list
@@ -137,6 +137,15 @@ module _ (on : Bool) (area : List ℕ) (at : ℕ) (label basic : Place) (k : Kin
       let ez′ : z ≡ sizeOf (drop at area) = rw tail-is at ez in
       let q = span-on k (drop at area) z n (sym ez′) (simp length-drop (omega arith)) (turn-on on k z at label basic n l b (sym eu ∙ e)) in
       omega (arith, length-drop at area)
+
+-- over an octet of type 1 the walk goes on
+pub no-operation : (on : Bool) (area : List ℕ) (at : ℕ) (label basic : Place) → at < length area → getD area at 0 ≡ 1
+    → judged on (metFrom (drop at area) 0 at) label basic ≡ judged on (metFrom (drop (at + 1) area) 0 (at + 1)) label basic
+no-operation on area at label basic h e =
+    let k : getD (drop at area) 0 0 ≡ 1 = getD-drop at area 0 0 ∙ rw add-zero e in
+    walk-turn on (drop at area) at label basic (simp length-drop (omega arith))
+    ∙ ap (λ (t : ℕ). afterTurn on (drop at area) at (turnOf on (kindOf t) (sizeOf (drop at area)) at label basic)) k
+    ∙ rw drop-drop
 
 pub walk-end : (on : Bool) (area : List ℕ) (at : ℕ) (label basic : Place) → length area ≤ at
     → judged on (metFrom (drop at area) 0 at) label basic ≡ Sound label basic
@@ -295,3 +304,13 @@ basic-octet t e = go (eqb t 0) (eqb t 1) (eqb t 130) (eqb t 133) (eqb t 134) ref
     go false false false true f q e = let z : _≡_ {A = ℕ} 0 1 = cc in absurd (omega arith)
     go false false false false true q e = let z : _≡_ {A = ℕ} 0 1 = cc in absurd (omega arith)
     go false false false false false q e = let z : _≡_ {A = ℕ} 0 1 = cc in absurd (omega arith)
+
+-- a place is what its two numbers say, and so is what is judged from it on
+place-is : (p : Place) → placeOf (isMet p) (octetOf p) ≡ p
+place-is Nowhere = refl
+place-is (At n) = refl
+
+pub judged-by : (on : Bool) (ms : List Met) (p q : Place) (a c : Bool) (x y : ℕ) → a ≡ isMet p → x ≡ octetOf p → c ≡ isMet q → y ≡ octetOf q
+    → judged on ms p q ≡ judged on ms (placeOf a x) (placeOf c y)
+judged-by on ms p q a c x y e f g h =
+    sym ((λ i. judged on ms (placeOf (e i) (f i)) (placeOf (g i) (h i))) ∙ (λ i. judged on ms (place-is p i) (place-is q i)))

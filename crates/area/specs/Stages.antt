@@ -1,11 +1,12 @@
 -- What one turn of the walk answers; no public contract names it.
 use Prim.Native.Nat.{ℕ}
-use mathlib.Core.Bool.{Bool}
+use mathlib.Core.Bool.{Bool, true, false, cond}
 use Rattle.area.specs.declared.Kind.{Kind}
 use Rattle.area.specs.declared.Kind.the-variants.{End, NoOperation, Basic, Extended, Cipso, Other}
 use Rattle.area.specs.declared.Size.{Size}
 use Rattle.area.specs.declared.Size.the-variants.{Whole, Bad}
 use Rattle.area.specs.declared.Place.{Place}
+use Rattle.area.specs.declared.Place.the-variants.{Nowhere, At}
 use Rattle.area.specs.declared.Walk.{Walk}
 use Rattle.area.specs.declared.Walk.the-variants.{Sound, Refused}
 use Rattle.area.specs.declared.Turn.{Turn}
@@ -29,3 +30,15 @@ turnOf on Basic z at label basic = turnBy z (judge on Basic z at label basic)
 turnOf on Extended z at label basic = turnBy z (judge on Extended z at label basic)
 turnOf on Cipso z at label basic = turnBy z (judge on Cipso z at label basic)
 turnOf on Other z at label basic = turnBy z (judge on Other z at label basic)
+
+-- a place in two numbers: whether it is met, and its octet, which is 0 where it is not
+abbrev pub isMet : Place → Bool
+isMet Nowhere = false
+isMet (At n) = true
+
+abbrev pub octetOf : Place → ℕ
+octetOf Nowhere = 0
+octetOf (At n) = n
+
+abbrev pub placeOf : Bool → ℕ → Place
+placeOf met n = cond met (At n) Nowhere

@@ -1,7 +1,7 @@
 // The options area of an IPv4 header (RFC 791; document 01, "The order of checks"): the types of options, and the walk.
 ghost use mathlib.Core.Path.{_≡_};
 ghost use Rattle.area.specs.Area.{kindOf, sizeOf, walkOf};
-ghost use Rattle.area.specs.Stages.{basicTurn, turnOf};
+ghost use Rattle.area.specs.Stages.{basicTurn, turnOf, isMet, octetOf, placeOf};
 ghost use Prim.Native.Nat.{_<_, _≤_};
 ghost use lib.ListN.{length};
 
@@ -114,24 +114,68 @@ fn take_basic(on: bool, n: usize, at: usize, label: Place, basic: Place) -> Turn
     }
 }
 
+// A place in two numbers. The walk carries these from turn to turn: an enum's unused octets would be copied with it.
+fn is_met(place: Place) -> bool
+    ensures { λ r. ⌜ r ≡ isMet place ⌝ }
+{
+    match place {
+        Place::Nowhere => false,
+        Place::At(_) => true,
+    }
+}
+
+fn octet_of(place: Place) -> usize
+    ensures { λ r. ⌜ r ≡ octetOf place ⌝ }
+{
+    match place {
+        Place::Nowhere => 0,
+        Place::At(at) => at,
+    }
+}
+
+fn place_of(met: bool, at: usize) -> Place
+    ensures { λ r. ⌜ r ≡ placeOf met at ⌝ }
+{
+    if met {
+        return Place::At(at);
+    }
+    Place::Nowhere
+}
+
 // The walk over an area: the earliest option that is refused decides, and type 0 ends it. `on` says whether the port at which it arrives reads
 // option 130.
 pub fn walk_area(area: &[u8], on: bool) -> Walk
     ensures { λ r. ⌜ r ≡ walkOf on (now (area .entry)) ⌝ }
 {
     let mut at = 0;
-    let mut label = Place::Nowhere;
-    let mut basic = Place::Nowhere;
+    let mut labelled = false;
+    let mut label: usize = 0;
+    let mut secured = false;
+    let mut basic: usize = 0;
     while at < area.len() {
-        let rest = &area[at..];
-        match take_turn(on, read_kind(rest[0]), read_size(rest), at, label, basic) {
-            Turn::Done(w) => return w,
-            Turn::On(n, l, b) => {
-                at = at + n;
-                label = l;
-                basic = b;
+        if area[at] == 1 {
+            // no operation: an octet with no length
+            at += 1;
+        } else {
+            let rest = &area[at..];
+            match take_turn(
+                on,
+                read_kind(rest[0]),
+                read_size(rest),
+                at,
+                place_of(labelled, label),
+                place_of(secured, basic),
+            ) {
+                Turn::Done(w) => return w,
+                Turn::On(n, l, b) => {
+                    at = at + n;
+                    labelled = is_met(l);
+                    label = octet_of(l);
+                    secured = is_met(b);
+                    basic = octet_of(b);
+                }
             }
         }
     }
-    Walk::Sound(label, basic)
+    Walk::Sound(place_of(labelled, label), place_of(secured, basic))
 }

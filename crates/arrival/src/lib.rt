@@ -216,7 +216,7 @@ fn counted_by(number: u8, count: usize) -> usize
 }
 
 // Check 1 of an area of n octets: over 40, or not a multiple of 4.
-fn bad_area(n: usize) -> bool
+pub fn bad_area(n: usize) -> bool
     ensures { λ r. ⌜ r ≡ (ltb 40 n || not (eqb (n % 4) 0)) ⌝ }
 {
     if 40 < n {

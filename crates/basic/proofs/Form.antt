@@ -11,7 +11,7 @@ use Rattle.label.proofs.Bools.{never, and-left, and-right}
 use Rattle.basic.specs.Levels.{isLevel}
 use Rattle.basic.specs.Option.{basicLevel, moreFollows, basicFlags, basicValid}
 use Rattle.basic.specs.Alone.{basicFound, basicBad, basicReading}
-use Rattle.basic.specs.Places.{framedAt, endedAt}
+use Rattle.basic.specs.Stages.{framedAt, endedAt}
 
 last-bit : (x : ℕ) → not (moreFollows x) ≡ eqb (x % 2) 0
 last-bit x = go (eqb (x % 2) 1) refl

@@ -1,7 +1,7 @@
 pub mod Levels
 pub mod Option
 pub mod Alone
-pub mod Places
+pub mod Stages
 pub mod Settings
 pub mod Theorems
 pub mod Examples

@@ -7,7 +7,7 @@ ghost use lib.ListN.{length, getD, take, drop};
 ghost use Rattle.basic.specs.Levels.{rankOf};
 ghost use Rattle.basic.specs.Option.{flagField};
 ghost use Rattle.basic.specs.Alone.{basicBad, basicReading, basicWriting, basicOut};
-ghost use Rattle.basic.specs.Places.{framedAt, endedAt};
+ghost use Rattle.basic.specs.Stages.{framedAt, endedAt};
 ghost use Rattle.basic.specs.Settings.{atMost, unused, noWay, basicOff, isOff, waySound, wayZero, basicSound, among, passesWay};
 
 // A level's octet, and its rank: its place in the order of levels.

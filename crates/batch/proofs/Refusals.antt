@@ -14,7 +14,7 @@ use Rattle.port.specs.Port.{portSound}
 use Rattle.table.specs.Table.{tableSound}
 use Rattle.fileset.specs.declared.Set.{Set}
 use Rattle.fileset.specs.Set.{noPort, emptySet}
-use Rattle.file.specs.File.{fileFormat, fileReading, answered, accepted, refused, unknown}
+use Rattle.file.specs.File.{fileFormat, fileReading, fileAnswer, accepted, fileRefused, unknown}
 use Rattle.arrival.specs.Checks.{Refusal, silent, when, firstOf, badArea}
 use Rattle.arrival.specs.Decision.{silenced, decided}
 use Rattle.gateway.specs.Crossing.{Forwarding, sizes, records, sameDomain, crossing, leavingLabel}
@@ -29,16 +29,16 @@ all-alike zero i d = refl
 all-alike (suc n) zero d = refl
 all-alike (suc n) (suc i) d = all-alike n i d
 
-none-read : (total : ℕ) (f : Found ((ℕ × ℕ) × Set)) → (answered total f .verdict ≡ 0 → ⊥) → answered total f .set ≡ emptySet
-unfolding answered
+none-read : (total : ℕ) (f : Found ((ℕ × ℕ) × Set)) → (fileAnswer total f .verdict ≡ 0 → ⊥) → fileAnswer total f .set ≡ emptySet
+unfolding fileAnswer
 none-read total (got v n) h = go (eqb n total) h
   where
-    go : (t : Bool) → (cond t (accepted (v .1)) (refused n) .verdict ≡ 0 → ⊥) → cond t (accepted (v .1)) (refused n) .set ≡ emptySet
+    go : (t : Bool) → (cond t (accepted (v .1)) (fileRefused n) .verdict ≡ 0 → ⊥) → cond t (accepted (v .1)) (fileRefused n) .set ≡ emptySet
     go true h = absurd (h refl)
     go false h = refl
 none-read total (bad n) h = go (eqb n 2 && ltb 2 total)
   where
-    go : (t : Bool) → cond t unknown (refused n) .set ≡ emptySet
+    go : (t : Bool) → cond t unknown (fileRefused n) .set ≡ emptySet
     go true = refl
     go false = refl
 

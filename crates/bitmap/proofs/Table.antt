@@ -53,6 +53,24 @@ rule x h =
       runs = same-runs _ _ (and-right (leb (countIn (getD table x 0)) 4) _ e);
     }
 
+-- an arm of the source: the octet, and the entry at its place
+pub entry-right : (x k e : ℕ) → x ≡ k → ltb k 256 ≡ true → getD table k 0 ≡ e → Right x e
+entry-right x k e p l q = rw (p, ← q) (rule k (ltb-true k 256 l))
+
+-- what is left by the arms 1 to n
+abbrev NoneOf : ℕ → ℕ → Type 0
+NoneOf zero x = Unit
+NoneOf (suc n) x = NoneOf n x × (x ≡ suc n → ⊥)
+
+none-of : (n x : ℕ) → x ≤ n → NoneOf n x → x ≡ 0
+none-of zero x l h = omega arith
+none-of (suc n) x l h =
+    let d : x ≡ suc n → ⊥ = h .1 in
+    none-of n x (omega arith) (h .0)
+
+pub entry-rest : (x : ℕ) → x ≤ 255 → NoneOf 255 x → Right x 0
+entry-rest x l h = entry-right x 0 0 (none-of 255 x l h) refl refl
+
 -- Of the runs inside an octet: the octet 0 has none, any other some, and the first starts with the octet exactly if its top bit is 1.
 abbrev pub firstLow : List Run → ℕ
 firstLow [] = 0

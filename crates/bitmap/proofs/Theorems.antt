@@ -68,11 +68,6 @@ module _ (b ks : List ℕ) where
       → Answer b ks (record { number = 0; count = n }) ks′
   found-all room h n ks′ e = (ap (λ (k : ℕ). record { number = 0; count = k }) (e .0) ∙ sym (bitmap-found b h ks room), e .1 ∙ sym (bitmap-keys b h ks room))
 
-  pub found-none : 120 ≤ length ks → length b ≡ 0 → Answer b ks (record { number = 0; count = 0 }) ks
-  found-none room z =
-      let none : bitmapRuns b ≡ [] = ap (λ (n : ℕ). setRuns (bitAt b) (8 * n)) z in
-      found-all room (omega arith) 0 ks (ap length (sym none), ap (λ (rs : List Run). inPlace rs ks) (sym none))
-
 pub agree : Agree
 unfolding pieces
 agree d v b ks h room =

@@ -222,15 +222,15 @@ abbrev pub withNumber : ℕ → List Rule → List Rule
 withNumber n [] = []
 withNumber n (r ∷ rs) = cond (eqb (r .number) n) (r ∷ withNumber n rs) (withNumber n rs)
 
-abbrev pub inOrder : List ℕ → List Rule → List Rule
-inOrder [] table = []
-inOrder (n ∷ ns) table = withNumber n table ++ inOrder ns table
+abbrev pub linesFor : List ℕ → List Rule → List Rule
+linesFor [] table = []
+linesFor (n ∷ ns) table = withNumber n table ++ linesFor ns table
 
 -- option by option
 abbrev pub byOption : List ℕ → Bool → Bool → Bool → List Met → List Rule
 byOption ns on label basic [] = []
 byOption ns on label basic (m ∷ ms) =
-    inOrder ns (optionRules on label basic m) ++ byOption ns on (label || isLabel (m .kind)) (basic || isBasic (m .kind)) ms
+    linesFor ns (optionRules on label basic m) ++ byOption ns on (label || isLabel (m .kind)) (basic || isBasic (m .kind)) ms
 
 -- all lines in the order in which they are tested
 abbrev pub tested : List Test → List Rule → Bool → List Met → List Rule

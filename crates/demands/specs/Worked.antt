@@ -98,8 +98,8 @@ lesser =
       default = nothing;
     }
 
-abbrev pub behind : Host
-behind = record { lowest = bare 2; highest = one 255 0 65534 }
+abbrev pub hostBehind : Host
+hostBehind = record { lowest = bare 2; highest = one 255 0 65534 }
 
 -- A case: the port it arrives at, the area, and the job: forward by a port into an output of so many octets, each 9 before; or deliver to a host.
 pub data Job : Type 0 where
@@ -133,11 +133,11 @@ pub record Answer : Type 0 where
   pub output : List ℕ
   pub silentOutput : List ℕ
 
-abbrev pub noTable : Table
-noTable = record { from = 0; to = 0; pairs = 0; count = 0; rows = [] }
+abbrev pub unreadTable : Table
+unreadTable = record { from = 0; to = 0; pairs = 0; count = 0; rows = [] }
 
 abbrev pub forwarding : Port → Port → ℕ → Facts → List ℕ → Forwarding
-forwarding p q n facts area = record { arriving = p; leaving = q; table = noTable; levels = []; facts = facts; area = area; room = n }
+forwarding p q n facts area = record { arriving = p; leaving = q; table = unreadTable; levels = []; facts = facts; area = area; room = n }
 
 abbrev pub delivery : Port → Host → Facts → List ℕ → Delivery
 delivery p h facts area = record { port = p; host = h; facts = facts; area = area }
@@ -180,8 +180,8 @@ abbrev pub pass : ℕ → Label → Decision
 pass n l = record { number = 0; kind = 0; code = 0; pointer = 0; count = n; label = l }
 
 -- a forwarding into 41 octets: refused, or what the first 40 hold
-abbrev pub stopped : Port → Port → List ℕ → Decision → Case
-stopped p q area d = record { job = leave q 41; port = p; area = area; answer = d; output = replicate 41 9 }
+abbrev pub blocked : Port → Port → List ℕ → Decision → Case
+blocked p q area d = record { job = leave q 41; port = p; area = area; answer = d; output = replicate 41 9 }
 
 abbrev pub sent : Port → List ℕ → ℕ → Label → List ℕ → Case
 sent p area n l o = record { job = leave beyond 41; port = p; area = area; answer = pass n l; output = o ++ (9 ∷ []) }
@@ -264,36 +264,36 @@ others =
     -- 1: an output under 40 octets, before 2
     record { job = leave beyond 39; port = ownerless; area = []; answer = drop 1 0 0 0; output = replicate 39 9 }
     -- 2: the leaving port; the host
-    ∷ stopped requires upside [] (drop 2 0 0 0)
+    ∷ blocked requires upside [] (drop 2 0 0 0)
     ∷ handed requires (record { lowest = bare 5; highest = bare 1 }) [] (drop 2 0 0 0)
     -- 14: below the lowest; above the highest; a category that the highest lacks. The gateway's code is 9, the host's 10
-    ∷ stopped requires beyond (empty 0 (0 ∷ 0 ∷ [])) (drop 14 3 9 0)
-    ∷ handed requires behind (empty 0 (0 ∷ 0 ∷ [])) (drop 14 3 10 0)
-    ∷ stopped requires beyond (empty 6 (0 ∷ 0 ∷ [])) (drop 14 3 9 0)
-    ∷ handed requires behind (empty 6 (0 ∷ 0 ∷ [])) (drop 14 3 10 0)
-    ∷ stopped requires beyond (option 12 5 2 6 0 3 (1 ∷ 45 ∷ [])) (drop 14 3 9 0)
-    ∷ handed requires behind (option 12 5 2 6 0 3 (1 ∷ 45 ∷ [])) (drop 14 3 10 0)
+    ∷ blocked requires beyond (empty 0 (0 ∷ 0 ∷ [])) (drop 14 3 9 0)
+    ∷ handed requires hostBehind (empty 0 (0 ∷ 0 ∷ [])) (drop 14 3 10 0)
+    ∷ blocked requires beyond (empty 6 (0 ∷ 0 ∷ [])) (drop 14 3 9 0)
+    ∷ handed requires hostBehind (empty 6 (0 ∷ 0 ∷ [])) (drop 14 3 10 0)
+    ∷ blocked requires beyond (option 12 5 2 6 0 3 (1 ∷ 45 ∷ [])) (drop 14 3 9 0)
+    ∷ handed requires hostBehind (option 12 5 2 6 0 3 (1 ∷ 45 ∷ [])) (drop 14 3 10 0)
     -- 21 at the arriving port, before 14: Top Secret is above the range, Unclassified below it though its octet is larger; a field that is not permitted
-    ∷ stopped marked marked (130 ∷ 3 ∷ 61 ∷ 0 ∷ []) (drop 21 3 9 0)
-    ∷ handed marked behind (130 ∷ 3 ∷ 171 ∷ empty 0 (0 ∷ 0 ∷ 0 ∷ [])) (drop 21 3 10 0)
-    ∷ handed marked behind (130 ∷ 4 ∷ 90 ∷ 64 ∷ []) (drop 21 3 10 0)
+    ∷ blocked marked marked (130 ∷ 3 ∷ 61 ∷ 0 ∷ []) (drop 21 3 9 0)
+    ∷ handed marked hostBehind (130 ∷ 3 ∷ 171 ∷ empty 0 (0 ∷ 0 ∷ 0 ∷ [])) (drop 21 3 10 0)
+    ∷ handed marked hostBehind (130 ∷ 4 ∷ 90 ∷ 64 ∷ []) (drop 21 3 10 0)
     -- 21 at the leaving port, before 14: its level, its flags; a 130 toward a port without it; none toward one with it
-    ∷ stopped marked lesser (130 ∷ 3 ∷ 90 ∷ empty 0 (0 ∷ 0 ∷ 0 ∷ [])) (drop 21 3 9 0)
-    ∷ stopped marked lesser (130 ∷ 4 ∷ 150 ∷ 128 ∷ []) (drop 21 3 9 0)
-    ∷ stopped marked beyond (130 ∷ 3 ∷ 150 ∷ 0 ∷ []) (drop 21 3 9 0)
-    ∷ stopped assigns marked [] (drop 21 3 9 0)
-    ∷ stopped marked marked (130 ∷ 3 ∷ 150 ∷ empty 6 (0 ∷ 0 ∷ 0 ∷ [])) (drop 14 3 9 0)
+    ∷ blocked marked lesser (130 ∷ 3 ∷ 90 ∷ empty 0 (0 ∷ 0 ∷ 0 ∷ [])) (drop 21 3 9 0)
+    ∷ blocked marked lesser (130 ∷ 4 ∷ 150 ∷ 128 ∷ []) (drop 21 3 9 0)
+    ∷ blocked marked beyond (130 ∷ 3 ∷ 150 ∷ 0 ∷ []) (drop 21 3 9 0)
+    ∷ blocked assigns marked [] (drop 21 3 9 0)
+    ∷ blocked marked marked (130 ∷ 3 ∷ 150 ∷ empty 6 (0 ∷ 0 ∷ 0 ∷ [])) (drop 14 3 9 0)
     -- 15, of a delivery; 17, of a forwarding: below the range that comes next
-    ∷ handed requires behind (empty 1 (0 ∷ 0 ∷ [])) (drop 15 3 10 0)
-    ∷ stopped requires beyond (empty 1 (0 ∷ 0 ∷ [])) (drop 17 3 9 0)
+    ∷ handed requires hostBehind (empty 1 (0 ∷ 0 ∷ [])) (drop 15 3 10 0)
+    ∷ blocked requires beyond (empty 1 (0 ∷ 0 ∷ [])) (drop 17 3 9 0)
     -- 18: a kept option of 31 octets beside an empty label; no spelling
-    ∷ stopped assigns beyond (148 ∷ 31 ∷ replicate 30 0) (drop 18 3 9 0)
-    ∷ stopped unspelled beyond [] (drop 18 3 9 0)
+    ∷ blocked assigns beyond (148 ∷ 31 ∷ replicate 30 0) (drop 18 3 9 0)
+    ∷ blocked unspelled beyond [] (drop 18 3 9 0)
     -- delivered: the own label, the assigned one, with no spelling too
-    ∷ handed requires behind (empty 3 (0 ∷ 0 ∷ [])) (pass 0 (bare 3))
-    ∷ handed assigns behind [] (pass 0 (bare 3))
-    ∷ handed assigns behind (148 ∷ 31 ∷ replicate 30 0) (pass 0 (bare 3))
-    ∷ handed unspelled behind [] (pass 0 (unspelled .assigned))
+    ∷ handed requires hostBehind (empty 3 (0 ∷ 0 ∷ [])) (pass 0 (bare 3))
+    ∷ handed assigns hostBehind [] (pass 0 (bare 3))
+    ∷ handed assigns hostBehind (148 ∷ 31 ∷ replicate 30 0) (pass 0 (bare 3))
+    ∷ handed unspelled hostBehind [] (pass 0 (unspelled .assigned))
     -- forwarded: the own label, 12 octets; the assigned one beside nothing and beside a kept option of 30 octets, 40
     ∷ sent requires (empty 3 (0 ∷ 0 ∷ [])) 12 (bare 3) (empty 3 (replicate 30 0))
     ∷ sent assigns [] 12 (bare 3) (empty 3 (replicate 30 0))
@@ -309,7 +309,7 @@ others =
       answer = pass 16 (bare 3);
       output = empty 3 (130 ∷ 5 ∷ 90 ∷ 129 ∷ 0 ∷ (replicate 25 0 ++ (9 ∷ [])));
     }
-    ∷ handed marked behind (7 ∷ 3 ∷ 4 ∷ 130 ∷ 3 ∷ 150 ∷ 0 ∷ 0 ∷ []) (pass 0 (bare 3))
+    ∷ handed marked hostBehind (7 ∷ 3 ∷ 4 ∷ 130 ∷ 3 ∷ 150 ∷ 0 ∷ 0 ∷ []) (pass 0 (bare 3))
     -- in its one spelling: {16} from a bitmap, {297..300} from touching pairs, none from tag 5
     ∷ sent requires (option 13 5 1 7 0 3 (0 ∷ 0 ∷ 128 ∷ 0 ∷ 0 ∷ 0 ∷ [])) 12 (one 3 16 16) (option 12 5 2 6 0 3 (0 ∷ 16 ∷ replicate 28 0))
     ∷ sent requires (option 18 5 5 12 0 3 (1 ∷ 44 ∷ 1 ∷ 43 ∷ 1 ∷ 42 ∷ 1 ∷ 41 ∷ 1 ∷ 1 ∷ [])) 16 (one 3 297 300) (option 14 5 5 8 0 3 (1 ∷ 44 ∷ 1 ∷ 41 ∷ replicate 26 0))
@@ -317,20 +317,20 @@ others =
     ∷ []
 
 abbrev pub inGateway : Bad → Case
-inGateway b = stopped (b .port) beyond (b .area) (b .answer)
+inGateway b = blocked (b .port) beyond (b .area) (b .answer)
 
 abbrev pub toHost : Bad → Case
-toHost b = handed (b .port) behind (b .area) (b .answer)
+toHost b = handed (b .port) hostBehind (b .area) (b .answer)
 
 abbrev pub cases : List Case
 cases = map inGateway refusals ++ (map toHost refusals ++ others)
 
-abbrev pub answered : Case → Answer
-answered c = answerTo (c .job) (c .port) (c .area)
+abbrev pub caseAnswer : Case → Answer
+caseAnswer c = answerTo (c .job) (c .port) (c .area)
 
 -- any of the five facts alone silences, and none does not
 abbrev pub WorkedDecisions : Type 0
 WorkedDecisions =
-    (map answered cases ≡ map awaited cases)
+    (map caseAnswer cases ≡ map awaited cases)
     × (map silenced eachFact ≡ true ∷ true ∷ true ∷ true ∷ true ∷ [])
     × (silenced noFact ≡ false)

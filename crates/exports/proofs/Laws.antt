@@ -20,7 +20,7 @@ use Rattle.gateway.specs.Forward.{forwardOf, outputOf}
 use Rattle.port.specs.declared.Port.{Port}
 use Rattle.table.specs.declared.Table.{Table}
 use Rattle.sample_records.specs.Sample as sample
-use Rattle.exports.specs.Answers.{headed, readingNumbers, spellingNumbers, decisionNumbers, roomy, sampleForwarding, Reads, Spells, Forwards}
+use Rattle.exports.specs.Answers.{withNumbers, readingNumbers, spellingNumbers, decisionNumbers, roomy, sampleForwarding, Reads, Spells, Forwards}
 
 pub short-answer : (n : ℕ) (answer runs : List ℕ) → length answer < n → roomy n answer runs ≡ false
 short-answer n answer runs h = simp (lt-leb _ _ h)
@@ -35,12 +35,12 @@ pub reads-nothing : (octets answer runs : List ℕ) → roomy 5 answer runs ≡ 
 reads-nothing octets answer runs h = record { number = rw h; numbers = rw h; keys = rw h }
 
 pub reads-whole : (octets answer runs answer′ runs′ : List ℕ) (r : Reading) → roomy 5 answer runs ≡ true
-    → r ≡ readingOf octets → answer′ ≡ headed (readingNumbers r) answer → runs′ ≡ withKeys (r .label) runs
+    → r ≡ readingOf octets → answer′ ≡ withNumbers (readingNumbers r) answer → runs′ ≡ withKeys (r .label) runs
     → Reads octets answer runs answer′ runs′ (r .number)
 reads-whole octets answer runs answer′ runs′ r h e a k =
     record {
       number = rw h (ap (λ (x : Reading). x .number) e);
-      numbers = rw h (a ∙ ap (λ (x : Reading). headed (readingNumbers x) answer) e);
+      numbers = rw h (a ∙ ap (λ (x : Reading). withNumbers (readingNumbers x) answer) e);
       keys = rw h (k ∙ ap (λ (x : Reading). withKeys (x .label) runs) e);
     }
 
@@ -50,14 +50,14 @@ spells-nothing l out answer h =
     record { number = simp e; numbers = simp e; octets = simp e }
 
 pub spells-whole : (own l : Label) (out answer out′ answer′ : List ℕ) (s : Spelling) → own ≡ l → 2 ≤ length answer
-    → s ≡ spellingAnswer usual own (length out) → out′ ≡ spellingOut usual own out → answer′ ≡ headed (spellingNumbers s) answer
+    → s ≡ spellingAnswer usual own (length out) → out′ ≡ spellingOut usual own out → answer′ ≡ withNumbers (spellingNumbers s) answer
     → Spells l out answer out′ answer′ (s .number)
 spells-whole own l out answer out′ answer′ s q h e o a =
     let f = le-leb _ _ h in
     let g : s ≡ spellingAnswer usual l (length out) = rw q at e in
     record {
       number = rw f (ap (λ (x : Spelling). x .number) g);
-      numbers = rw f (a ∙ ap (λ (x : Spelling). headed (spellingNumbers x) answer) g);
+      numbers = rw f (a ∙ ap (λ (x : Spelling). withNumbers (spellingNumbers x) answer) g);
       octets = rw f (rw q at o);
     }
 
@@ -71,13 +71,13 @@ pub forwards-nothing : (f : Forwarding) (out answer runs : List ℕ) → roomy 8
 forwards-nothing f out answer runs h = record { number = rw h; numbers = rw h; keys = rw h; octets = rw h }
 
 pub forwards-whole : (own f : Forwarding) (out answer runs out′ answer′ runs′ : List ℕ) (d : Decision) → own ≡ f → roomy 8 answer runs ≡ true
-    → d ≡ forwardOf own → out′ ≡ outputOf own out → answer′ ≡ headed (decisionNumbers d) answer → runs′ ≡ withKeys (d .label) runs
+    → d ≡ forwardOf own → out′ ≡ outputOf own out → answer′ ≡ withNumbers (decisionNumbers d) answer → runs′ ≡ withKeys (d .label) runs
     → Forwards f out answer runs out′ answer′ runs′ (d .number)
 forwards-whole own f out answer runs out′ answer′ runs′ d q h e o a k =
     let g : d ≡ forwardOf f = rw q at e in
     record {
       number = rw h (ap (λ (x : Decision). x .number) g);
-      numbers = rw h (a ∙ ap (λ (x : Decision). headed (decisionNumbers x) answer) g);
+      numbers = rw h (a ∙ ap (λ (x : Decision). withNumbers (decisionNumbers x) answer) g);
       keys = rw h (k ∙ ap (λ (x : Decision). withKeys (x .label) runs) g);
       octets = rw h (rw q at o);
     }

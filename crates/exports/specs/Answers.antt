@@ -21,8 +21,8 @@ use Rattle.gateway.specs.Forward.{forwardOf, outputOf}
 use Rattle.sample_records.specs.Sample as sample
 
 -- numbers at the head of what is lent
-unfoldable pub headed : List ℕ → List ℕ → List ℕ
-headed numbers lent = numbers ++ drop (length numbers) lent
+unfoldable pub withNumbers : List ℕ → List ℕ → List ℕ
+withNumbers numbers lent = numbers ++ drop (length numbers) lent
 
 -- a label's domain, level and count of runs; the runs themselves stand in a list of their own, as keys
 abbrev pub labelNumbers : Label → List ℕ
@@ -47,17 +47,17 @@ roomy n answer runs = leb n (length answer) && leb 120 (length runs)
 -- One option read: `answer` and `runs` at entry and at exit, and what is returned.
 pub record Reads (octets answer runs answer′ runs′ : List ℕ) (r : ℕ) : Type 0 where
   pub number : r ≡ cond (roomy 5 answer runs) (readingOf octets .number) 1
-  pub numbers : answer′ ≡ cond (roomy 5 answer runs) (headed (readingNumbers (readingOf octets)) answer) answer
+  pub numbers : answer′ ≡ cond (roomy 5 answer runs) (withNumbers (readingNumbers (readingOf octets)) answer) answer
   pub keys : runs′ ≡ cond (roomy 5 answer runs) (withKeys (readingOf octets .label) runs) runs
 
 -- the label that numbers stand for: with over 120 runs the all-zero one, which is ill-formed
-abbrev pub labelBy : ℕ → ℕ → List ℕ → Label
-labelBy domain level runs = labelFrom domain level (keyRuns runs)
+abbrev pub labelOfKeys : ℕ → ℕ → List ℕ → Label
+labelOfKeys domain level runs = labelFrom domain level (keyRuns runs)
 
 -- A label spelled as document 01 permits it: `out` and `answer` at entry and at exit, and what is returned.
 pub record Spells (l : Label) (out answer out′ answer′ : List ℕ) (r : ℕ) : Type 0 where
   pub number : r ≡ cond (leb 2 (length answer)) (spellingAnswer usual l (length out) .number) 1
-  pub numbers : answer′ ≡ cond (leb 2 (length answer)) (headed (spellingNumbers (spellingAnswer usual l (length out))) answer) answer
+  pub numbers : answer′ ≡ cond (leb 2 (length answer)) (withNumbers (spellingNumbers (spellingAnswer usual l (length out))) answer) answer
   pub octets : out′ ≡ cond (leb 2 (length answer)) (spellingOut usual l out) out
 
 -- what is asked of the sample's gateway, with the five facts as they are stated
@@ -70,6 +70,6 @@ sampleForwarding facts area room = forwardingOf sample.arriving sample.leaving s
 -- An area forwarded: `out`, `answer` and `runs` at entry and at exit, and what is returned.
 pub record Forwards (f : Forwarding) (out answer runs out′ answer′ runs′ : List ℕ) (r : ℕ) : Type 0 where
   pub number : r ≡ cond (roomy 8 answer runs) (forwardOf f .number) 1
-  pub numbers : answer′ ≡ cond (roomy 8 answer runs) (headed (decisionNumbers (forwardOf f)) answer) answer
+  pub numbers : answer′ ≡ cond (roomy 8 answer runs) (withNumbers (decisionNumbers (forwardOf f)) answer) answer
   pub keys : runs′ ≡ cond (roomy 8 answer runs) (withKeys (forwardOf f .label) runs) runs
   pub octets : out′ ≡ cond (roomy 8 answer runs) (outputOf f out) out

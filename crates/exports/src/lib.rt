@@ -5,7 +5,7 @@
 ghost use mathlib.Core.Path.{_≡_};
 ghost use Prim.Native.Nat.{_≤_};
 ghost use lib.ListN.{length};
-ghost use Rattle.exports.specs.Answers.{headed, labelBy, factsOf, sampleForwarding, Reads, Spells, Forwards};
+ghost use Rattle.exports.specs.Answers.{withNumbers, labelOfKeys, factsOf, sampleForwarding, Reads, Spells, Forwards};
 use arrival::Facts;
 use gateway::forward;
 use label::Label;
@@ -61,7 +61,7 @@ pub extern "C" fn inglebreek_spell(
     out: &mut [u8],
     answer: &mut [u64],
 ) -> u8
-    ensures { λ r. ⌜ Spells (labelBy domain level (now (runs .entry))) (now (out .entry)) (now (answer .entry)) (now (out .exit)) (now (answer .exit)) r ⌝ }
+    ensures { λ r. ⌜ Spells (labelOfKeys domain level (now (runs .entry))) (now (out .entry)) (now (answer .entry)) (now (out .exit)) (now (answer .exit)) r ⌝ }
 {
     if answer.len() < SPELLING_NUMBERS {
         return 1;
@@ -123,7 +123,7 @@ pub extern "C" fn inglebreek_forward(
 // Numbers at the head of what is lent.
 fn put_numbers(lent: &mut [u64], numbers: &[u64])
     requires { ⌜ length (now numbers) ≤ length (now lent) ⌝ }
-    ensures { λ _. ⌜ now (lent .exit) ≡ headed (now (numbers .entry)) (now (lent .entry)) ⌝ }
+    ensures { λ _. ⌜ now (lent .exit) ≡ withNumbers (now (numbers .entry)) (now (lent .entry)) ⌝ }
 {
     let mut i: usize = 0;
     while i < numbers.len() {

@@ -18,27 +18,27 @@ use Rattle.filetable.specs.TableFormat.{noTable}
 use Rattle.fileset.specs.declared.Set.{Set}
 use Rattle.fileset.specs.Set.{noPort}
 use Rattle.file.specs.SetFormat.{setOf}
-use Rattle.file.specs.File.{fileFormat, accepted, refused, answered, fileReading}
+use Rattle.file.specs.File.{fileFormat, accepted, fileRefused, fileAnswer, fileReading}
 
 -- a length that two octets cannot say agrees with none
-pub file-long : (s : List ℕ) → Octets s → 65535 < length s → fileReading s ≡ refused 0
-unfolding fileReading answered fileFormat readAt
+pub file-long : (s : List ℕ) → Octets s → 65535 < length s → fileReading s ≡ fileRefused 0
+unfolding fileReading fileAnswer fileFormat readAt
 file-long s o h =
     let b : valueAt s 0 2 < 65536 = value-below s o 0 2 in
     rw (number-under s 0 2 (length s) (length s) (omega arith) (omega arith))
 
 module _ (s : List ℕ) (ok : Bool) (v : (ℕ × ℕ) × Set) (at : ℕ) (r : Reads (fileFormat (length s)) s true 0 ok v at) where
-  pub file-stops : not ok ≡ true → fileReading s ≡ answered (length s) (bad at)
+  pub file-stops : not ok ≡ true → fileReading s ≡ fileAnswer (length s) (bad at)
   unfolding fileReading
-  file-stops h = ap (answered (length s)) (stopped r h)
+  file-stops h = ap (fileAnswer (length s)) (stopped r h)
 
-  pub file-goes-on : not ok ≡ false → (at ≡ length s → ⊥) → fileReading s ≡ refused at
-  unfolding fileReading answered
-  file-goes-on h n = ap (answered (length s)) (went r h) ∙ rw (ne-eqb at (length s) n)
+  pub file-goes-on : not ok ≡ false → (at ≡ length s → ⊥) → fileReading s ≡ fileRefused at
+  unfolding fileReading fileAnswer
+  file-goes-on h n = ap (fileAnswer (length s)) (went r h) ∙ rw (ne-eqb at (length s) n)
 
   pub file-ends : not ok ≡ false → at ≡ length s → fileReading s ≡ accepted (v .1)
-  unfolding fileReading answered
-  file-ends h n = ap (answered (length s)) (went r h) ∙ rw (eq-eqb at (length s) n)
+  unfolding fileReading fileAnswer
+  file-ends h n = ap (fileAnswer (length s)) (went r h) ∙ rw (eq-eqb at (length s) n)
 
 -- a set whose records were read into their places
 pub set-again : {p t : ℕ} {ports : List Port} {tables : List Renumbering} → Filled 16 noPort p ports → Filled 8 noTable t tables

@@ -18,7 +18,7 @@ use Rattle.fileset.specs.declared.Set.{Set}
 use Rattle.fileset.specs.Set.{setSound}
 use Rattle.file.specs.SetFormat.{setFormat}
 use Rattle.file.specs.declared.FileRead.{FileRead}
-use Rattle.file.specs.File.{fileFormat, accepted, refused, unknown, answered, fileReading, totalOf, fileOctets}
+use Rattle.file.specs.File.{fileFormat, accepted, fileRefused, unknown, fileAnswer, fileReading, totalOf, fileOctets}
 use Rattle.file.specs.Theorems.{GivenBack, OneFile, Accepted, LengthFirst, Named}
 use Rattle.file.proofs.Sizes.{file-length}
 use Rattle.file.proofs.Sets.{set-says, set-said, set-sayable, file-fits}
@@ -71,16 +71,16 @@ record Read (s : Set) (total : ℕ) (x : Found ((ℕ × ℕ) × Set)) : Type 0 w
   ends : place ≡ total
   set : value .1 ≡ s
 
-accepted-read : (s : Set) (total : ℕ) (x : Found ((ℕ × ℕ) × Set)) → answered total x ≡ accepted s → Read s total x
-unfolding answered
+accepted-read : (s : Set) (total : ℕ) (x : Found ((ℕ × ℕ) × Set)) → fileAnswer total x ≡ accepted s → Read s total x
+unfolding fileAnswer
 accepted-read s total (got v n) e = go (eqb n total) refl e
   where
-    go : (t : Bool) → eqb n total ≡ t → cond t (accepted (v .1)) (refused n) ≡ accepted s → Read s total (got v n)
+    go : (t : Bool) → eqb n total ≡ t → cond t (accepted (v .1)) (fileRefused n) ≡ accepted s → Read s total (got v n)
     go true t q = record { value = v; place = n; found = refl; ends = eqb-true _ _ t; set = λ i. q i .set }
     go false t q = absurd (let z : _≡_ {A = ℕ} 1 0 = λ i. q i .verdict in omega arith)
 accepted-read s total (bad n) e = go (eqb n 2 && ltb 2 total) e
   where
-    go : (t : Bool) → cond t unknown (refused n) ≡ accepted s → Read s total (bad n)
+    go : (t : Bool) → cond t unknown (fileRefused n) ≡ accepted s → Read s total (bad n)
     go true q = absurd (let z : _≡_ {A = ℕ} 2 0 = λ i. q i .verdict in omega arith)
     go false q = absurd (let z : _≡_ {A = ℕ} 1 0 = λ i. q i .verdict in omega arith)
 
@@ -112,7 +112,7 @@ pub accepted-only : Accepted
 accepted-only o w s e = one-file o w s e
 
 pub given-back : GivenBack
-unfolding fileReading answered fileOctets
+unfolding fileReading fileAnswer fileOctets
 given-back s e q =
     let t : ℕ = totalOf s in
     let v : (ℕ × ℕ) × Set = ((totalOf s, 1), s) in
@@ -124,13 +124,13 @@ given-back s e q =
     rw (l, b, l, zero-add, eq-eqb (totalOf s) (totalOf s) refl)
 
 pub length-first : LengthFirst
-unfolding fileReading answered fileFormat readAt
+unfolding fileReading fileAnswer fileFormat readAt
 length-first o n = go (less-or (length o) 2)
   where
-    known : numberAt 2 (length o) (length o) o 0 ≡ bad 0 → fileReading o ≡ refused 0
+    known : numberAt 2 (length o) (length o) o 0 ≡ bad 0 → fileReading o ≡ fileRefused 0
     known e = rw e
 
-    whole : 2 ≤ length o → (valueAt o 0 2 < length o) ⊎ (length o ≤ valueAt o 0 2) → fileReading o ≡ refused 0
+    whole : 2 ≤ length o → (valueAt o 0 2 < length o) ⊎ (length o ≤ valueAt o 0 2) → fileReading o ≡ fileRefused 0
     whole h (inl l) = known (number-under o 0 2 (length o) (length o) h l)
     whole h (inr l) = known (number-over o 0 2 (length o) (length o) h l (above (length o) (valueAt o 0 2) l n))
       where
@@ -141,12 +141,12 @@ length-first o n = go (less-or (length o) 2)
             split (inl k) = k
             split (inr k) = absurd (n (omega arith))
 
-    go : (length o < 2) ⊎ (2 ≤ length o) → fileReading o ≡ refused 0
+    go : (length o < 2) ⊎ (2 ≤ length o) → fileReading o ≡ fileRefused 0
     go (inl h) = known (number-cut o 0 2 (length o) (length o) h)
     go (inr h) = whole h (less-or (valueAt o 0 2) (length o))
 
 pub named : Named
-unfolding fileReading answered fileFormat readAt
+unfolding fileReading fileAnswer fileFormat readAt
 named o e h n = go (getD o 2 0) refl
   where
     first : numberAt 2 (length o) (length o) o 0 ≡ got (valueAt o 0 2) 2

@@ -29,20 +29,20 @@ abbrev pub accepted : Set → FileRead
 accepted s = record { verdict = 0; at = 0; set = s }
 
 -- 1: the place of the first octet of the first bad field
-abbrev pub refused : ℕ → FileRead
-refused n = record { verdict = 1; at = n; set = emptySet }
+abbrev pub fileRefused : ℕ → FileRead
+fileRefused n = record { verdict = 1; at = n; set = emptySet }
 
 -- 2: a version that is not known, refused by name
 abbrev pub unknown : FileRead
 unknown = record { verdict = 2; at = 2; set = emptySet }
 
 -- octets after the last table are blamed at the first of them; the version is the field at place 2, and where it is there and bad it is not known
-unfoldable pub answered : ℕ → Found ((ℕ × ℕ) × Set) → FileRead
-answered total (got v n) = cond (eqb n total) (accepted (v .1)) (refused n)
-answered total (bad n) = cond (eqb n 2 && ltb 2 total) unknown (refused n)
+unfoldable pub fileAnswer : ℕ → Found ((ℕ × ℕ) × Set) → FileRead
+fileAnswer total (got v n) = cond (eqb n total) (accepted (v .1)) (fileRefused n)
+fileAnswer total (bad n) = cond (eqb n 2 && ltb 2 total) unknown (fileRefused n)
 
 unfoldable pub fileReading : List ℕ → FileRead
-fileReading s = answered (length s) (readAt (fileFormat (length s)) s 0)
+fileReading s = fileAnswer (length s) (readAt (fileFormat (length s)) s 0)
 
 -- 2. The one file of a set, and what the writer does: 2 for an unsound set; then a refusal by name for one that version 1 cannot say; then 1 for an output that is too
 -- short; else the file.
@@ -66,5 +66,5 @@ writtenOf s room =
     cond (setSound s) (cond (sayable s) (cond (leb (totalOf s) room) (Done (totalOf s)) Short) Unsaid) Unsound
 
 -- the output at the end: nothing is written on a refusal, and octets past the file are kept
-unfoldable pub outputOf : Set → List ℕ → List ℕ
-outputOf s out = cond (setSound s && (sayable s && leb (totalOf s) (length out))) (paint 0 (fileOctets s) out) out
+unfoldable pub fileOutput : Set → List ℕ → List ℕ
+fileOutput s out = cond (setSound s && (sayable s && leb (totalOf s) (length out))) (paint 0 (fileOctets s) out) out

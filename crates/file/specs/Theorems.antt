@@ -10,7 +10,7 @@ use Rattle.format.specs.Format.{valueAt}
 use Rattle.format.specs.Laws.{Octets}
 use Rattle.fileset.specs.declared.Set.{Set}
 use Rattle.fileset.specs.Set.{setSound}
-use Rattle.file.specs.File.{accepted, refused, unknown, fileReading, sayable, totalOf, fileOctets}
+use Rattle.file.specs.File.{accepted, fileRefused, unknown, fileReading, sayable, totalOf, fileOctets}
 
 -- what the writer wrote the reader gives back, for every sound set that version 1 can say
 abbrev pub GivenBack : Type 0
@@ -27,7 +27,7 @@ Accepted = (o : List ℕ) → Octets o → (s : Set) → fileReading o ≡ accep
 
 -- a length that does not agree is refused before all else, at octet 0
 abbrev pub LengthFirst : Type 0
-LengthFirst = (o : List ℕ) → (valueAt o 0 2 ≡ length o → ⊥) → fileReading o ≡ refused 0
+LengthFirst = (o : List ℕ) → (valueAt o 0 2 ≡ length o → ⊥) → fileReading o ≡ fileRefused 0
 
 -- where the length agrees, a version that is there and is not 1 is refused by name, whatever stands after it
 abbrev pub Named : Type 0

@@ -12,7 +12,7 @@ ghost use Rattle.filetable.specs.TableFormat.{tableFormat, noTable};
 ghost use Rattle.fileset.specs.Set.{noPort, setSound};
 ghost use Rattle.file.specs.SetFormat.{alike, same, portsFormat, tablesFormat};
 ghost use Rattle.file.specs.Stages.{portOctets, tableOctets};
-ghost use Rattle.file.specs.File.{refused, answered, fileReading, allPlain, sayable, totalOf, fileOctets, writtenOf, outputOf};
+ghost use Rattle.file.specs.File.{fileRefused, fileAnswer, fileReading, allPlain, sayable, totalOf, fileOctets, writtenOf, fileOutput};
 use fileport::port_size;
 use fileport::read_port;
 use fileport::write_port;
@@ -146,7 +146,7 @@ fn read_tables(octets: &[u8], ok: bool, at: usize) -> TablesRead
 
 // The answer for a bad field.
 fn refuse(at: usize) -> FileRead
-    ensures { λ r. ⌜ r ≡ refused at ⌝ }
+    ensures { λ r. ⌜ r ≡ fileRefused at ⌝ }
 {
     let none = empty_set();
     FileRead {
@@ -158,7 +158,7 @@ fn refuse(at: usize) -> FileRead
 
 // The same, where a bad field at place 2 that is there is a version that is not known.
 fn refuse_field(at: usize, total: usize) -> FileRead
-    ensures { λ r. ⌜ r ≡ answered total (bad at) ⌝ }
+    ensures { λ r. ⌜ r ≡ fileAnswer total (bad at) ⌝ }
 {
     let named = (at == 2) & (2 < total);
     if !named {
@@ -321,7 +321,7 @@ fn set_sayable(set: Set) -> bool
 // Writes the file of a set: 2 for an unsound set, then a refusal by name for one that version 1 cannot say, then 1 for an output that is too short, else the count. A refusal
 // writes nothing, and octets past the file are kept.
 pub fn write_file(set: Set, out: &mut [u8]) -> Written
-    ensures { λ r. ⌜ (r ≡ writtenOf set (length (now (out .entry)))) × (now (out .exit) ≡ outputOf set (now (out .entry))) ⌝ }
+    ensures { λ r. ⌜ (r ≡ writtenOf set (length (now (out .entry)))) × (now (out .exit) ≡ fileOutput set (now (out .entry))) ⌝ }
 {
     if !set_sound(set) {
         return Written::Unsound;

@@ -1,3 +1,4 @@
 pub mod Crossings
 pub mod Forwards
 pub mod Stages
+pub mod Usual

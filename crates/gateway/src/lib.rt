@@ -1,8 +1,12 @@
 // Forward (document 01, "The order of checks" and "The leaving area"; document 02, Wish 3): the checks in their order, and only a forwarding writes.
+use area::Place;
+use area::Walk;
+use area::walk_area;
 use arrival::Decision;
 use arrival::Facts;
 use arrival::Verdict;
 use arrival::arrive;
+use arrival::bad_area;
 use arrival::conclude;
 use arrival::find_basic;
 use arrival::go_on;
@@ -19,7 +23,10 @@ use leaving::write_rest;
 use lists::copy_keys;
 use option::Spellings;
 use port::Port;
+use port::is_usual;
+use port::looks_usual;
 use port::port_sound;
+use reading::read_keys;
 use renumber::Carried;
 use renumber::carry;
 use spelling::keys_length;
@@ -34,13 +41,82 @@ ghost use lib.Dec.{eqb};
 ghost use Rattle.leaving.specs.Kept.{keptOf};
 ghost use Rattle.gateway.specs.Forward.{forwardOf, outputOf};
 ghost use mathlib.Core.Option.{some};
-ghost use Rattle.area.specs.Area.{walkOf, octetsAt};
+ghost use Rattle.area.specs.Area.{walkOf, octetsAt, WholeAt};
+ghost use Rattle.area.specs.declared.Kind.the-variants.{Cipso};
+ghost use Rattle.area.specs.declared.Place.the-variants.{At};
+ghost use Rattle.port.specs.Port.{usualPort};
+ghost use Rattle.arrival.specs.Verdict.{Arrives};
 ghost use Rattle.arrival.specs.Checks.{barred, basicIn};
-ghost use Rattle.arrival.specs.Stages.{beforeRange, basicRead};
+ghost use Rattle.arrival.specs.Stages.{ArrivesAt, beforeRange, basicRead, heldBetween};
 ghost use Rattle.gateway.specs.Stages.{forwardingOf, recordedBy, sentBy, tabledBy, numberedBy, Crosses, heldBy, hasRoomFor, fittedBy, putCount, putFront, Writes};
 
-// Decides whether a datagram is forwarded from the arriving to the leaving port, and writes its leaving area.
+// Decides whether a datagram is forwarded from the arriving to the leaving port, and writes its leaving area. Of ports as most are, fixed places say all
+// that is asked, and nothing of them is copied.
 pub fn forward(
+    arriving: Port,
+    leaving: Port,
+    table: Table,
+    levels: [[u8; 2]; 16],
+    facts: Facts,
+    area: &[u8],
+    out: &mut [u8],
+) -> Decision
+    ensures { λ r. ⌜ r ≡ forwardOf (forwardingOf arriving leaving table levels facts (now (area .entry)) (length (now (out .entry)))) ⌝ }
+    ensures { λ _. ⌜ now (out .exit) ≡ outputOf (forwardingOf arriving leaving table levels facts (now (area .entry)) (length (now (out .entry)))) (now (out .entry)) ⌝ }
+{
+    if looks_usual(arriving) && looks_usual(leaving) {
+        if is_usual(arriving) && is_usual(leaving) {
+            return forward_usual(arriving, leaving, table, levels, facts, area, out);
+        }
+    }
+    forward_any(arriving, leaving, table, levels, facts, area, out)
+}
+
+// The same between two usual ports: neither reads option 130, so 19 to 21 are not asked, and the first look at a range is the last.
+fn forward_usual(
+    arriving: Port,
+    leaving: Port,
+    table: Table,
+    levels: [[u8; 2]; 16],
+    facts: Facts,
+    area: &[u8],
+    out: &mut [u8],
+) -> Decision
+    requires { ⌜ (usualPort arriving ≡ true) × (usualPort leaving ≡ true) ⌝ }
+    ensures { λ r. ⌜ r ≡ forwardOf (forwardingOf arriving leaving table levels facts (now (area .entry)) (length (now (out .entry)))) ⌝ }
+    ensures { λ _. ⌜ now (out .exit) ≡ outputOf (forwardingOf arriving leaving table levels facts (now (area .entry)) (length (now (out .entry)))) (now (out .entry)) ⌝ }
+{
+    let mut own = [0u32; 120];
+    let mut far = [0u32; 184];
+    let arrived = arrive_usual(arriving, area, &mut own);
+    let ready = check_leaving(arrived, out.len(), true);
+    let crossed = cross(
+        ready,
+        arriving.domain,
+        leaving.domain,
+        table,
+        levels,
+        &own,
+        &mut far,
+    );
+    let held = hold_usual(crossed, leaving.lowest, leaving.highest, &far);
+    let kept = kept_by(held, area);
+    let verdict = fit(held, false, leaving.spellings, kept, &far);
+    let count = write_area(
+        verdict,
+        false,
+        leaving.domain,
+        leaving.spellings,
+        kept,
+        area,
+        &far,
+        &mut out[..],
+    );
+    conclude(verdict, leaving.domain, facts, count, &far)
+}
+
+// The same between any two ports.
+fn forward_any(
     arriving: Port,
     leaving: Port,
     table: Table,
@@ -95,6 +171,70 @@ pub fn forward(
         &mut out[..],
     );
     conclude(verdict, leaving.domain, facts, count, &far)
+}
+
+// Checks 1 to 14 at a usual port, with the keys as `arrive` leaves them.
+fn arrive_usual(port: Port, area: &[u8], keys: &mut [u32]) -> Verdict
+    requires { ⌜ (usualPort port ≡ true) × (120 ≤ length (now keys)) ⌝ }
+    ensures { λ r. ⌜ Arrives port (now (area .entry)) 9 (now (keys .entry)) (now (keys .exit)) r ⌝ }
+{
+    if bad_area(area.len()) {
+        return stop(1, 0, 0, 0);
+    }
+    match walk_area(area, false) {
+        Walk::Refused(number, at) => stop(number, 12, 0, (20 + at) as u8),
+        Walk::Sound(place, _) => match place {
+            Place::Nowhere => stop(6, 12, 1, 134),
+            Place::At(at) => read_usual(port, area, at, keys),
+        },
+    }
+}
+
+// Checks 7 to 14 with an option 134 at an octet.
+fn read_usual(port: Port, area: &[u8], at: usize, keys: &mut [u32]) -> Verdict
+    requires { ⌜ length (now area) ≤ 40 ⌝ }
+    requires { ⌜ WholeAt Cipso (now area) at ⌝ }
+    requires { ⌜ (usualPort port ≡ true) × (120 ≤ length (now keys)) ⌝ }
+    ensures { λ r. ⌜ ArrivesAt (At at) port (now (area .entry)) 9 (now (keys .entry)) (now (keys .exit)) r ⌝ }
+{
+    let next = at + 1;
+    let n = area[next] as usize;
+    let end = at + n;
+    let read = read_keys(&area[at..end], port.domain, &mut keys[..]);
+    if read.number != 0 {
+        return stop(read.number, 12, 0, (20 + (at + read.pointer)) as u8);
+    }
+    let arrived = go_on(read.level, read.count);
+    if !lies_usual(arrived, port.lowest, port.highest, &keys[..]) {
+        return stop(14, 3, 9, 0);
+    }
+    arrived
+}
+
+// Check 17 toward a usual port.
+fn hold_usual(crossed: Verdict, lowest: Label, highest: Label, keys: &[u32]) -> Verdict
+    requires { ⌜ (lowest .count ≡ 0) × (highest .count ≤ 1) ⌝ }
+    ensures { λ r. ⌜ r ≡ heldBy crossed lowest highest (now (keys .entry)) ⌝ }
+{
+    if crossed.number != 0 {
+        return crossed;
+    }
+    if !lies_usual(crossed, lowest, highest, keys) {
+        return stop(17, 3, 9, 0);
+    }
+    crossed
+}
+
+// Whether a verdict's level and keys lie in a range from no categories to those of at most one run: what a first look leaves open lies outside.
+fn lies_usual(verdict: Verdict, lowest: Label, highest: Label, keys: &[u32]) -> bool
+    requires { ⌜ (lowest .count ≡ 0) × (highest .count ≤ 1) ⌝ }
+    ensures { λ r. ⌜ r ≡ heldBetween lowest highest verdict (now (keys .entry)) ⌝ }
+{
+    match look_between(keys, verdict.count, verdict.level, lowest, highest) {
+        Look::Within => true,
+        Look::Outside => false,
+        Look::Open => false,
+    }
 }
 
 // Check 1 of the output, and 2 of the leaving port: before 3 to 21 of what arrived.

@@ -2,14 +2,14 @@
 use Prim.Native.Nat.{ℕ, zero, suc, _+_, _-_, _*_, _/_, _≤_, _<_, min}
 use mathlib.Core.Path.{_≡_, refl, sym, ap, _∙_}
 use mathlib.Core.List.{List, [], _∷_, _++_, append-assoc, append-nil}
-use native.Mathlib.Nat.{min-le-left}
+use native.Mathlib.Nat.{add-zero, min-le-left}
 use native.Mathlib.Decide.{decLe}
 use native.Mathlib.Omega.{arith}
 use mathlib.Core.Bool.{Bool, true, false, cond, and-false}
 use lib.Dec.{leb}
 use borrow.Author.Tests.{le-leb, lt-leb, leb-true, leb-false}
 use lib.ListN.{length, getD, set, take, drop, replicate, length-drop, length-take, length-append, drop-of-length-le, take-append-drop}
-use lib.Seq.{take-all, take-append-le, take-append-add, take-take, length-take-le, drop-drop}
+use lib.Seq.{take-all, take-append-le, take-append-add, take-take, length-take-le, drop-drop, getD-drop}
 use Rattle.area.specs.declared.Kind.{Kind}
 use Rattle.area.specs.declared.Kind.the-variants.{End, NoOperation, Basic, Extended, Cipso, Other}
 use Rattle.area.specs.declared.Size.{Size}
@@ -69,6 +69,12 @@ pub kept-turn : (area : List ℕ) (at : ℕ) → at < length area → keptFrom a
 kept-turn area at h =
     ap (keptAmong area) (met-turn (drop at area) at (simp length-drop (omega arith)))
     ∙ kept-front area at (kindOf (getD (drop at area) 0 0)) (sizeOf (drop at area))
+
+-- an octet of type 1 is not kept
+pub kept-past : (area : List ℕ) (at : ℕ) → at < length area → getD area at 0 ≡ 1 → keptFrom area at ≡ keptFrom area (at + 1)
+kept-past area at h e =
+    let k : getD (drop at area) 0 0 ≡ 1 = getD-drop at area 0 0 ∙ rw add-zero e in
+    kept-turn area at h ∙ ap (λ (t : ℕ). afterNext area at (overOf (kindOf t) (spanOf (kindOf t) (sizeOf (drop at area))))) k
 
 -- one turn of a loop over the area, which found u at the octet `at`
 module _ (area : List ℕ) (at : ℕ) (u : Next) (h : at < length area) (eu : u ≡ nextOf (take (length area - at) (drop at area))) where

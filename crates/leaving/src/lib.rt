@@ -69,11 +69,16 @@ pub fn count_kept(area: &[u8]) -> usize
     let mut at = 0;
     let mut w = 0;
     while at < area.len() {
-        match next_option(&area[at..]) {
-            Next::Stop => return w,
-            Next::Over { n, kept } => {
-                w = w + kept;
-                at = at + n;
+        if area[at] == 1 {
+            // no operation: an octet that is not kept
+            at += 1;
+        } else {
+            match next_option(&area[at..]) {
+                Next::Stop => return w,
+                Next::Over { n, kept } => {
+                    w = w + kept;
+                    at = at + n;
+                }
             }
         }
     }

@@ -14,7 +14,7 @@ use Rattle.label.proofs.Bools.{less-or, and-left, and-right}
 use Rattle.port.specs.declared.Port.{Port}
 use Rattle.port.specs.Port.{portSound}
 use Rattle.ports.specs.declared.Survey.{Survey}
-use Rattle.ports.specs.Ports.{noPort, portAt, allSound, portsSound, domainsOf, surveyOf}
+use Rattle.ports.specs.Ports.{unlistedPort, portAt, allSound, portsSound, domainsOf, surveyOf}
 use Rattle.ports.specs.Stages.{startOf, notedBy}
 
 -- one port more at the end
@@ -95,7 +95,7 @@ one-more ys i s l k p ep r er =
           ∙ ap (λ (t : Survey). notedBy t p) (k .so-far)
           ∙ noted (take i ys) p
           ∙ ap (λ (q : Port). surveyOf (take i ys ++ (q ∷ []))) ep
-          ∙ ap surveyOf (sym (take-suc ys i noPort l))
+          ∙ ap surveyOf (sym (take-suc ys i unlistedPort l))
           ∙ ap (λ (n : ℕ). surveyOf (take n ys)) (sym (add-one i));
     }
 
@@ -103,7 +103,7 @@ pub at-end : (ys : List Port) (i : ℕ) (s : Survey) → length ys ≤ i → Sur
 at-end ys i s l k = k .so-far ∙ ap surveyOf (take-all i ys l)
 
 -- Of sound ports: each is sound, none is left out, and the domains known are theirs.
-sound-in : (ps : List Port) (i : ℕ) → allSound ps ≡ true → i < length ps → portSound (getD ps i noPort) ≡ true
+sound-in : (ps : List Port) (i : ℕ) → allSound ps ≡ true → i < length ps → portSound (getD ps i unlistedPort) ≡ true
 sound-in [] i e h = absurd (omega arith)
 sound-in (p ∷ ps) zero e h = and-left (portSound p) (allSound ps) e
 sound-in (p ∷ ps) (suc i) e h = sound-in ps i (and-right (portSound p) (allSound ps) e) (omega arith)
@@ -133,6 +133,6 @@ pub survey-sound : (ps : List Port) → surveyOf ps .sound ≡ portsSound ps
 unfolding surveyOf
 survey-sound ps = refl
 
-pub none-unsound : portSound noPort ≡ false
+pub none-unsound : portSound unlistedPort ≡ false
 unfolding portSound
 none-unsound = refl

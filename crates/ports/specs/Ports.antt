@@ -11,12 +11,12 @@ use Rattle.port.specs.Port.{plainPort, portSound}
 use Rattle.ports.specs.declared.Survey.{Survey}
 
 -- what stands for a port that is not in the list: its domain is 0, so that it is not sound
-abbrev pub noPort : Port
-noPort = plainPort 0 zeroLabel zeroLabel false zeroLabel
+abbrev pub unlistedPort : Port
+unlistedPort = plainPort 0 zeroLabel zeroLabel false zeroLabel
 
 -- the port of a number, counted from 0
 unfoldable pub portAt : List Port → ℕ → Port
-portAt ps i = getD ps i noPort
+portAt ps i = getD ps i unlistedPort
 
 -- every port of the list is sound
 abbrev pub allSound : List Port → Bool

@@ -6,7 +6,7 @@ use port::port_sound;
 ghost use mathlib.Core.Path.{_≡_};
 ghost use mathlib.Core.Bool.{_&&_};
 ghost use Rattle.port.specs.Port.{portSound};
-ghost use Rattle.ports.specs.Ports.{noPort, portAt, surveyOf};
+ghost use Rattle.ports.specs.Ports.{unlistedPort, portAt, surveyOf};
 ghost use Rattle.ports.specs.Stages.{startOf, notedBy};
 
 // What is to be known of all ports: whether they are sound and at most 64, how many there are, and the domain of each.
@@ -18,7 +18,7 @@ pub struct Survey {
 
 // What stands for a port that is not in the list: it is not sound.
 pub fn no_port() -> Port
-    ensures { λ r. ⌜ r ≡ noPort ⌝ }
+    ensures { λ r. ⌜ r ≡ unlistedPort ⌝ }
 {
     let zero = Label::empty(0, 0);
     Port::plain(0, zero, zero, false, zero)

@@ -2,13 +2,14 @@
 use Prim.Native.Nat.{ℕ, _+_, _-_, _*_, _/_, _%_, _≤_, _<_}
 use mathlib.Core.Path.{_≡_, refl, ap, sym, _∙_}
 use mathlib.Core.List.{List, []}
-use mathlib.Core.Bool.{Bool, true, false, not, cond}
-use lib.ListN.{length, take, drop, length-map}
+use mathlib.Core.Bool.{Bool, true, false, not, cond, _&&_}
+use lib.ListN.{length, take, drop, length-append, length-map}
 use lib.Seq.{take-at}
-use lib.Dec.{eqb}
+use lib.Dec.{eqb, ltb}
 use native.Mathlib.Omega.{arith}
-use borrow.Author.Tests.{lt-ltb, le-ltb, ne-eqb, eqb-true}
+use borrow.Author.Tests.{lt-ltb, le-ltb, eq-eqb, ne-eqb, eqb-true}
 use Rattle.label.specs.declared.Run.{Run}
+use Rattle.label.proofs.Bools.{never}
 use Rattle.label.specs.declared.Label.{Label}
 use Rattle.label.specs.Runs.{joined}
 use Rattle.label.specs.Label.{labelOf}
@@ -52,6 +53,7 @@ module _ (o keys keys′ : List ℕ) (n p : ℕ) (z : n ≡ 0 → ⊥) (f : chec
         answer = q ∙ ap keyed (sym f);
         left = e ∙ ap (λ (x : Reading). atFront (keysWith x o) keys) (sym f);
         held = omega (arith, zero-count);
+        fits = omega (arith, zero-count);
         reading = ap (λ (x : KeyReading). labelled (domainOf o) x keys′) q ∙ refused-label (domainOf o) keys′ n p z ∙ sym f;
       }
 
@@ -73,11 +75,13 @@ module _ (o keys keys′ : List ℕ) (pass : Pass) (p : PassOver (tagOf o) (cate
   unfolding labelIn
   found-tag =
       let n : pass .count ≡ length (joined (pieces (tagOf o) (categoriesIn o))) = p .counted ∙ ap length whole in
+      let ks : List ℕ = keysIn (tagOf o) (categoriesIn o) in
       let a : _≡_ {A = KeyReading} (record { number = 0; pointer = 0; level = levelOf o; count = pass .count }) (keyed (found (labelIn o))) = λ i. record { number = 0; pointer = 0; level = levelOf o; count = n i } in
       record {
         answer = a ∙ ap keyed (sym f);
         left = p .left ∙ ap (λ (x : Reading). atFront (keysWith x o) keys) (sym f);
         held = p .held;
+        fits = omega (arith, ap length (p .left), length-append ks (drop (length ks) keys), length-map (runsIn (tagOf o) (categoriesIn o)) runKey, p .counted);
         reading = ap (λ (rs : List Run). found (labelOf (domainOf o) (levelOf o) rs)) taken ∙ sym f;
       }
 
@@ -86,10 +90,14 @@ module _ (o keys : List ℕ) (n p : ℕ) (z : n ≡ 0 → ⊥) (r : KeyReading) 
   none-held : r .count ≤ 120
   none-held = let e : r .count ≡ 0 = ap (λ (x : KeyReading). x .count) q in omega arith
 
+  none-fits : r .count ≤ length keys
+  none-fits = let e : r .count ≡ 0 = ap (λ (x : KeyReading). x .count) q in omega arith
+
   pub refused-alone : readingOf o ≡ notRead n p → AloneRead o keys r
   refused-alone f =
       record {
         held = none-held;
+        fits = none-fits;
         long = λ e. absurd (z (sym (ap (λ (x : KeyReading). x .number) q) ∙ e));
         reading = ap (λ (x : KeyReading). labelled (domainOf o) x keys) q ∙ refused-label (domainOf o) keys n p z ∙ sym f;
       }
@@ -118,7 +126,7 @@ module _ (o keys : List ℕ) (n p : ℕ) (z : n ≡ 0 → ⊥) (r : KeyReading) 
 
 module _ (o keys keys′ : List ℕ) (r : KeyReading) (t : ReadsTag o keys keys′ r) where
   pub tag-alone : readingOf o ≡ checkedReading (tagChecks o) (labelIn o) → 10 ≤ length o → AloneRead o keys′ r
-  tag-alone f h = record { held = t .held; long = λ e. h; reading = t .reading ∙ sym f }
+  tag-alone f h = record { held = t .held; fits = t .fits; long = λ e. h; reading = t .reading ∙ sym f }
 
   pub tag-for : (d : ℕ) → 120 ≤ length keys → domainOf o ≡ d → readingFor d o ≡ checkedReading (tagChecks o) (labelIn o) → ReadsKeys d o keys keys′ r
   unfolding keyReadingFor keysAfter
@@ -137,6 +145,10 @@ owner-is {o} {keys} {r} a d h = go (eqb (r .number) 0) refl
     go : (t : Bool) → eqb (r .number) 0 ≡ t → cond t d 0 ≡ cond t (domainOf o) 0
     go true e = h (a .long (eqb-true _ _ e))
     go false e = refl
+
+-- An option without a bitmap's octets is no tag 1 with categories.
+pub short-none : (o : List ℕ) → (ltb 10 (length o) && eqb (tagOf o) 1) ≡ false → tagOf o ≡ 1 → 10 < length o → ⊥
+short-none o e t h = never (rw (lt-ltb 10 (length o) h, eq-eqb (tagOf o) 1 t) at e)
 
 -- The label is made of the keys.
 pub alone-is : {o keys : List ℕ} {r : KeyReading} → AloneRead o keys r → (d : ℕ) → d ≡ cond (eqb (r .number) 0) (domainOf o) 0 → (x : Reading) → x ≡ withLabel d r keys → x ≡ readingOf o

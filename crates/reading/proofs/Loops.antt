@@ -126,6 +126,18 @@ pass-bitmap b was keys f h room e =
       stands = keys-back (bitmapRuns b) (bitmap-below b h);
     }
 
+-- no octets have no runs
+pub pass-none : (b was : List ℕ) → length b ≡ 0 → PassOver 1 b was was (record { count = 0; bad = length b })
+pass-none b was z =
+    let none : bitmapRuns b ≡ [] = ap (λ (n : ℕ). setRuns (bitAt b) (8 * n)) z in
+    record {
+      counted = ap length (sym none);
+      held = omega arith;
+      bad-at = refl;
+      left = ap (λ (rs : List Run). atFront (map runKey rs) was) (sym none);
+      stands = rw none refl;
+    }
+
 -- below the next number is at most this one
 pub below-next : (a b : ℕ) → ltb a (b + 1) ≡ leb a b
 below-next a b = ⊎-elim (λ w. lt-ltb a (b + 1) (omega arith) ∙ sym (le-leb a b (omega arith))) (λ w. le-ltb a (b + 1) w ∙ sym (lt-leb a b (omega arith))) (less-or a (b + 1))

@@ -43,11 +43,13 @@ pub record ReadsTag (o keys keys′ : List ℕ) (r : KeyReading) : Type 0 where
   pub answer : r ≡ keyed (checkedReading (tagChecks o) (labelIn o))
   pub left : keys′ ≡ atFront (keysWith (checkedReading (tagChecks o) (labelIn o)) o) keys
   pub held : r .count ≤ 120
+  pub fits : r .count ≤ length keys′
   pub reading : labelled (domainOf o) r keys′ ≡ checkedReading (tagChecks o) (labelIn o)
 
 -- and of an option alone
 pub record AloneRead (o keys′ : List ℕ) (r : KeyReading) : Type 0 where
   pub held : r .count ≤ 120
+  pub fits : r .count ≤ length keys′
   pub long : r .number ≡ 0 → 10 ≤ length o
   pub reading : labelled (domainOf o) r keys′ ≡ readingOf o
 

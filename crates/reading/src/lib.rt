@@ -2,12 +2,12 @@
 // or the first refusal that applies with its place in the option.
 ghost use mathlib.Core.Path.{_≡_};
 ghost use Prim.Native.Nat.{_+_, _-_, _*_, _%_, _≤_, _<_};
-ghost use mathlib.Core.Bool.{cond, _&&_, _||_};
+ghost use mathlib.Core.Bool.{false, cond, _&&_, _||_};
 ghost use lib.Dec.{leb, ltb, eqb};
 ghost use lib.ListN.{length};
 ghost use Rattle.label.specs.Runs.{run};
 ghost use Rattle.label.specs.Keys.{runKey};
-ghost use Rattle.option.specs.Option.{domainOf};
+ghost use Rattle.option.specs.Option.{domainOf, tagOf};
 ghost use Rattle.option.specs.Index.{numberAt, bottomAt};
 ghost use Rattle.reading.specs.Stages.{afterPiece, limitAt, PassOver, ReadsTag, AloneRead};
 ghost use Rattle.reading.specs.Reading.{notRead, knownTag, goodLength, readingOf};
@@ -95,13 +95,18 @@ fn add_piece(last: Last, first: bool, low: u16, high: u16) -> Last
 
 // Tag 1, by the table; none of its categories can be bad.
 fn bitmap_keys(octets: &[u8], keys: &mut [u32]) -> Pass
-    requires { ⌜ (length (now octets) ≤ 30) × (120 ≤ length (now keys)) ⌝ }
+    requires { ⌜ (length (now octets) ≤ 30) × (0 < length (now octets) → 120 ≤ length (now keys)) ⌝ }
     ensures { λ r. ⌜ PassOver 1 (now (octets .entry)) (now (keys .entry)) (now (keys .exit)) r ⌝ }
 {
+    let n = octets.len();
+    // no call for the option without categories
+    if n == 0 {
+        return Pass { count: 0, bad: n };
+    }
     let found = read_bitmap(octets, keys);
     Pass {
         count: found.count,
-        bad: octets.len(),
+        bad: n,
     }
 }
 
@@ -126,7 +131,7 @@ fn bad_after(x: u16, next: u32) -> bool
 
 // Tag 2: the numbers are checked and added in one pass, which ends at the first bad one.
 fn number_keys(octets: &[u8], keys: &mut [u32]) -> Pass
-    requires { ⌜ (length (now octets) ≤ 30) × (120 ≤ length (now keys)) ⌝ }
+    requires { ⌜ (length (now octets) ≤ 30) × (15 ≤ length (now keys)) ⌝ }
     ensures { λ r. ⌜ PassOver 2 (now (octets .entry)) (now (keys .entry)) (now (keys .exit)) r ⌝ }
 {
     let n = octets.len() / 2;
@@ -207,7 +212,7 @@ fn either(first: bool, a: usize, b: usize) -> usize
 
 // Tag 5: the pairs are checked and added in one pass from the last to the first: the bad one that is met last is the first.
 fn pair_keys(octets: &[u8], keys: &mut [u32]) -> Pass
-    requires { ⌜ (length (now octets) ≤ 30) × (length (now octets) % 2 ≡ 0) × (120 ≤ length (now keys)) ⌝ }
+    requires { ⌜ (length (now octets) ≤ 30) × (length (now octets) % 2 ≡ 0) × (15 ≤ length (now keys)) ⌝ }
     ensures { λ r. ⌜ PassOver 5 (now (octets .entry)) (now (keys .entry)) (now (keys .exit)) r ⌝ }
 {
     let n = (octets.len() + 2) / 4;
@@ -238,7 +243,7 @@ fn pair_keys(octets: &[u8], keys: &mut [u32]) -> Pass
 
 // A tag's categories, checked and written as keys.
 fn category_keys(tag: u8, octets: &[u8], keys: &mut [u32]) -> Pass
-    requires { ⌜ (length (now octets) ≤ 30) × ((tag ≡ 1 → ⊥) → length (now octets) % 2 ≡ 0) × (120 ≤ length (now keys)) ⌝ }
+    requires { ⌜ (length (now octets) ≤ 30) × ((tag ≡ 1 → ⊥) → length (now octets) % 2 ≡ 0) × (15 ≤ length (now keys)) × (tag ≡ 1 → 0 < length (now octets) → 120 ≤ length (now keys)) ⌝ }
     ensures { λ r. ⌜ PassOver tag (now (octets .entry)) (now (keys .entry)) (now (keys .exit)) r ⌝ }
 {
     if tag == 1 {
@@ -317,7 +322,7 @@ fn domain_in(octets: &[u8]) -> u32
 
 // Rows 9 to 13, and the keys.
 fn read_tag(octets: &[u8], keys: &mut [u32]) -> KeyReading
-    requires { ⌜ (10 ≤ length (now octets)) × (120 ≤ length (now keys)) ⌝ }
+    requires { ⌜ (10 ≤ length (now octets)) × (15 ≤ length (now keys)) × (tagOf (now octets) ≡ 1 → 10 < length (now octets) → 120 ≤ length (now keys)) ⌝ }
     ensures { λ r. ⌜ ReadsTag (now (octets .entry)) (now (keys .entry)) (now (keys .exit)) r ⌝ }
 {
     let n = octets.len();
@@ -352,7 +357,7 @@ fn read_tag(octets: &[u8], keys: &mut [u32]) -> KeyReading
 
 // The keys of one option alone, or the first refusal of 3 and 7 to 13.
 fn read_alone(octets: &[u8], domain: u32, keys: &mut [u32]) -> KeyReading
-    requires { ⌜ (120 ≤ length (now keys)) × (10 ≤ length (now octets) → domain ≡ domainOf (now octets)) ⌝ }
+    requires { ⌜ (15 ≤ length (now keys)) × (tagOf (now octets) ≡ 1 → 10 < length (now octets) → 120 ≤ length (now keys)) × (10 ≤ length (now octets) → domain ≡ domainOf (now octets)) ⌝ }
     ensures { λ r. ⌜ AloneRead (now (octets .entry)) (now (keys .exit)) r ⌝ }
 {
     let n = octets.len();
@@ -409,8 +414,18 @@ fn to_reading(read: KeyReading, domain: u32, keys: &[u32]) -> Reading
     }
 }
 
-// Reads one option alone: the label that it means, or the first refusal of 3 and 7 to 13 with its place in the option.
-pub fn read_option(octets: &[u8]) -> Reading
+// Whether an option has octets of a bitmap.
+fn has_bitmap(octets: &[u8]) -> bool
+    ensures { λ r. ⌜ r ≡ (ltb 10 (length (now (octets .entry))) && eqb (tagOf (now (octets .entry))) 1) ⌝ }
+{
+    if octets.len() <= option::CATEGORIES_AT {
+        return false;
+    }
+    octets[option::TAG_TYPE_AT] == 1
+}
+
+// Room for the runs of a bitmap.
+fn read_long(octets: &[u8]) -> Reading
     ensures { λ r. ⌜ r ≡ readingOf (now (octets .entry)) ⌝ }
 {
     let mut keys = [0u32; 120];
@@ -418,6 +433,28 @@ pub fn read_option(octets: &[u8]) -> Reading
     let read = read_alone(octets, domain, &mut keys);
     let owner = owned_by(read.number, domain);
     to_reading(read, owner, &keys)
+}
+
+// Every other option has at most 15 runs: less to fill with zeros.
+fn read_short(octets: &[u8]) -> Reading
+    requires { ⌜ (ltb 10 (length (now octets)) && eqb (tagOf (now octets)) 1) ≡ false ⌝ }
+    ensures { λ r. ⌜ r ≡ readingOf (now (octets .entry)) ⌝ }
+{
+    let mut keys = [0u32; 16];
+    let domain = domain_alone(octets);
+    let read = read_alone(octets, domain, &mut keys);
+    let owner = owned_by(read.number, domain);
+    to_reading(read, owner, &keys)
+}
+
+// Reads one option alone: the label that it means, or the first refusal of 3 and 7 to 13 with its place in the option.
+pub fn read_option(octets: &[u8]) -> Reading
+    ensures { λ r. ⌜ r ≡ readingOf (now (octets .entry)) ⌝ }
+{
+    if has_bitmap(octets) {
+        return read_long(octets);
+    }
+    read_short(octets)
 }
 
 // Reads the option 134 of an area for a port of the domain into keys: how many there are, or the first refusal of 7 to 13 with its place in

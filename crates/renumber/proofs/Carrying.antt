@@ -2,11 +2,11 @@
 use mathlib.Core.Path.{_≡_, refl, sym, _∙_, ap}
 use mathlib.Core.Bool.{Bool, true, false, cond, not, _&&_, and-false, and-assoc}
 use mathlib.Core.List.{List, [], _∷_, _++_, map}
-use Prim.Native.Nat.{ℕ, _+_, _*_, _/_, _%_, _≤_}
+use Prim.Native.Nat.{ℕ, suc, _+_, _*_, _/_, _%_, _≤_, _<_}
 use native.Mathlib.Omega.{arith}
 use lib.Dec.{leb, eqb}
-use lib.ListN.{length, take, drop, length-map, length-append, length-drop, take-append-drop}
-use lib.Seq.{length-take-le, take-at}
+use lib.ListN.{length, take, drop, getD, length-map, length-append, length-drop, take-append-drop}
+use lib.Seq.{length-take-le, take-at, take-all}
 use borrow.Author.Tests.{le-leb, leb-true, eq-eqb, ne-eqb}
 use Rattle.label.specs.declared.Run.{Run}
 use Rattle.label.specs.declared.Label.{Label}
@@ -20,15 +20,16 @@ use Rattle.table.specs.declared.Row.{Row}
 use Rattle.table.specs.declared.Table.{Table}
 use Rattle.table.specs.declared.Partner.{Partner}
 use Rattle.table.specs.declared.Partner.the-variants.{Level, Missing}
-use Rattle.table.specs.Table.{usedRows, tableSound, rising, targetsApart}
+use Rattle.table.specs.Table.{noRow, usedRows, tableSound, rising, targetsApart}
 use Rattle.table.specs.Numbers.{partnerOf, known, levelOr0, numbered, inImage}
-use Rattle.table.specs.Order.{inOrder}
+use Rattle.table.specs.Order.{rowOrder, rowAt, inOrder}
+use Rattle.table.proofs.Order.{order-turn, order-length}
 use Rattle.table.proofs.Sound.{sound, sound-rows}
 use Rattle.renumber.specs.declared.Carried.{Carried}
 use Rattle.renumber.specs.Sets.{runsOf}
 use Rattle.renumber.specs.Renumber.{imageOf}
 use Rattle.renumber.specs.Carry.{labelRuns, notCarried, carriedTo, carriedKeys, carryOf}
-use Rattle.renumber.specs.Stages.{joinFrom, joinAll, joinOnto, stretched, pieces, Gathered}
+use Rattle.renumber.specs.Stages.{joinFrom, joinAll, joinOnto, stretched, rowPieces, pieces, Cut, partsOf, Inside, Joined}
 use Rattle.renumber.proofs.Sets.{set-spaced}
 use Rattle.renumber.proofs.Pass.{numbered-yes}
 use Rattle.renumber.proofs.Join.{onto-all}
@@ -175,6 +176,36 @@ none-numbered rows = numbered-yes rows [] (λ c e. absurd (never (sym e)))
 
 pub none-image : (rows : List Row) → length rows ≤ 65536 → rising 0 rows ≡ true → targetsApart rows ≡ true → runsOf (inImage rows []) ≡ []
 none-image rows few e a = sym (gathered-runs rows [] few e a refl) ∙ ap (λ (z : List ℕ). keyRuns (joinOnto [] z)) (pieces-none (inOrder rows))
+
+-- The pieces of the rows in the order of their targets, joined: what both passes have written.
+pub record Gathered (rows : List Row) (runs : List Run) (was : List ℕ) (count : ℕ) (keys : List ℕ) : Type 0 where
+  pub held : count ≤ 184
+  pub joined : take count keys ≡ joinOnto [] (pieces (inOrder rows) runs)
+  pub rest : drop count keys ≡ drop count was
+
+parts-pieces : (rows : List Row) (runs : List Run) (start cut : List ℕ)
+    → ((q : ℕ) → q < length rows → drop (getD start q 0) (take (getD start (q + 1) 0) cut) ≡ rowPieces (getD rows q noRow) runs)
+    → (ks : List ℕ) → ((k : ℕ) → k < length ks → getD ks k 0 % 65536 < length rows) → partsOf ks start cut ≡ pieces (map (rowAt rows) ks) runs
+parts-pieces rows runs start cut each [] there = refl
+parts-pieces rows runs start cut each (x ∷ ks) there = rw (each (x % 65536) (there 0 (omega arith)), parts-pieces rows runs start cut each ks (λ k h. there (suc k) (omega arith)))
+
+module _ (rows : List Row) (runs : List Run) (cut start : List ℕ) (few : length rows ≤ 64) (e : rising 0 rows ≡ true) (c : Cut rows runs true cut start) (m : ℕ) (order : List ℕ) (along : take m order ≡ rowOrder rows) where
+  place : (k : ℕ) → k < length (rowOrder rows) → getD (rowOrder rows) k 0 % 65536 < length rows
+  place k l =
+      order-turn rows (length rows) (rowOrder rows) k (omega arith) e (take-all (length rows) (rowOrder rows) (omega (arith, order-length rows))) refl (omega (arith, order-length rows)) .place
+
+  pub parts-are : partsOf (take m order) start cut ≡ pieces (inOrder rows) runs
+  parts-are = rw along (parts-pieces rows runs start cut (c .each refl) (rowOrder rows) place)
+
+  pub parts-inside : length start ≡ 65 → Inside (take m order) start cut
+  parts-inside h = rw along (λ k l. (omega (arith, place k l), c .inside refl (getD (rowOrder rows) k 0 % 65536) (place k l)))
+
+  module _ (s : spaced 0 runs ≡ true) (n : length runs ≤ 120) where
+    pub parts-few : length (partsOf (take m order) start cut) ≤ 184
+    parts-few = omega (arith, ap length parts-are, order-few rows runs (omega arith) e s)
+
+    pub gathered-of : (was : List ℕ) (count : ℕ) (keys : List ℕ) → Joined (partsOf (take m order) start cut) was count keys → Gathered rows runs was count keys
+    gathered-of was count keys j = record { held = omega (arith, j .few, parts-few); joined = j .joined ∙ ap (joinOnto []) parts-are; rest = j .rest }
 
 -- Rows that rise, with targets apart, and spaced runs.
 module _ (rows : List Row) (runs : List Run) (few : length rows ≤ 65536) (e : rising 0 rows ≡ true) (a : targetsApart rows ≡ true) (s : spaced 0 runs ≡ true) where

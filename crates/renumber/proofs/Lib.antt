@@ -3,7 +3,7 @@ pub mod Image
 pub mod Join
 pub mod Pass
 pub mod Pieces
-pub mod Starts
+pub mod Cutting
 pub mod Turns
 pub mod Held
 pub mod Carrying

@@ -79,7 +79,7 @@ pub left-none : (rows : List Row) (runs : List Run) (x : Run) (xs : List Run) �
 left-none rows runs x xs k q = stop-none x xs (k .gaps) (k .to q)
 
 -- The first run from a number on, as the loop has it.
-clip-same : (f g : ℕ) (xs : List Run) → spaced g xs ≡ true → f ≤ g → clip f xs ≡ xs
+pub clip-same : (f g : ℕ) (xs : List Run) → spaced g xs ≡ true → f ≤ g → clip f xs ≡ xs
 clip-same f g [] e h = refl
 clip-same f g (x ∷ xs) e h =
     let s = first g x xs e in

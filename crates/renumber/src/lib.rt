@@ -5,11 +5,11 @@ ghost use Prim.Native.Nat.{_+_, _≤_, _<_, min, max};
 ghost use lib.ListN.{length, take, drop};
 ghost use Rattle.label.specs.Runs.{spaced};
 ghost use Rattle.label.specs.Keys.{keyRuns};
-ghost use Rattle.table.specs.Table.{usedRows, targetEnd, rowsSound};
+ghost use Rattle.table.specs.Table.{usedRows, targetEnd, rising};
 ghost use Rattle.table.specs.Numbers.{partnerOf, numbered};
 ghost use Rattle.renumber.specs.Renumber.{notRenumbered, fitted, imageOf, renumberedOf};
 ghost use Rattle.renumber.specs.Carry.{labelRuns, notCarried, carriedTo, carriedKeys, carryOf};
-ghost use Rattle.renumber.specs.Stages.{stretched, pushKey, joinOnto, pieceKey, rowPieces, Ready, Starts, Gathered};
+ghost use Rattle.renumber.specs.Stages.{stretched, pushKey, joinOnto, pieceKey, Ready, Cut, partsOf, Inside, Joined};
 use label::Label;
 use label::label_keys;
 use label::to_label;
@@ -184,10 +184,13 @@ fn carry_checked(
         };
     }
     let mut start = [0u32; 65];
-    if !find_starts(own, n, table, &mut start) {
+    let mut cut = [0u32; MOST_RUNS];
+    let rows = table.rows;
+    let m = table.count;
+    if !cut_runs(own, n, rows, m, &mut cut, &mut start) {
         return not_carried(16);
     }
-    let count = gather_rows(own, n, table, order, &start, far);
+    let count = join_rows(&cut, &start, order, m, far);
     Carried {
         number: 0,
         level: to,
@@ -195,41 +198,54 @@ fn carry_checked(
     }
 }
 
-// One pass over rows and ranges: whether every category lies in a row, and for each row the first range that may reach into it.
-fn find_starts(own: &[u32], n: usize, table: Table, start: &mut [u32]) -> bool
-    requires { ⌜ (n ≤ length (now own)) × (n ≤ 120) × (length (now start) ≡ 65) × (table .count ≤ 64) × (rowsSound table ≡ true) × (spaced 0 (keyRuns (take n (now own))) ≡ true) ⌝ }
-    ensures { λ r. ⌜ Starts (usedRows table) (keyRuns (take n (now (own .entry)))) r (now (start .exit)) ⌝ }
+// One pass over the first m rows and the ranges: whether every category lies in a row, and the pieces that the rows cut out of the ranges, those of
+// one row behind those of the row before; for each row the place where its pieces begin.
+fn cut_runs(
+    own: &[u32],
+    n: usize,
+    rows: [Row; 64],
+    m: usize,
+    cut: &mut [u32],
+    start: &mut [u32],
+) -> bool
+    requires { ⌜ (n ≤ length (now own)) × (n ≤ 120) × (length (now cut) ≡ 184) × (length (now start) ≡ 65) × (m ≤ 64) × (rising 0 (take m rows) ≡ true) × (spaced 0 (keyRuns (take n (now own))) ≡ true) ⌝ }
+    ensures { λ r. ⌜ Cut (take m rows) (keyRuns (take n (now (own .entry)))) r (now (cut .exit)) (now (start .exit)) ⌝ }
 {
-    let m = table.count;
     let mut from: u32 = 0;
+    let mut w: usize = 0;
     let mut i: usize = 0;
     let mut j: usize = 0;
     start[0] = 0;
     while j < m {
         if n <= i {
             j += 1;
-            start[j] = i as u32;
+            start[j] = w as u32;
         } else {
             let run = own[i];
-            let row = table.rows[j];
+            let row = rows[j];
             let low = larger(run / 65536, from);
             let high = run % 65536;
             let base = row.low as u32;
             let top = row.high as u32;
-            if top < low {
+            if high <= top {
+                if low < base {
+                    return false;
+                }
+                cut[w] = piece_key(row, low, high);
+                w += 1;
+                i += 1;
+            } else if top < low {
                 j += 1;
-                start[j] = i as u32;
+                start[j] = w as u32;
             } else {
                 if low < base {
                     return false;
                 }
-                if high <= top {
-                    i += 1;
-                } else {
-                    from = top + 1;
-                    j += 1;
-                    start[j] = i as u32;
-                }
+                cut[w] = piece_key(row, low, top);
+                w += 1;
+                from = top + 1;
+                j += 1;
+                start[j] = w as u32;
             }
         }
     }
@@ -245,65 +261,37 @@ fn larger(a: u32, b: u32) -> u32
     a
 }
 
-fn smaller(a: u32, b: u32) -> u32
-    ensures { λ r. ⌜ r ≡ min a b ⌝ }
+// The pieces of the first m rows in order, joined where they touch.
+fn join_rows(cut: &[u32], start: &[u32], order: &[u32], m: usize, keys: &mut [u32]) -> usize
+    requires { ⌜ (m ≤ length (now order)) × Inside (take m (now order)) (now start) (now cut) × (length (partsOf (take m (now order)) (now start) (now cut)) ≤ length (now keys)) ⌝ }
+    ensures { λ r. ⌜ Joined (partsOf (take m (now (order .entry))) (now (start .entry)) (now (cut .entry))) (now (keys .entry)) r (now (keys .exit)) ⌝ }
 {
-    if a < b {
-        return a;
-    }
-    b
-}
-
-// The pieces that the rows cut out of the ranges, in the order of the rows' targets, joined where they touch.
-fn gather_rows(
-    own: &[u32],
-    n: usize,
-    table: Table,
-    order: &[u32],
-    start: &[u32],
-    keys: &mut [u32],
-) -> usize
-    requires { ⌜ (n ≤ length (now own)) × (184 ≤ length (now keys)) × (length (now start) ≡ 65) × Ready table (now order) (keyRuns (take n (now own))) × Starts (usedRows table) (keyRuns (take n (now own))) true (now start) ⌝ }
-    ensures { λ r. ⌜ Gathered (usedRows table) (keyRuns (take n (now (own .entry)))) (now (keys .entry)) r (now (keys .exit)) ⌝ }
-{
-    let m = table.count;
     let mut w: usize = 0;
     let mut k: usize = 0;
     while k < m {
         let x = order[k];
         let j = (x % 65536) as usize;
-        let row = table.rows[j];
         let y = start[j];
-        let at = y as usize;
-        w = gather_row(own, n, at, row, keys, w);
+        let a = y as usize;
+        let z = start[j + 1];
+        let e = z as usize;
+        w = join_row(cut, a, e, keys, w);
         k += 1;
     }
     w
 }
 
-// The pieces of one row are put behind the first w keys.
-fn gather_row(own: &[u32], n: usize, at: usize, row: Row, keys: &mut [u32], w: usize) -> usize
-    requires { ⌜ (n ≤ length (now own)) × (row .low ≤ row .high) × (targetEnd row ≤ 65534) × (spaced 0 (keyRuns (take n (now own))) ≡ true) × (w + length (rowPieces row (drop at (keyRuns (take n (now own))))) ≤ length (now keys)) ⌝ }
-    ensures { λ r. ⌜ (w ≤ r) × (r ≤ w + length (rowPieces row (drop at (keyRuns (take n (now (own .entry))))))) × (drop r (now (keys .exit)) ≡ drop r (now (keys .entry))) × (take r (now (keys .exit)) ≡ joinOnto (take w (now (keys .entry))) (rowPieces row (drop at (keyRuns (take n (now (own .entry))))))) ⌝ }
+// The pieces from a to e are put behind the first w keys.
+fn join_row(cut: &[u32], a: usize, e: usize, keys: &mut [u32], w: usize) -> usize
+    requires { ⌜ (e ≤ length (now cut)) × (w + length (drop a (take e (now cut))) ≤ length (now keys)) ⌝ }
+    ensures { λ r. ⌜ (w ≤ r) × (r ≤ w + length (drop a (take e (now (cut .entry))))) × (drop r (now (keys .exit)) ≡ drop r (now (keys .entry))) × (take r (now (keys .exit)) ≡ joinOnto (take w (now (keys .entry))) (drop a (take e (now (cut .entry))))) ⌝ }
 {
-    let base = row.low as u32;
-    let top = row.high as u32;
     let mut k = w;
-    let mut i = at;
-    while i < n {
-        let run = own[i];
-        if top < run / 65536 {
-            return k;
-        }
-        let low = larger(run / 65536, base);
-        let high = smaller(run % 65536, top);
-        if low <= high {
-            let x = piece_key(row, low, high);
-            k = push_key(keys, k, x);
-            i += 1;
-        } else {
-            i += 1;
-        }
+    let mut i = a;
+    while i < e {
+        let x = cut[i];
+        k = push_key(keys, k, x);
+        i += 1;
     }
     k
 }

@@ -15,7 +15,7 @@ use Rattle.table.proofs.Order.{order-length}
 use Rattle.renumber.proofs.Answers.{order-sized}
 use Rattle.reverse.specs.declared.Reversed.{Reversed}
 use Rattle.reverse.specs.declared.Head.{Head}
-use Rattle.reverse.specs.Reverse.{turnedRows, reverseTable, zeroTable, reversedOf, noHead, reverseHead, rowNumbers, withRows}
+use Rattle.reverse.specs.Reverse.{turnedRows, reverseTable, noReverse, reversedOf, noHead, reverseHead, rowNumbers, withRows}
 use Rattle.reverse.specs.Stages.{InOrder}
 use Rattle.reverse.proofs.Tables.{used-length}
 
@@ -32,7 +32,7 @@ module _ (t : Table) (ls : List (List ℕ)) where
         along = ap (take (t .count)) (e ∙ a) ∙ take-at (rowOrder (usedRows t)) (replicate (64 - t .count) 0) (t .count) (order-length (usedRows t) ∙ used-length t ls s);
       }
 
-  pub reversed-unsound : tableSound t ls ≡ false → _≡_ {A = Reversed} (record { number = 2; table = zeroTable }) (reversedOf t ls)
+  pub reversed-unsound : tableSound t ls ≡ false → _≡_ {A = Reversed} (record { number = 2; table = noReverse }) (reversedOf t ls)
   unfolding reversedOf
   reversed-unsound s = sym (rw s)
 

@@ -37,12 +37,12 @@ reverseTable t =
     record { from = t .to; to = t .from; pairs = t .pairs; count = t .count; rows = turnedRows (usedRows t) ++ replicate (64 - t .count) noRow }
 
 -- every number is 0
-abbrev pub zeroTable : Table
-zeroTable = record { from = 0; to = 0; pairs = 0; count = 0; rows = replicate 64 noRow }
+abbrev pub noReverse : Table
+noReverse = record { from = 0; to = 0; pairs = 0; count = 0; rows = replicate 64 noRow }
 
 -- 2 for an unsound table
 unfoldable pub reversedOf : Table → List (List ℕ) → Reversed
-reversedOf t ls = cond (tableSound t ls) (record { number = 0; table = reverseTable t }) (record { number = 2; table = zeroTable })
+reversedOf t ls = cond (tableSound t ls) (record { number = 0; table = reverseTable t }) (record { number = 2; table = noReverse })
 
 -- a refusal: every other number is 0
 abbrev pub noHead : ℕ → Head

@@ -22,11 +22,11 @@ use Rattle.route.specs.declared.Chosen.{Chosen}
 use Rattle.route.specs.declared.Chosen.the-variants.{NoRoute, By}
 use Rattle.route.specs.Route.{routesOf, longest, routesSound}
 use Rattle.ports.specs.declared.Survey.{Survey}
-use Rattle.ports.specs.Ports.{noPort, portAt, portsSound, domainsOf, surveyOf}
+use Rattle.ports.specs.Ports.{unlistedPort, portAt, portsSound, domainsOf, surveyOf}
 use Rattle.ports.proofs.Laws.{few-enough, count-known, domains-known, survey-sound, none-unsound}
 use Rattle.tables.specs.declared.Tables.{Tables}
 use Rattle.tables.specs.Tables.{tablesSound}
-use Rattle.routing.specs.declared.Way.{Way}
+use Rattle.routing.specs.declared.Course.{Course}
 use Rattle.routing.specs.Routing.{Routing, boxSound, chosen, between, chosenPair, noRoute, routingOf, routedOutput}
 use Rattle.routing.specs.Stages.{routingFor, knownSound, wayBy, wayOf, unroutedChecks, unroutedOf, goneBy, goneOut}
 use Rattle.routing.proofs.Lists.{skip, cut}
@@ -50,11 +50,11 @@ module _ (ps : List Port) (ts : Tables) (rs : List ℕ) (i destination : ℕ) (f
           rw (survey-sound ps, e, domains-known ps e, count-known ps e, f)
 
   -- where the set is unsound, the box answers as where the arriving port is not sound
-  unsound-answer : unroutedOf noPort facts area room ≡ decided (silenced facts) (firstOf (sizes (chosenPair b) ∷ some (silent 2) ∷ [])) zeroLabel 0
+  unsound-answer : unroutedOf unlistedPort facts area room ≡ decided (silenced facts) (firstOf (sizes (chosenPair b) ∷ some (silent 2) ∷ [])) zeroLabel 0
   unfolding unroutedOf sizes
   unsound-answer =
-      ap (λ (t : Bool). decided (silenced facts) (firstOf (when (badArea area || ltb room 40) (silent 1) ∷ when (not t) (silent 2) ∷ (arrivalChecks noPort area 9 ++ (some noRoute ∷ [])))) zeroLabel 0) none-unsound
-      ∙ ap (λ (o : Option Refusal). decided (silenced facts) o zeroLabel 0) (cut (when (badArea area || ltb room 40) (silent 1) ∷ []) (silent 2) (arrivalChecks noPort area 9 ++ (some noRoute ∷ [])))
+      ap (λ (t : Bool). decided (silenced facts) (firstOf (when (badArea area || ltb room 40) (silent 1) ∷ when (not t) (silent 2) ∷ (arrivalChecks unlistedPort area 9 ++ (some noRoute ∷ [])))) zeroLabel 0) none-unsound
+      ∙ ap (λ (o : Option Refusal). decided (silenced facts) o zeroLabel 0) (cut (when (badArea area || ltb room 40) (silent 1) ∷ []) (silent 2) (arrivalChecks unlistedPort area 9 ++ (some noRoute ∷ [])))
 
   unrouted-answer : portSound (portAt ps i) ≡ true → unroutedOf (portAt ps i) facts area room ≡ decided (silenced facts) (firstOf (sizes (chosenPair b) ∷ (arrivalChecks (portAt ps i) area 9 ++ (some noRoute ∷ [])))) zeroLabel 0
   unfolding unroutedOf sizes
@@ -62,10 +62,10 @@ module _ (ps : List Port) (ts : Tables) (rs : List ℕ) (i destination : ℕ) (f
       ap (λ (t : Bool). decided (silenced facts) (firstOf (when (badArea area || ltb room 40) (silent 1) ∷ when (not t) (silent 2) ∷ (arrivalChecks (portAt ps i) area 9 ++ (some noRoute ∷ [])))) zeroLabel 0) e
       ∙ ap (λ (o : Option Refusal). decided (silenced facts) o zeroLabel 0) (skip (when (badArea area || ltb room 40) (silent 1) ∷ []) (arrivalChecks (portAt ps i) area 9 ++ (some noRoute ∷ [])))
 
-  abbrev nowhere : Way
+  abbrev nowhere : Course
   nowhere = record { sound = false; routed = false; leaving = 0 }
 
-  abbrev Goes : Way → List ℕ → Type 0
+  abbrev Goes : Course → List ℕ → Type 0
   Goes w out = (goneBy w (portAt ps i) (portAt ps (w .leaving)) ts facts area room ≡ routingOf b) × (goneOut w (portAt ps i) (portAt ps (w .leaving)) ts facts area room out ≡ routedOutput b out)
 
   by-choice : boxSound b ≡ true → (c : Chosen) → chosen b ≡ c → (out : List ℕ) → Goes (wayBy c) out
@@ -78,18 +78,18 @@ module _ (ps : List Port) (ts : Tables) (rs : List ℕ) (i destination : ℕ) (f
   by-set true e out = by-choice e (chosen b) refl out
   by-set false e out = (unsound-answer ∙ sym (unsound-of b e), sym (untouched-of b e out))
 
-  found-way : (s : Survey) (w : Way) → s ≡ surveyOf ps → w ≡ wayOf s ts rs i destination → w ≡ cond (boxSound b) (wayBy (chosen b)) nowhere
+  found-way : (s : Survey) (w : Course) → s ≡ surveyOf ps → w ≡ wayOf s ts rs i destination → w ≡ cond (boxSound b) (wayBy (chosen b)) nowhere
   unfolding wayOf chosen
   found-way s w es ew =
       ew
       ∙ ap (λ (x : Survey). cond (knownSound x ts rs i) (wayBy (longest destination (routesOf rs))) nowhere) es
       ∙ ap (λ (t : Bool). cond t (wayBy (longest destination (routesOf rs))) nowhere) known-set
 
-  pub gone : (s : Survey) (w : Way) (a l : Port) (d : Decision) (out zs : List ℕ) → s ≡ surveyOf ps → w ≡ wayOf s ts rs i destination → a ≡ portAt ps i → l ≡ portAt ps (w .leaving)
+  pub gone : (s : Survey) (w : Course) (a l : Port) (d : Decision) (out zs : List ℕ) → s ≡ surveyOf ps → w ≡ wayOf s ts rs i destination → a ≡ portAt ps i → l ≡ portAt ps (w .leaving)
       → (d ≡ goneBy w a l ts facts area room) × (zs ≡ goneOut w a l ts facts area room out) → (d ≡ routingOf b) × (zs ≡ routedOutput b out)
   gone s w a l d out zs es ew ea el g =
       let k = found-way s w es ew in
-      let h = subst (λ (v : Way). Goes v out) (sym k) (by-set (boxSound b) refl out) in (
+      let h = subst (λ (v : Course). Goes v out) (sym k) (by-set (boxSound b) refl out) in (
         g .0 ∙ ap (λ (p : Port). goneBy w p l ts facts area room) ea ∙ ap (λ (p : Port). goneBy w (portAt ps i) p ts facts area room) el ∙ h .0,
         g .1 ∙ ap (λ (p : Port). goneOut w p l ts facts area room out) ea ∙ ap (λ (p : Port). goneOut w (portAt ps i) p ts facts area room out) el ∙ h .1,
       )

@@ -18,7 +18,7 @@ use Rattle.filetable.specs.TableFormat.{levelsOf}
 use Rattle.route.specs.declared.Chosen.{Chosen}
 use Rattle.route.specs.declared.Chosen.the-variants.{NoRoute, By}
 use Rattle.route.specs.Route.{routesOf, longest, routesSound}
-use Rattle.ports.specs.Ports.{noPort, portAt, portsSound, domainsOf}
+use Rattle.ports.specs.Ports.{unlistedPort, portAt, portsSound, domainsOf}
 use Rattle.tables.specs.declared.Tables.{Tables}
 use Rattle.tables.specs.Tables.{usedTables, tablesSound, firstTable}
 
@@ -50,7 +50,7 @@ arrivingPort b = portAt (b .ports) (b .arriving)
 
 -- the port that the route leads to
 abbrev pub portBy : List Port → Chosen → Port
-portBy ps NoRoute = noPort
+portBy ps NoRoute = unlistedPort
 portBy ps (By r) = portAt ps (r .port)
 
 abbrev pub leavingPort : Routing → Port

@@ -19,10 +19,10 @@ use Rattle.route.specs.declared.Chosen.{Chosen}
 use Rattle.route.specs.declared.Chosen.the-variants.{NoRoute, By}
 use Rattle.route.specs.Route.{routesOf, longest, routesSound}
 use Rattle.ports.specs.declared.Survey.{Survey}
-use Rattle.ports.specs.Ports.{noPort}
+use Rattle.ports.specs.Ports.{unlistedPort}
 use Rattle.tables.specs.declared.Tables.{Tables}
 use Rattle.tables.specs.Tables.{tablesSound}
-use Rattle.routing.specs.declared.Way.{Way}
+use Rattle.routing.specs.declared.Course.{Course}
 use Rattle.routing.specs.Routing.{Routing, noRoute, between}
 
 -- the inputs of a decision
@@ -36,11 +36,11 @@ knownSound s ts rs arriving =
     s .sound && (tablesSound ts && (ltb arriving (s .count) && (leb (s .count) 64 && routesSound (take (s .count) (s .domains)) rs)))
 
 -- where the datagram goes: nowhere by an unsound set, by no route, or to a port
-abbrev pub wayBy : Chosen → Way
+abbrev pub wayBy : Chosen → Course
 wayBy NoRoute = record { sound = true; routed = false; leaving = 0 }
 wayBy (By r) = record { sound = true; routed = true; leaving = r .port }
 
-unfoldable pub wayOf : Survey → Tables → List ℕ → ℕ → ℕ → Way
+unfoldable pub wayOf : Survey → Tables → List ℕ → ℕ → ℕ → Course
 wayOf s ts rs arriving destination = cond (knownSound s ts rs arriving) (wayBy (longest destination (routesOf rs))) (record { sound = false; routed = false; leaving = 0 })
 
 -- without a route: 1, 2 of the arriving port, 3 to 14 of it, and then 22
@@ -55,9 +55,9 @@ unfoldable pub unroutedBy : Verdict → ℕ → Verdict
 unroutedBy r room = cond (eqb (r .number) 1) r (cond (ltb room 40) (stopped 1 0 0 0) (cond (eqb (r .number) 0) (stopped 22 3 0 0) r))
 
 -- the decision by the way found, and what the output holds then
-unfoldable pub goneBy : Way → Port → Port → Tables → Facts → List ℕ → ℕ → Decision
+unfoldable pub goneBy : Course → Port → Port → Tables → Facts → List ℕ → ℕ → Decision
 goneBy w a l ts facts area room =
-    cond (w .sound) (cond (w .routed) (forwardOf (between a l ts facts area room)) (unroutedOf a facts area room)) (unroutedOf noPort facts area room)
+    cond (w .sound) (cond (w .routed) (forwardOf (between a l ts facts area room)) (unroutedOf a facts area room)) (unroutedOf unlistedPort facts area room)
 
-unfoldable pub goneOut : Way → Port → Port → Tables → Facts → List ℕ → ℕ → List ℕ → List ℕ
+unfoldable pub goneOut : Course → Port → Port → Tables → Facts → List ℕ → ℕ → List ℕ → List ℕ
 goneOut w a l ts facts area room out = cond (w .sound) (cond (w .routed) (outputOf (between a l ts facts area room) out) out) out

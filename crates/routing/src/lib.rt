@@ -26,7 +26,7 @@ ghost use Rattle.routing.specs.Routing.{routingOf, routedOutput};
 ghost use Rattle.routing.specs.Stages.{routingFor, knownSound, wayOf, unroutedOf, unroutedBy, goneBy, goneOut};
 
 // Where a datagram goes: nowhere where the set is unsound or no route matches, else to the port of a number.
-struct Way {
+struct Course {
     sound: bool,
     routed: bool,
     leaving: usize,
@@ -54,23 +54,29 @@ pub fn decide(
 }
 
 // Checks the set, and chooses the route.
-fn find_way(known: Survey, tables: Tables, routes: &[u32], arriving: usize, destination: u32) -> Way
+fn find_way(
+    known: Survey,
+    tables: Tables,
+    routes: &[u32],
+    arriving: usize,
+    destination: u32,
+) -> Course
     ensures { λ r. ⌜ (r ≡ wayOf known tables (now (routes .entry)) arriving destination) × (r .leaving ≤ 4294967295) ⌝ }
 {
     if !set_sound(known, tables, routes, arriving) {
-        return Way {
+        return Course {
             sound: false,
             routed: false,
             leaving: 0,
         };
     }
     match choose_route(routes, destination) {
-        Chosen::NoRoute => Way {
+        Chosen::NoRoute => Course {
             sound: true,
             routed: false,
             leaving: 0,
         },
-        Chosen::By(route) => Way {
+        Chosen::By(route) => Course {
             sound: true,
             routed: true,
             leaving: widen(route.port),
@@ -107,7 +113,7 @@ fn set_sound(known: Survey, tables: Tables, routes: &[u32], arriving: usize) -> 
 
 // Decides by the way found. A box whose set is unsound answers as one whose arriving port is.
 fn go_way(
-    way: Way,
+    way: Course,
     a: Port,
     l: Port,
     tables: Tables,

@@ -83,27 +83,13 @@ module _ (l : Label) (w : wellFormed l ≡ true) where
       ∙ keys-runs 0 (used l) (formed l w .runs)
 
   -- at most one
-  pub keys-first : (ks : List ℕ) (key : ℕ) → key ≡ runKey (getD (l .runs) 0 noRun) → l .count ≤ 1 → 0 < length (l .runs) → 0 < length ks
-      → keyRuns (take (l .count) (set ks 0 key)) ≡ used l
-  keys-first ks key e h m n =
-      let same : take (l .count) (set ks 0 key) ≡ map runKey (used l) = rw e (first (l .count) (l .runs) ks h m n) in
+  pub keys-one : (key : ℕ) → key ≡ runKey (getD (l .runs) 0 noRun) → l .count ≤ 1 → 0 < length (l .runs) → keyRuns (take (l .count) (key ∷ [])) ≡ used l
+  keys-one key e h m =
+      let same : take (l .count) (key ∷ []) ≡ map runKey (used l) = rw e (first (l .count) (l .runs) h m) in
       ap keyRuns same ∙ keys-runs 0 (used l) (formed l w .runs)
     where
-      first : (c : ℕ) (rs : List Run) (ks : List ℕ) → c ≤ 1 → 0 < length rs → 0 < length ks → take c (set ks 0 (runKey (getD rs 0 noRun))) ≡ map runKey (take c rs)
-      first c [] ks h m n = absurd (omega arith)
-      first c (r ∷ rs) [] h m n = absurd (omega arith)
-      first zero (r ∷ rs) (k ∷ ks) h m n = refl
-      first (suc zero) (r ∷ rs) (k ∷ ks) h m n = refl
-      first (suc (suc c)) (r ∷ rs) (k ∷ ks) h m n = absurd (omega arith)
-
-  -- as many as the label counts
-  pub keys-held : (keys : List ℕ) → 120 ≤ length keys → l .count ≤ length keys
-  keys-held keys h = omega (arith, formed l w .held)
-
-  -- what writing them does
-  pub label-put : (p : Spellings) (keys out out′ : List ℕ) (r : ℕ) → keyRuns (take (l .count) keys) ≡ used l → 40 ≤ length out
-      → (r ≡ keysCount p (l .domain) (l .level) (take (l .count) keys) (length out)) × (out′ ≡ keysWritten p (l .domain) (l .level) (take (l .count) keys) out)
-      → (r ≡ lengthOf (spelledOf p l)) × (out′ ≡ inFront (spelledOf p l) out)
-  label-put p keys out out′ r e h c =
-      let p = keys-put p (l .domain) (l .level) (take (l .count) keys) (used l) out e (omega (arith, used-length l (formed l w), formed l w .held)) h in
-      (c .0 ∙ p .0, c .1 ∙ p .1)
+      first : (c : ℕ) (rs : List Run) → c ≤ 1 → 0 < length rs → take c (runKey (getD rs 0 noRun) ∷ []) ≡ map runKey (take c rs)
+      first c [] h m = absurd (omega arith)
+      first zero (r ∷ rs) h m = refl
+      first (suc zero) (r ∷ rs) h m = refl
+      first (suc (suc c)) (r ∷ rs) h m = absurd (omega arith)

@@ -5,4 +5,5 @@ pub mod Bodies
 pub mod Writing
 pub mod Answers
 pub mod Keys
+pub mod Few
 pub mod Theorems

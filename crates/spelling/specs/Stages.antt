@@ -5,12 +5,19 @@ use mathlib.Core.Path.{_≡_}
 use mathlib.Core.Bool.{cond}
 use mathlib.Core.Logic.{_⊎_}
 use mathlib.Core.List.{List, [], _∷_}
+use mathlib.Core.Option.{Option, none, some}
 use lib.Bits.{bitOr}
 use lib.ListN.{length, getD, drop}
 use lib.Dec.{leb}
 use Rattle.label.specs.declared.Run.{Run}
 use Rattle.label.specs.Runs.{inRun}
 use Rattle.option.specs.Spelling.{bitsOf, bodyFor}
+use Rattle.spelling.specs.declared.Spelling.{Spelling}
+
+-- what spelling says of the option that there is, or of none
+abbrev pub keysAnswer : Option (List ℕ) → Spelling
+keysAnswer none = record { number = 18; count = 0 }
+keysAnswer (some s) = record { number = 0; count = length s }
 
 -- a count of categories, or 16 where it is over 15
 abbrev pub capped : ℕ → ℕ

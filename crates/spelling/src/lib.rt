@@ -1,22 +1,23 @@
 // Spelling: the one shortest option of a label among the permitted ones is chosen and written (document 01, "Option and tags" and "Asked
 // alone"; document 02, Wish 5).
 ghost use mathlib.Core.Path.{_≡_};
-ghost use mathlib.Core.Bool.{true, cond, _&&_};
+ghost use mathlib.Core.Bool.{cond, _&&_};
 ghost use mathlib.Core.List.{map, _++_};
 ghost use Prim.Native.Nat.{ℕ, _+_, _-_, _*_, _/_, _%_, _^_, _≤_, _<_};
 ghost use lib.Dec.{leb, eqb};
 ghost use lib.ListN.{length, take, drop, set};
 ghost use Rattle.label.specs.Runs.{spaced, unused, covers, countOf};
-ghost use Rattle.label.specs.Label.{used, wellFormed};
+ghost use Rattle.label.specs.Label.{used};
 ghost use Rattle.label.specs.Keys.{keyRun, keyRuns, runKey};
 ghost use Rattle.option.specs.Permitted.{usual};
-ghost use Rattle.option.specs.Spelling.{octetsOf, octetsOut, numbersOf, formIf, shorter, leastForm, formFor, bodyFor};
+ghost use Rattle.option.specs.Spelling.{octetsOf, octetsOut, numbersOf, formIf, shorter, leastForm, formFor, bodyFor, spellingOf};
 ghost use Rattle.option.specs.Index.{numbersOut, pairNumber};
-ghost use Rattle.spelling.specs.Spelling.{lengthOf, spellingAnswer, spellingOut};
+ghost use Rattle.spelling.specs.Spelling.{lengthOf, spellingAnswer, spellingOut, laid};
 ghost use Rattle.spelling.specs.Keys.{keysSpelled, keysCount, keysWritten};
-ghost use Rattle.spelling.specs.Stages.{capped, Written, headOf, RunAdded};
+ghost use Rattle.spelling.specs.Stages.{keysAnswer, capped, Written, headOf, RunAdded};
 use label::Label;
 use label::Run;
+use lists::lesser;
 use lists::zero_all;
 use option::ALIGNMENT_AT;
 use option::CATEGORIES_AT;
@@ -47,6 +48,9 @@ const NO_OCTETS: usize = 31;
 // One category more than a tag 2 holds.
 const TOO_MANY_NUMBERS: usize = 16;
 
+// So many runs are few: spelled without a copy of the whole label.
+const FEW_RUNS: usize = 16;
+
 // What spelling a label alone answers: 0 and the option's length, or the number of a refusal and 0.
 pub struct Spelling {
     pub number: u8,
@@ -65,56 +69,180 @@ pub fn spell_label(label: Label, permitted: Spellings, out: &mut [u8]) -> Spelli
         };
     }
     let n = label.count;
-    let mut keys = [0u32; 120];
-    if !keys_formed(label, &mut keys) {
+    if n <= 1 {
+        return spell_one(label, permitted, out);
+    }
+    if label.domain == 0 {
         return Spelling {
             number: 2,
             count: 0,
         };
     }
-    let length = write_keys(
+    if n <= FEW_RUNS {
+        return spell_few(label, permitted, out);
+    }
+    if Label::MAX_RUNS < n {
+        return Spelling {
+            number: 2,
+            count: 0,
+        };
+    }
+    spell_many(label, permitted, out)
+}
+
+// A label of at most one run. No place is indexed by a number that is not fixed, so that the label is not copied.
+fn spell_one(label: Label, permitted: Spellings, out: &mut [u8]) -> Spelling
+    requires { ⌜ (label .count ≤ 1) × (40 ≤ length (now out)) ⌝ }
+    ensures { λ r. ⌜ (r ≡ spellingAnswer permitted label (length (now (out .entry)))) × (now (out .exit) ≡ spellingOut permitted label (now (out .entry))) ⌝ }
+{
+    let n = label.count;
+    let run = label.runs[0];
+    let key = key_of(run);
+    if !label.well_formed() {
+        return Spelling {
+            number: 2,
+            count: 0,
+        };
+    }
+    let keys = [key; 1];
+    spell_keys(
         &keys[..n],
         permitted,
         label.domain,
         label.level,
         &mut out[..],
-    );
-    if length == 0 {
+    )
+}
+
+// A label of few runs: the places that may be used are fixed too, and they alone are copied.
+fn spell_few(label: Label, permitted: Spellings, out: &mut [u8]) -> Spelling
+    requires { ⌜ (label .domain ≡ 0 → ⊥) × (label .count ≤ 16) × (40 ≤ length (now out)) ⌝ }
+    ensures { λ r. ⌜ (r ≡ spellingAnswer permitted label (length (now (out .entry)))) × (now (out .exit) ≡ spellingOut permitted label (now (out .entry))) ⌝ }
+{
+    let n = label.count;
+    let mut keys = [0u32; 16];
+    front_keys(label, &mut keys);
+    let formed = few_formed(&keys, n) & unused_after_few(label);
+    if !formed {
+        return Spelling {
+            number: 2,
+            count: 0,
+        };
+    }
+    spell_keys(
+        &keys[..n],
+        permitted,
+        label.domain,
+        label.level,
+        &mut out[..],
+    )
+}
+
+// A label of any number of runs: all places are copied.
+fn spell_many(label: Label, permitted: Spellings, out: &mut [u8]) -> Spelling
+    requires { ⌜ (label .domain ≡ 0 → ⊥) × (label .count ≤ 120) × (40 ≤ length (now out)) ⌝ }
+    ensures { λ r. ⌜ (r ≡ spellingAnswer permitted label (length (now (out .entry)))) × (now (out .exit) ≡ spellingOut permitted label (now (out .entry))) ⌝ }
+{
+    let n = label.count;
+    let mut keys = [0u32; 120];
+    if !runs_formed(label, &mut keys) {
+        return Spelling {
+            number: 2,
+            count: 0,
+        };
+    }
+    spell_keys(
+        &keys[..n],
+        permitted,
+        label.domain,
+        label.level,
+        &mut out[..],
+    )
+}
+
+// The label's first 16 places as keys.
+fn front_keys(label: Label, keys: &mut [u32])
+    requires { ⌜ length (now keys) ≡ 16 ⌝ }
+    ensures { λ _. ⌜ (keyRuns (now (keys .exit)) ≡ take 16 (label .runs)) × (length (now (keys .exit)) ≡ 16) ⌝ }
+{
+    let mut i: usize = 0;
+    while i < FEW_RUNS {
+        let run = label.runs[i];
+        keys[i] = key_of(run);
+        i += 1;
+    }
+}
+
+// Whether the label's places after the first 16 are zero.
+fn unused_after_few(label: Label) -> bool
+    ensures { λ r. ⌜ r ≡ unused (drop 16 (label .runs)) ⌝ }
+{
+    let mut rest: u32 = 0;
+    let mut i: usize = FEW_RUNS;
+    while i < 120 {
+        let run = label.runs[i];
+        rest = rest | word(run);
+        i += 1;
+    }
+    rest == 0
+}
+
+// The form of the first 16 places by their keys: n are used.
+fn few_formed(keys: &[u32], n: usize) -> bool
+    requires { ⌜ (n ≤ 16) × (length (now keys) ≡ 16) ⌝ }
+    ensures { λ r. ⌜ r ≡ (spaced 0 (keyRuns (take n (now (keys .entry)))) && unused (keyRuns (drop n (now (keys .entry))))) ⌝ }
+{
+    let mut good = true;
+    let mut floor: u32 = 0;
+    let mut i: usize = 0;
+    while i < n {
+        let key = keys[i];
+        let low = key / 65536;
+        let high = key % 65536;
+        good = good & (floor <= low) & (low <= high);
+        floor = high + 2;
+        i += 1;
+    }
+    let mut rest: u32 = 0;
+    while i < FEW_RUNS {
+        rest = rest | keys[i];
+        i += 1;
+    }
+    good & (floor <= 65536) & (rest == 0)
+}
+
+// Spells the keys' runs: the option with zeros up to octet 39, or the refusal 18, which writes nothing.
+fn spell_keys(
+    keys: &[u32],
+    permitted: Spellings,
+    domain: u32,
+    level: u8,
+    out: &mut [u8],
+) -> Spelling
+    requires { ⌜ (length (now keys) ≤ 120) × (40 ≤ length (now out)) ⌝ }
+    ensures { λ r. ⌜ (r ≡ keysAnswer (spellingOf permitted domain level (keyRuns (now (keys .entry))))) × (now (out .exit) ≡ laid (spellingOf permitted domain level (keyRuns (now (keys .entry)))) (now (out .entry))) ⌝ }
+{
+    let form = choose(keys, permitted);
+    let tag = form.tag;
+    let size = form.size;
+    if tag == 0 {
         return Spelling {
             number: 18,
             count: 0,
         };
     }
-    zero_all(&mut out[length..OPTION_OCTETS]);
+    // a fixed number of octets, and before the categories: what they leave stays zero
+    zero_all(&mut out[CATEGORIES_AT..OPTION_OCTETS]);
+    write_body(keys, tag, size, &mut out[CATEGORIES_AT..]);
+    write_head(domain, level, tag, size, &mut out[..]);
     Spelling {
         number: 0,
-        count: length,
+        count: CATEGORIES_AT + size,
     }
-}
-
-// Whether the label is well formed; then its keys stand at the front of the list.
-fn keys_formed(label: Label, keys: &mut [u32]) -> bool
-    requires { ⌜ 120 ≤ length (now keys) ⌝ }
-    ensures { λ r. ⌜ (r ≡ wellFormed label) × (r ≡ true → keyRuns (take (label .count) (now (keys .exit))) ≡ used label) × (length (now (keys .exit)) ≡ length (now (keys .entry))) ⌝ }
-{
-    let n = label.count;
-    if n <= 1 {
-        // no place is indexed by a number that is not fixed, so that the label is not copied
-        let run = label.runs[0];
-        keys[0] = key_of(run);
-        return label.well_formed();
-    }
-    if label.domain == 0 {
-        return false;
-    }
-    if Label::MAX_RUNS < n {
-        return false;
-    }
-    runs_formed(label, keys)
 }
 
 fn key_of(run: Run) -> u32
-    ensures { λ r. ⌜ r ≡ runKey run ⌝ }
+    ensures { λ r. ⌜ (r ≡ runKey run) × (r / 65536 ≡ run .low) × (r % 65536 ≡ run .high) ⌝ }
 {
     (run.low as u32) * 65536 + (run.high as u32)
 }
@@ -185,11 +313,11 @@ pub fn write_keys(
         return 0;
     }
     let form = choose(keys, permitted);
-    let tag = form.tag;
-    let size = form.size;
-    if tag == 0 {
+    if form.tag == 0 {
         return 0;
     }
+    let tag = form.tag;
+    let size = form.size;
     write_body(keys, tag, size, &mut out[CATEGORIES_AT..]);
     write_head(domain, level, tag, size, &mut out[..]);
     CATEGORIES_AT + size
@@ -242,21 +370,36 @@ fn span(key: u32) -> usize
     (high + 1 - low) as usize
 }
 
-// How many categories the runs have, or 16 where they are over 15: too many for tag 2.
+// A number, or 16 where it is over 15.
+fn cap(n: usize) -> usize
+    ensures { λ r. ⌜ r ≡ capped n ⌝ }
+{
+    if TOO_MANY_NUMBERS <= n {
+        return TOO_MANY_NUMBERS;
+    }
+    n
+}
+
+// How many categories the runs have, or 16 where they are over 15: too many for tag 2. Up to 16 runs are gone through without a test at each.
 fn count_categories(keys: &[u32]) -> usize
     ensures { λ r. ⌜ r ≡ capped (countOf (keyRuns (now (keys .entry)))) ⌝ }
 {
     let m = keys.len();
+    let few = lesser(m, FEW_RUNS);
     let mut n: usize = 0;
     let mut i: usize = 0;
-    while i < m {
+    while i < few {
         n += span(keys[i]);
+        i += 1;
+    }
+    while i < m {
         if TOO_MANY_NUMBERS <= n {
             return TOO_MANY_NUMBERS;
         }
+        n += span(keys[i]);
         i += 1;
     }
-    n
+    cap(n)
 }
 
 // A form that is permitted and whose tag holds what is needed, or none.

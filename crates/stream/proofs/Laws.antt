@@ -9,7 +9,7 @@ use lib.Seq.{take-suc, drop-cons, append-snoc, set-at, getD-append-add, getD-dro
 use Rattle.stream.specs.declared.input.Window.{Window}
 use Rattle.stream.specs.declared.place.Place.{Place}
 use Rattle.stream.specs.Input.{lying, heldCount, held, Holds}
-use Rattle.stream.specs.Place.{going, stopped, flushed, Flushes, Spares, Feeds}
+use Rattle.stream.specs.Place.{goingPlace, stoppedPlace, flushed, Flushes, Spares, Feeds}
 
 -- a buffer whose octets from `at` on stand at the front too, `to` of them
 abbrev pub moved : ℕ → ℕ → List ℕ → List ℕ
@@ -84,18 +84,18 @@ module _ (xs : List ℕ) (w v : Window) (lies : v ≡ lying (length xs) w) (insi
 
 -- what a place comes to
 module _ (xs : List ℕ) (p : Place) (v : Window) (lies : v ≡ lying (length xs) (p .window)) (inside : (v .at ≤ v .end) × (v .end ≤ length xs)) where
-  pub feeds-enough : (n : ℕ) → n ≤ v .end - v .at → Feeds xs p n xs (going v (p .waiting))
+  pub feeds-enough : (n : ℕ) → n ≤ v .end - v .at → Feeds xs p n xs (goingPlace v (p .waiting))
   feeds-enough n h =
       record {
         sent = true;
         sized = refl;
         inside = inside;
-        enough = λ k. (refl, ap (λ (u : Window). going u (p .waiting)) lies);
+        enough = λ k. (refl, ap (λ (u : Window). goingPlace u (p .waiting)) lies);
         unsent = λ k. absurd (omega (arith, held-count xs (p .window) v lies inside));
         fed = λ k. absurd (omega (arith, held-count xs (p .window) v lies inside));
       }
 
-  pub feeds-unsent : (n : ℕ) → v .end - v .at < n → Feeds xs p n xs (stopped 0)
+  pub feeds-unsent : (n : ℕ) → v .end - v .at < n → Feeds xs p n xs (stoppedPlace 0)
   feeds-unsent n h =
       record {
         sent = false;
@@ -106,7 +106,7 @@ module _ (xs : List ℕ) (p : Place) (v : Window) (lies : v ≡ lying (length xs
         fed = λ k e. absurd (let z : _≡_ {A = ℕ} 0 1 = cc in omega arith);
       }
 
-  pub feeds-read : (n : ℕ) (ys : List ℕ) (u : Window) → v .end - v .at < n → Holds xs (p .window) n ys u → Feeds xs p n ys (going u 0)
+  pub feeds-read : (n : ℕ) (ys : List ℕ) (u : Window) → v .end - v .at < n → Holds xs (p .window) n ys u → Feeds xs p n ys (goingPlace u 0)
   feeds-read n ys u h r =
       record {
         sent = true;

@@ -9,16 +9,16 @@ use Rattle.stream.specs.declared.input.Window.{Window}
 use Rattle.stream.specs.declared.place.Place.{Place}
 use Rattle.stream.specs.Input.{lying, heldCount, Holds}
 
-abbrev pub going : Window → ℕ → Place
-going w waiting = record { window = w; waiting = waiting; more = true }
+abbrev pub goingPlace : Window → ℕ → Place
+goingPlace w waiting = record { window = w; waiting = waiting; more = true }
 
 -- nothing is read any more; what waits is still to be written
-abbrev pub stopped : ℕ → Place
-stopped waiting = record { window = record { at = 0; end = 0 }; waiting = waiting; more = false }
+abbrev pub stoppedPlace : ℕ → Place
+stoppedPlace waiting = record { window = record { at = 0; end = 0 }; waiting = waiting; more = false }
 
 -- what waits is written and the program goes on as before; or a write failed, so that nothing waits any more and nothing follows
 abbrev pub flushed : Place → Bool → Place
-flushed p sent = cond sent (record { window = p .window; waiting = 0; more = p .more }) (stopped 0)
+flushed p sent = cond sent (record { window = p .window; waiting = 0; more = p .more }) (stoppedPlace 0)
 
 pub record Flushes (p r : Place) : Type 0 where
   pub sent : Bool
@@ -41,8 +41,8 @@ pub record Feeds (before : List ℕ) (p : Place) (n : ℕ) (after : List ℕ) (r
   pub sized : length after ≡ length before
   pub inside : (r .window .at ≤ r .window .end) × (r .window .end ≤ length after)
   -- n octets are held already: nothing is written, and nothing is read
-  pub enough : n ≤ heldCount before (p .window) → (after ≡ before) × (r ≡ going (lying (length before) (p .window)) (p .waiting))
+  pub enough : n ≤ heldCount before (p .window) → (after ≡ before) × (r ≡ goingPlace (lying (length before) (p .window)) (p .waiting))
   -- there are fewer, and a write failed: nothing is read, and nothing follows
-  pub unsent : heldCount before (p .window) < n → sent ≡ false → (after ≡ before) × (r ≡ stopped 0)
+  pub unsent : heldCount before (p .window) < n → sent ≡ false → (after ≡ before) × (r ≡ stoppedPlace 0)
   -- there are fewer, and what waited is written: the input is read
   pub fed : heldCount before (p .window) < n → sent ≡ true → Holds before (p .window) n after (r .window) × (r .waiting ≡ 0) × (r .more ≡ true)

@@ -1,6 +1,6 @@
 // Where a program stands between two records of its input.
 ghost use mathlib.Core.Path.{_≡_};
-ghost use Rattle.stream.specs.Place.{going, stopped, Flushes, Spares, Feeds};
+ghost use Rattle.stream.specs.Place.{goingPlace, stoppedPlace, Flushes, Spares, Feeds};
 use crate::input::Window;
 use crate::input::hold;
 use crate::input::lie;
@@ -15,14 +15,14 @@ pub struct Place {
 
 // Nothing is read and nothing waits.
 pub fn begin() -> Place
-    ensures { λ r. ⌜ r ≡ going (record { at = 0; end = 0 }) 0 ⌝ }
+    ensures { λ r. ⌜ r ≡ goingPlace (record { at = 0; end = 0 }) 0 ⌝ }
 {
     go_on(0, 0, 0)
 }
 
 // A record is answered, and the next one's octets begin at `at`.
 pub fn go_on(at: usize, end: usize, waiting: usize) -> Place
-    ensures { λ r. ⌜ r ≡ going (record { at = at; end = end }) waiting ⌝ }
+    ensures { λ r. ⌜ r ≡ goingPlace (record { at = at; end = end }) waiting ⌝ }
 {
     Place {
         window: Window { at: at, end: end },
@@ -33,7 +33,7 @@ pub fn go_on(at: usize, end: usize, waiting: usize) -> Place
 
 // No record follows.
 pub fn stop(waiting: usize) -> Place
-    ensures { λ r. ⌜ r ≡ stopped waiting ⌝ }
+    ensures { λ r. ⌜ r ≡ stoppedPlace waiting ⌝ }
 {
     Place {
         window: Window { at: 0, end: 0 },

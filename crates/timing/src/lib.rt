@@ -1,12 +1,9 @@
 // What tools/bench times: reading, spelling and forward, each done many times in one call, so that neither the call nor the building of the
 // records counts. The functions are for measuring alone; those for use are in the crate `exports`. Every answer depends on all results, by
-// fixed places of them.
+// fixed places of them. The loops of the bitmap and of the house file are in the crate `timing_parts`: a second caller in one library would keep a
+// function from being put into its first.
 use arrival::Decision;
 use arrival::Facts;
-use bitmap::read_bitmap;
-use file::Written;
-use file::read_file;
-use file::write_file;
 use gateway::forward;
 use label::Label;
 use option::Spellings;
@@ -57,56 +54,6 @@ pub extern "C" fn time_spell(octets: &[u8], size: usize, out: &mut [u8], times: 
         let label = labels[i % LABELS];
         let s = spell_label(label, permitted, &mut out[..]);
         total = mix(mix(total, s.number as usize), s.count);
-        i += 1;
-    }
-    total
-}
-
-// Reads the bitmaps of `size` octets that stand one after the other, `times` in all, from the first again after the last.
-#[no_mangle]
-pub extern "C" fn time_bitmap(octets: &[u8], size: usize, times: usize) -> usize {
-    let n = octets.len();
-    if n < size {
-        return 0;
-    }
-    let last = n - size;
-    let mut keys = [0u32; 120];
-    let mut at: usize = 0;
-    let mut total: usize = 0;
-    let mut i: usize = 0;
-    while i < times {
-        let end = at + size;
-        let found = read_bitmap(&octets[at..end], &mut keys);
-        total = mix(mix(total, found.number as usize), found.count);
-        at = next_place(at, size, last);
-        i += 1;
-    }
-    total
-}
-
-// Reads the gateway file, `times` in all.
-#[no_mangle]
-pub extern "C" fn time_read_file(octets: &[u8], times: usize) -> usize {
-    let mut total: usize = 0;
-    let mut i: usize = 0;
-    while i < times {
-        let read = read_file(octets);
-        total = mix(total, read.verdict as usize);
-        i += 1;
-    }
-    total
-}
-
-// Reads the gateway file once, and writes its set, `times` in all.
-#[no_mangle]
-pub extern "C" fn time_write_file(octets: &[u8], out: &mut [u8], times: usize) -> usize {
-    let read = read_file(octets);
-    let set = read.set;
-    let mut total: usize = 0;
-    let mut i: usize = 0;
-    while i < times {
-        let w = write_file(set, &mut out[..]);
-        total = written_digest(total, w);
         i += 1;
     }
     total
@@ -193,16 +140,6 @@ fn next_place(at: usize, size: usize, last: usize) -> usize
 
 fn mix(total: usize, x: usize) -> usize {
     (total % 65536) * 31 + x % 65536
-}
-
-// The number of the writer, and the count; no number is that of a refusal by name.
-fn written_digest(total: usize, w: Written) -> usize {
-    match w {
-        Written::Done(count) => mix(mix(total, 0), count),
-        Written::Short => mix(mix(total, 1), 0),
-        Written::Unsound => mix(mix(total, 2), 0),
-        Written::Unsaid => mix(mix(total, 3), 0),
-    }
 }
 
 fn reading_digest(r: Reading) -> usize {

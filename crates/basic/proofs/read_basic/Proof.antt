@@ -9,7 +9,7 @@ use borrow.Author.Tests.{not-true, not-false}
 use Rattle.basic.specs.Levels.{isLevel, rankOf}
 use Rattle.basic.specs.Option.{flagField}
 use Rattle.basic.specs.Alone.{basicFound}
-use Rattle.basic.specs.Places.{framedAt, endedAt}
+use Rattle.basic.specs.Stages.{framedAt, endedAt}
 use Rattle.basic.proofs.Levels.{rank-level, rank-no-level}
 use Rattle.basic.proofs.Form.{reading-at}
 use Rattle.basic.proofs.read_basic.Statement.{statement}

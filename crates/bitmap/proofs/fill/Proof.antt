@@ -5,36 +5,23 @@ use Prim.Native.Nat.{_-_, _*_, _≤_}
 use mathlib.Core.Path.{_≡_, refl, _∙_}
 use lib.ListN.{drop, length}
 use Rattle.bitmap.specs.Stages.{Stands}
-use Rattle.bitmap.proofs.Table.{rule}
 use Rattle.bitmap.proofs.Turn.{stands-start, stays, stands-end}
 use Rattle.bitmap.proofs.fill.Statement.{statement}
 use Rattle.bitmap.proofs.fill.Tie as tie
 
 abbrev Inv-loop : tie.InvT-loop
-Inv-loop octets keys₀ n table last₀ base₀ i₀ keys last base i = Stands octets i keys last × (drop (last .count) keys ≡ drop (last .count) keys₀) × (i ≤ n) × (length keys ≡ length keys₀) × (base ≡ i * 524296)
+Inv-loop octets keys₀ n last₀ base₀ i₀ keys last base i = Stands octets i keys last × (drop (last .count) keys ≡ drop (last .count) keys₀) × (i ≤ n) × (length keys ≡ length keys₀) × (base ≡ i * 524296)
 
 abbrev μ-loop : tie.MeasureT-loop
-μ-loop octets keys₀ n table last₀ base₀ i₀ keys last base i = n - i
+μ-loop octets keys₀ n last₀ base₀ i₀ keys last base i = n - i
 
 loop-holds : tie.Need-loop-holds Inv-loop μ-loop
 loop-holds c = (stands-start _ _, refl, omega arith, refl, omega arith)
 
-shared-slice-read-place-of : tie.Need-shared-slice-read-place-of Inv-loop μ-loop
-shared-slice-read-place-of c = search needs
-
-place-of-requires : tie.Need-place-of-requires Inv-loop μ-loop
-place-of-requires c κs = search needs
-
-mul-entry : tie.Need-mul-entry Inv-loop μ-loop
-mul-entry c = search needs
-
-array-read-entry : tie.Need-array-read-entry Inv-loop μ-loop
-array-read-entry c = search needs
-
 add-octet-requires : tie.Need-add-octet-requires Inv-loop μ-loop
 add-octet-requires c κs =
-    let p = c .before .place-of in
-    (search needs, search needs, rw (← p .ensures .0) (rule (p .result) (p .ensures .1)), c .before .before .before .before .loop .inv .0, omega (arith, c .before .before .before .before .loop .inv .3, c .before .before .before .before .before .before .before .pre .1), c .before .before .before .before .loop .inv .4)
+    let l = c .before .before .loop in
+    (search needs, search needs, l .inv .0, omega (arith, l .inv .3, c .before .before .before .before .before .pre .1), l .inv .4)
 
 add-i : tie.Need-add-i Inv-loop μ-loop
 add-i c = search needs
@@ -43,13 +30,13 @@ add-base : tie.Need-add-base Inv-loop μ-loop
 add-base c = search needs
 
 loop-less : tie.Need-loop-less Inv-loop μ-loop
-loop-less c = omega (arith, c .before .before .before .before .before .before .loop-test .taken)
+loop-less c = omega (arith, c .before .before .before .before .loop-test .taken)
 
 loop-again : tie.Need-loop-again Inv-loop μ-loop
 loop-again c =
-    let l = c .before .before .before .before .before .before .before .loop in
+    let l = c .before .before .before .before .before .loop in
     let a = c .before .before .add-octet in
-    (a .ensures .0, stays (l .last .count) (a .result .count) _ _ _ (a .ensures .1) (a .ensures .2) (l .inv .1), omega (arith, c .before .before .before .before .before .before .loop-test .taken), a .ensures .3 ∙ l .inv .3, omega (arith, l .inv .4))
+    (a .ensures .0, stays (l .last .count) (a .result .count) _ _ _ (a .ensures .1) (a .ensures .2) (l .inv .1), omega (arith, c .before .before .before .before .loop-test .taken), a .ensures .3 ∙ l .inv .3, omega (arith, l .inv .4))
 
 same-length : tie.Need-same-length Inv-loop μ-loop
 same-length c = c .before .loop .inv .3
@@ -66,10 +53,6 @@ fill-spec =
     Inv-loop
     μ-loop
     loop-holds
-    shared-slice-read-place-of
-    place-of-requires
-    mul-entry
-    array-read-entry
     add-octet-requires
     add-i
     add-base

@@ -1,6 +1,6 @@
--- `bitmap::read_bitmap` meets its contract: each refusal by its test; no octets have no runs.
+-- `bitmap::read_bitmap` meets its contract: each refusal by its test.
 use borrow.Author.Needs.{needs}
-use Rattle.bitmap.proofs.Theorems.{found-short, found-long, found-none, found-all}
+use Rattle.bitmap.proofs.Theorems.{found-short, found-long, found-all}
 use Rattle.bitmap.proofs.read_bitmap.Statement.{statement}
 use Rattle.bitmap.proofs.read_bitmap.Tie as tie
 
@@ -10,19 +10,16 @@ returns c = found-short _ _ (c .if1 .taken)
 returns-2 : tie.Need-returns-2
 returns-2 c = found-long _ _ (c .before .if1 .left) (c .if2 .taken)
 
-returns-3 : tie.Need-returns-3
-returns-3 c = found-none _ _ (c .before .before .if1 .left) (c .if3 .taken)
-
 fill-requires : tie.Need-fill-requires
 fill-requires c κs = search needs
 
 same-length : tie.Need-same-length
 same-length c = search needs
 
-returns-4 : tie.Need-returns-4
-returns-4 c =
+returns-3 : tie.Need-returns-3
+returns-3 c =
     let d = c .before .before .before .before in
-    found-all _ _ (d .before .before .if1 .left) (d .before .if2 .left) _ _ (c .before .before .fill .ensures)
+    found-all _ _ (d .before .if1 .left) (d .if2 .left) _ _ (c .before .before .fill .ensures)
 
 pub read-bitmap-spec : {M : Type 1} → statement M
-read-bitmap-spec = tie.close (tie.spec returns returns-2 returns-3 fill-requires same-length returns-4)
+read-bitmap-spec = tie.close (tie.spec returns returns-2 fill-requires same-length returns-3)

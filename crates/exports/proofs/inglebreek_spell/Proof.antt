@@ -4,7 +4,7 @@ use native.Mathlib.Omega.{arith}
 use mathlib.Core.Path.{_≡_}
 use lib.ListN.{length}
 use lib.Seq.{take-all}
-use Rattle.exports.specs.Answers.{labelBy}
+use Rattle.exports.specs.Answers.{labelOfKeys}
 use Rattle.exports.proofs.Laws.{spells-nothing, spells-whole}
 use Rattle.exports.proofs.inglebreek_spell.Statement.{statement}
 use Rattle.exports.proofs.inglebreek_spell.Tie as tie
@@ -44,11 +44,11 @@ returns-2 c =
     let to = permitted .before in
     let s = to .before .before .before .before .before in
     let keys = s .args .runs .now in
-    let same : to .to-label .result ≡ labelBy (s .args .domain) (s .args .level) keys =
+    let same : to .to-label .result ≡ labelOfKeys (s .args .domain) (s .args .level) keys =
     rw (take-all (length keys) keys (omega arith)) at (to .to-label .ensures) in
     spells-whole
     (to .to-label .result)
-    (labelBy (s .args .domain) (s .args .level) keys)
+    (labelOfKeys (s .args .domain) (s .args .level) keys)
     (s .args .out .now)
     (s .args .answer .now)
     _

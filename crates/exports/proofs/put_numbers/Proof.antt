@@ -7,7 +7,7 @@ use mathlib.Core.List.{List, _++_}
 use lib.ListN.{length, take, drop, getD, set, length-set}
 use lib.Seq.{take-all}
 use Rattle.lists.proofs.Laws.{copy-more}
-use Rattle.exports.specs.Answers.{headed}
+use Rattle.exports.specs.Answers.{withNumbers}
 use Rattle.exports.proofs.put_numbers.Statement.{statement}
 use Rattle.exports.proofs.put_numbers.Tie as tie
 
@@ -52,7 +52,7 @@ same-length : tie.Need-same-length Inv-loop μ-loop
 same-length c = c .before .loop .inv .1
 
 returns : tie.Need-returns Inv-loop μ-loop
-unfolding headed
+unfolding withNumbers
 returns c =
     let l = c .before in
     let a = l .before .args in

@@ -4,7 +4,7 @@ use borrow.Author.Tests.{not-true, not-false}
 use mathlib.Core.Bool.{true, false, _&&_}
 use mathlib.Core.Path.{_≡_, refl, _∙_}
 use lib.Dec.{ltb, eqb}
-use Rattle.file.specs.File.{answered}
+use Rattle.file.specs.File.{fileAnswer}
 use Rattle.file.proofs.refuse_field.Statement.{statement}
 use Rattle.file.proofs.refuse_field.Tie as tie
 
@@ -12,7 +12,7 @@ refuse-requires : tie.Need-refuse-requires
 refuse-requires c κs = search needs
 
 returns : tie.Need-returns
-unfolding answered
+unfolding fileAnswer
 returns c =
     let a = c .before .before .args in
     let e : (eqb (a .at) 2 && ltb 2 (a .total)) ≡ false = not-true _ (c .before .if1 .taken) in
@@ -22,7 +22,7 @@ empty-set-requires : tie.Need-empty-set-requires
 empty-set-requires c κs = search needs
 
 returns-2 : tie.Need-returns-2
-unfolding answered
+unfolding fileAnswer
 returns-2 c =
     let a = c .before .before .args in
     let e : (eqb (a .at) 2 && ltb 2 (a .total)) ≡ true = not-false _ (c .before .if1 .left) in

@@ -8,7 +8,7 @@ use borrow.Author.Tests.{not-true, not-false, le-leb, lt-leb}
 use lib.Dec.{leb}
 use Rattle.fileset.specs.Set.{setSound}
 use Rattle.file.specs.declared.Written.the-variants.{Done}
-use Rattle.file.specs.File.{sayable, totalOf, writtenOf, outputOf}
+use Rattle.file.specs.File.{sayable, totalOf, writtenOf, fileOutput}
 use Rattle.file.proofs.write_file.Statement.{statement}
 use Rattle.file.proofs.write_file.Tie as tie
 
@@ -16,7 +16,7 @@ set-sound-requires : tie.Need-set-sound-requires
 set-sound-requires c κs = search needs
 
 returns : tie.Need-returns
-unfolding writtenOf outputOf
+unfolding writtenOf fileOutput
 returns c =
     let e : setSound (c .before .before .before .args .set) ≡ false = sym (c .before .set-sound .ensures) ∙ not-true _ (c .if1 .taken) in
     rw e (refl, refl)
@@ -25,7 +25,7 @@ set-sayable-requires : tie.Need-set-sayable-requires
 set-sayable-requires c κs = sym (c .before .set-sound .ensures) ∙ not-false _ (c .if1 .left)
 
 returns-2 : tie.Need-returns-2
-unfolding writtenOf outputOf
+unfolding writtenOf fileOutput
 returns-2 c =
     let s = c .before .before .before .before .before .args .set in
     let e : setSound s ≡ true = sym (c .before .before .before .set-sound .ensures) ∙ not-false _ (c .before .before .if1 .left) in
@@ -36,7 +36,7 @@ file-size-requires : tie.Need-file-size-requires
 file-size-requires c κs = sym (c .before .before .before .set-sound .ensures) ∙ not-false _ (c .before .before .if1 .left)
 
 returns-3 : tie.Need-returns-3
-unfolding writtenOf outputOf
+unfolding writtenOf fileOutput
 returns-3 c =
     let sized = c .before in
     let said = sized .before in
@@ -57,7 +57,7 @@ same-length : tie.Need-same-length
 same-length c = search needs
 
 returns-4 : tie.Need-returns-4
-unfolding writtenOf outputOf
+unfolding writtenOf fileOutput
 returns-4 c =
     let sized = c .before .before .before .before .before in
     let said = sized .before in

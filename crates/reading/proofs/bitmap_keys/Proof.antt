@@ -1,8 +1,12 @@
 -- `reading::bitmap_keys` meets its contract.
 use borrow.Author.Needs.{needs}
-use Rattle.reading.proofs.Loops.{pass-bitmap}
+use native.Mathlib.Omega.{arith}
+use Rattle.reading.proofs.Loops.{pass-none, pass-bitmap}
 use Rattle.reading.proofs.bitmap_keys.Statement.{statement}
 use Rattle.reading.proofs.bitmap_keys.Tie as tie
+
+returns : tie.Need-returns
+returns c = let s = c .before .before .before in pass-none (s .args .octets .now) (s .args .keys .now) (c .if1 .taken)
 
 read-bitmap-requires : tie.Need-read-bitmap-requires
 read-bitmap-requires c κs = search needs
@@ -10,10 +14,10 @@ read-bitmap-requires c κs = search needs
 same-length : tie.Need-same-length
 same-length c = search needs
 
-returns : tie.Need-returns
-returns c =
-    let s = c .before .before .before .before .before .before in
-    pass-bitmap (s .args .octets .now) (s .args .keys .now) _ _ (s .pre .0) (s .pre .1) (c .before .before .read-bitmap .ensures)
+returns-2 : tie.Need-returns-2
+returns-2 c =
+    let s = c .before .before .before .before .before .before .before in
+    pass-bitmap (s .args .octets .now) (s .args .keys .now) _ _ (s .pre .0) (s .pre .1 (omega (arith, c .before .before .before .before .if1 .left))) (c .before .before .read-bitmap .ensures)
 
 pub bitmap-keys-spec : {M : Type 1} → statement M
-bitmap-keys-spec = tie.close (tie.spec read-bitmap-requires same-length returns)
+bitmap-keys-spec = tie.close (tie.spec returns read-bitmap-requires same-length returns-2)

@@ -6,7 +6,9 @@ use Rattle.reading.proofs.category_keys.Statement.{statement}
 use Rattle.reading.proofs.category_keys.Tie as tie
 
 bitmap-keys-requires : tie.Need-bitmap-keys-requires
-bitmap-keys-requires c κs = search needs
+bitmap-keys-requires c κs =
+    let s = c .before .before .before .before in
+    (s .pre .0, s .pre .3 (c .before .if1 .taken))
 
 same-length : tie.Need-same-length
 same-length c = search needs

@@ -75,7 +75,7 @@ returns-4 c =
 
 -- the domain that is given, past row 7
 domain-is : (c : tie.Else4) → c .before .before .before .before .before .before .before .before .before .args .domain ≡ domainOf (o (c .before))
-domain-is c = c .before .before .before .before .before .before .before .before .before .pre .1 (omega (arith, c .if4 .left))
+domain-is c = c .before .before .before .before .before .before .before .before .before .pre .2 (omega (arith, c .if4 .left))
 
 refuse-requires-5 : tie.Need-refuse-requires-5
 refuse-requires-5 c κs = search needs

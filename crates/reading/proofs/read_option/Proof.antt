@@ -1,42 +1,23 @@
--- `reading::read_option` meets its contract.
-use mathlib.Core.Path.{_∙_}
-use Rattle.reading.proofs.Keys.{alone-is, owner-is}
+-- `reading::read_option` meets its contract: both ways read the option.
+use mathlib.Core.Path.{_∙_, sym}
 use borrow.Author.Needs.{needs}
 use Rattle.reading.proofs.read_option.Statement.{statement}
 use Rattle.reading.proofs.read_option.Tie as tie
 
-domain-alone-requires : tie.Need-domain-alone-requires
-domain-alone-requires c κs = search needs
+has-bitmap-requires : tie.Need-has-bitmap-requires
+has-bitmap-requires c κs = search needs
 
-slice-aggregate-read-alone : tie.Need-slice-aggregate-read-alone
-slice-aggregate-read-alone c = search needs
-
-read-alone-requires : tie.Need-read-alone-requires
-read-alone-requires c κs = search needs
-
-owned-by-requires : tie.Need-owned-by-requires
-owned-by-requires c κs = search needs
-
-slice-aggregate-to-reading : tie.Need-slice-aggregate-to-reading
-slice-aggregate-to-reading c = search needs
-
-to-reading-requires : tie.Need-to-reading-requires
-to-reading-requires c κs = search needs
+read-long-requires : tie.Need-read-long-requires
+read-long-requires c κs = search needs
 
 returns : tie.Need-returns
-returns c =
-    let d = c .before .before in
-    let a = d .before .before in
-    alone-is (a .read-alone .ensures) _ (d .owned-by .ensures ∙ owner-is (a .read-alone .ensures) _ (a .before .before .domain-alone .ensures)) _ (c .to-reading .ensures)
+returns c = c .read-long .ensures
+
+read-short-requires : tie.Need-read-short-requires
+read-short-requires c κs = sym (c .before .has-bitmap .ensures) ∙ c .if1 .left
+
+returns-2 : tie.Need-returns-2
+returns-2 c = c .read-short .ensures
 
 pub read-option-spec : {M : Type 1} → statement M
-read-option-spec =
-    tie.close
-    (tie.spec
-    domain-alone-requires
-    slice-aggregate-read-alone
-    read-alone-requires
-    owned-by-requires
-    slice-aggregate-to-reading
-    to-reading-requires
-    returns)
+read-option-spec = tie.close (tie.spec has-bitmap-requires read-long-requires returns read-short-requires returns-2)

@@ -16,19 +16,22 @@ use Rattle.table.specs.Table.{usedRows}
 use Rattle.table.specs.Numbers.{numbered}
 use Rattle.table.proofs.Sound.{sound-rows}
 use Rattle.renumber.specs.Renumber.{imageOf}
-use Rattle.renumber.specs.Stages.{Starts}
-use Rattle.renumber.proofs.Carrying.{carried-missing, carried-unnumbered, carried-found, carried-keys, refused-same, none-written, none-numbered, none-image, gathered-count, gathered-list}
+use Rattle.renumber.specs.Stages.{Cut}
+use Rattle.renumber.proofs.Carrying.{carried-missing, carried-unnumbered, carried-found, carried-keys, refused-same, none-written, none-numbered, none-image, parts-inside, parts-few, gathered-of, gathered-count, gathered-list}
 use Rattle.renumber.proofs.carry_checked.Statement.{statement}
 use Rattle.renumber.proofs.carry_checked.Tie as tie
 
-few : (c : tie.Start) → length (usedRows (c .args .table)) ≤ 65536
-few c =
+held : (c : tie.Start) → length (usedRows (c .args .table)) ≤ 64
+held c =
     let n : length (c .args .table .rows) ≡ 64 = search (length-mapped, needs) in
     let m = length-take-le (c .args .table .count) (c .args .table .rows) (omega (arith, n, c .pre .2 .held)) in
     omega (arith, m, c .pre .2 .held)
 
-begun : (rows : List Row) (runs : List Run) (whole : Bool) (start : List ℕ) → whole ≡ true → Starts rows runs whole start → Starts rows runs true start
-begun rows runs whole start e k = rw e at k
+few : (c : tie.Start) → length (usedRows (c .args .table)) ≤ 65536
+few c = omega (arith, held c)
+
+whole-cut : (rows : List Row) (runs : List Run) (whole : Bool) (cut start : List ℕ) → whole ≡ true → Cut rows runs whole cut start → Cut rows runs true cut start
+whole-cut rows runs whole cut start e k = rw e at k
 
 partner-of-requires : tie.Need-partner-of-requires
 partner-of-requires c κs = search needs
@@ -69,15 +72,18 @@ returns-2 c =
       none-written _ (imageOf t runs) (s .args .far .now) refl image,
     )
 
-slice-aggregate-find-starts : tie.Need-slice-aggregate-find-starts
-slice-aggregate-find-starts c = search needs
+slice-aggregate-cut-runs : tie.Need-slice-aggregate-cut-runs
+slice-aggregate-cut-runs c = search needs
 
-find-starts-requires : tie.Need-find-starts-requires
-find-starts-requires c κs =
-    let s = c .before .before .before .before .before .before .before .before .before in
+slice-aggregate-cut-runs-2 : tie.Need-slice-aggregate-cut-runs-2
+slice-aggregate-cut-runs-2 c = search needs
+
+cut-runs-requires : tie.Need-cut-runs-requires
+cut-runs-requires c κs =
+    let s = c .before .before .before .before .before .before .before .before .before .before .before in
     let r = s .pre .2 in
     let n : length (keyRuns (take (s .args .n) (s .args .own .now))) ≡ s .args .n = length-map (take (s .args .n) (s .args .own .now)) keyRun ∙ length-take-le (s .args .n) (s .args .own .now) (s .pre .0) in
-    (s .pre .0, omega (arith, r .few), refl, r .held, r .rows, r .gaps)
+    (s .pre .0, omega (arith, r .few), refl, refl, r .held, sound-rows (s .args .table) (r .rows) .rise, r .gaps)
 
 not-carried-requires-2 : tie.Need-not-carried-requires-2
 not-carried-requires-2 c κs = search needs
@@ -85,22 +91,33 @@ not-carried-requires-2 c κs = search needs
 returns-3 : tie.Need-returns-3
 returns-3 c =
     let t = c .before in
-    let f = t .before .before in
-    let s = f .before .before .before .before .before .before .before .before .before .before in
+    let f = t .before .before .before in
+    let s = f .before .before .before .before .before .before .before .before .before .before .before .before in
     let image = imageOf (s .args .table) (keyRuns (take (s .args .n) (s .args .own .now))) in (
-      c .not-carried2 .ensures ∙ carried-unnumbered _ _ image (sym (f .find-starts .ensures .answer) ∙ not-true _ (t .if2 .taken)),
+      c .not-carried2 .ensures ∙ carried-unnumbered _ _ image (sym (f .cut-runs .ensures .answer) ∙ not-true _ (t .if2 .taken)),
       refused-same (c .not-carried2 .result) image (s .args .far .now) 16 (c .not-carried2 .ensures) (λ z. omega arith),
     )
 
-slice-aggregate-gather-rows : tie.Need-slice-aggregate-gather-rows
-slice-aggregate-gather-rows c = search needs
+slice-aggregate-join-rows : tie.Need-slice-aggregate-join-rows
+slice-aggregate-join-rows c = search needs
 
-gather-rows-requires : tie.Need-gather-rows-requires
-gather-rows-requires c κs =
-    let e = c .before .before in
-    let f = e .before .before in
-    let s = f .before .before .before .before .before .before .before .before .before .before in
-    (s .pre .0, search needs, search needs, s .pre .2, begun (usedRows (s .args .table)) (keyRuns (take (s .args .n) (s .args .own .now))) (f .find-starts .result) _ (not-false _ (e .if2 .left)) (f .find-starts .ensures))
+slice-aggregate-join-rows-2 : tie.Need-slice-aggregate-join-rows-2
+slice-aggregate-join-rows-2 c = search needs
+
+join-rows-requires : tie.Need-join-rows-requires
+join-rows-requires c κs =
+    let e = c .before .before .before in
+    let f = e .before .before .before in
+    let s = f .before .before .before .before .before .before .before .before .before .before .before .before in
+    let t = s .args .table in
+    let r = s .pre .2 in
+    let rise = sound-rows t (r .rows) .rise in
+    let runs = keyRuns (take (s .args .n) (s .args .own .now)) in
+    let k = whole-cut (usedRows t) runs (f .cut-runs .result) _ _ (not-false _ (e .if2 .left)) (f .cut-runs .ensures) in (
+      r .long,
+      parts-inside (usedRows t) runs _ _ (held s) rise k (t .count) (s .args .order .now) (r .along) (search needs),
+      omega (arith, parts-few (usedRows t) runs _ _ (held s) rise k (t .count) (s .args .order .now) (r .along) (r .gaps) (r .few), s .pre .1),
+    )
 
 same-length : tie.Need-same-length
 same-length c = search needs
@@ -108,22 +125,25 @@ same-length c = search needs
 returns-4 : tie.Need-returns-4
 returns-4 c =
     let g = c .before .before in
-    let e = g .before .before .before in
-    let f = e .before .before in
-    let l = f .before .before .before .before in
+    let e = g .before .before .before .before in
+    let f = e .before .before .before in
+    let l = f .before .before .before .before .before .before in
     let p = l .before .before in
     let s = p .before .before .before .before in
     let t = s .args .table in
-    let k = sound-rows t (s .pre .2 .rows) in
+    let r = s .pre .2 in
+    let k = sound-rows t (r .rows) in
     let runs = keyRuns (take (s .args .n) (s .args .own .now)) in
     let rows = usedRows t in
-    let room : 184 ≤ length (g .gather-rows .last .1 .1 .1 .1 .1 .0) = search needs in
-    let n = gathered-count rows runs (few s) (k .rise) (k .apart) (s .pre .2 .gaps) (s .args .far .now) (g .gather-rows .result) _ (g .gather-rows .ensures) room in (
-      carried-found _ _ (imageOf t runs) (l .partner .given .0 .0) (g .gather-rows .result)
+    let cut = whole-cut rows runs (f .cut-runs .result) _ _ (not-false _ (e .if2 .left)) (f .cut-runs .ensures) in
+    let all = gathered-of rows runs _ _ (held s) (k .rise) cut (t .count) (s .args .order .now) (r .along) (r .gaps) (r .few) (s .args .far .now) (g .join-rows .result) _ (g .join-rows .ensures) in
+    let room : 184 ≤ length (g .join-rows .last .1 .1 .1 .1 .0) = search needs in
+    let n = gathered-count rows runs (few s) (k .rise) (k .apart) (r .gaps) (s .args .far .now) (g .join-rows .result) _ all room in (
+      carried-found _ _ (imageOf t runs) (l .partner .given .0 .0) (g .join-rows .result)
           (sym (p .partner-of .ensures) ∙ l .partner .given .1)
-          (sym (f .find-starts .ensures .answer) ∙ not-false _ (e .if2 .left))
+          (sym (f .cut-runs .ensures .answer) ∙ not-false _ (e .if2 .left))
           n,
-      gathered-list rows runs (few s) (k .rise) (k .apart) (s .pre .2 .gaps) (s .args .far .now) (g .gather-rows .result) _ (g .gather-rows .ensures) room
+      gathered-list rows runs (few s) (k .rise) (k .apart) (r .gaps) (s .args .far .now) (g .join-rows .result) _ all room
           ∙ sym (carried-keys _ (imageOf t runs) (s .args .far .now) refl),
     )
 
@@ -137,11 +157,13 @@ carry-checked-spec =
     not-carried-requires
     returns
     returns-2
-    slice-aggregate-find-starts
-    find-starts-requires
+    slice-aggregate-cut-runs
+    slice-aggregate-cut-runs-2
+    cut-runs-requires
     not-carried-requires-2
     returns-3
-    slice-aggregate-gather-rows
-    gather-rows-requires
+    slice-aggregate-join-rows
+    slice-aggregate-join-rows-2
+    join-rows-requires
     same-length
     returns-4)

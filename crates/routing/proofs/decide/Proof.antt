@@ -66,12 +66,12 @@ use Rattle.ports.proofs.survey_ports as survey
 use Rattle.ports.proofs.survey_ports.Symbol as survey-def
 use Rattle.ports.proofs.survey_ports.Symbol.{name as #ports·survey-ports}
 use Rattle.ports.proofs.survey_ports.Met as survey-thm
-use Rattle.routing.specs.declared.Way.{Way}
+use Rattle.routing.specs.declared.Course.{Course}
 use Rattle.routing.specs.Routing.{routingOf, routedOutput}
 use Rattle.routing.specs.Stages.{routingFor, wayOf, goneBy, goneOut}
 use Rattle.routing.proofs.Gone.{gone}
-use Rattle.routing.proofs.Way as Y
-use Rattle.routing.proofs.Way.Laws as Y′
+use Rattle.routing.proofs.Course as Y
+use Rattle.routing.proofs.Course.Laws as Y′
 use Rattle.routing.proofs.find_way as finds
 use Rattle.routing.proofs.find_way.Symbol as finds-def
 use Rattle.routing.proofs.find_way.Symbol.{name as #finds}
@@ -105,7 +105,7 @@ facts-vals f = LL.vals F.the-type F′.the-laws f
 abbrev survey-vals : Survey → List Val
 survey-vals k = LL.vals S.the-type S′.the-laws k
 
-abbrev way-vals : Way → List Val
+abbrev way-vals : Course → List Val
 way-vals w = LL.vals Y.the-type Y′.the-laws w
 
 -- what is passed beside the ports and the number of the arriving one
@@ -157,10 +157,10 @@ module _ {M : Type 1} (𝓤 : URA M) (H : Heap 𝓤) (A : Atoms 𝓤) (W : Given
     abbrev to-find : Find .Ghost
     to-find = (((κ, tt), (q, tt), tt, find-args, find-vals), tt)
 
-    abbrev Found : Way → Type 0
+    abbrev Found : Course → Type 0
     Found w = (w ≡ wayOf k (s .tables) (now (s .routes)) i (s .destination)) × (w .leaving ≤ 4294967295)
 
-    found : (w : Way) → ent 𝓤 (ensured 𝓤 H A finds.ended (finds.clauses 𝓤 H A mem run) (κ, tt) find-args tt w) (fact 𝓤 (Found w))
+    found : (w : Course) → ent 𝓤 (ensured 𝓤 H A finds.ended (finds.clauses 𝓤 H A mem run) (κ, tt) find-args tt w) (fact 𝓤 (Found w))
     found w = exE 𝓤 _ (λ ws. snd∗ 𝓤 (sem 𝓤 H A (lasts finds.ended (κ, tt) find-args ws)) (fact 𝓤 (Found w)))
 
     abbrev Routes : Fml
@@ -181,8 +181,8 @@ module _ {M : Type 1} (𝓤 : URA M) (H : Heap 𝓤) (A : Atoms 𝓤) (W : Given
   abbrev Go : Contract 𝓤
   Go = tripleOf 𝓤 H A goes.signature (goes.spec 𝓤 H A mem run)
 
-  module _ (κ₂ κ₃ : Lft) (q₂ q₃ : Share) (s : Inputs) (g : Given′ s) (w : Way) (a l : Port) (va vl : Val) where
-    abbrev go-args : Way × (Port × (Port × (Tables × (Facts × (Octets × (Octets × Unit {0}))))))
+  module _ (κ₂ κ₃ : Lft) (q₂ q₃ : Share) (s : Inputs) (g : Given′ s) (w : Course) (a l : Port) (va vl : Val) where
+    abbrev go-args : Course × (Port × (Port × (Tables × (Facts × (Octets × (Octets × Unit {0}))))))
     go-args = (w, (a, (l, (s .tables, (s .facts, (s .area, (s .out, tt)))))))
 
     abbrev go-vals : Vals goes.signature (κ₂, (κ₃, tt))
@@ -240,7 +240,7 @@ module _ {M : Type 1} (𝓤 : URA M) (H : Heap 𝓤) (A : Atoms 𝓤) (W : Given
   Decided r zs = (r ≡ routingOf (routingFor (now x) (s .tables) (now (s .routes)) i (s .destination) (s .facts) (now (s .area)) room))
       × (zs ≡ routedOutput (routingFor (now x) (s .tables) (now (s .routes)) i (s .destination) (s .facts) (now (s .area)) room) (now (s .out)))
 
-  abbrev Gone : Way → Port → Port → Decision → List ℕ → Type 0
+  abbrev Gone : Course → Port → Port → Decision → List ℕ → Type 0
   Gone w a l r zs = (r ≡ goneBy w a l (s .tables) (s .facts) (now (s .area)) room) × (zs ≡ goneOut w a l (s .tables) (s .facts) (now (s .area)) room (now (s .out)))
 
   abbrev Tokens : Item 𝓤
@@ -277,7 +277,7 @@ module _ {M : Type 1} (𝓤 : URA M) (H : Heap 𝓤) (A : Atoms 𝓤) (W : Given
           ∷ (tyRef erased mut (tyInt w8), l₁₃) ∷ (sliceTy (tyRef erased mut (tyInt w8)), l₁₄) ∷ []
 
       -- the locals once the way is found, the last first
-      abbrev Locals : Survey → Way → List (Item 𝓤)
+      abbrev Locals : Survey → Course → List (Item 𝓤)
       Locals k w =
           ‵ (froom (sliceTy (tyRef erased mut (tyInt w8))) l₁₄ 0) ∷ ‵ (fdies (sliceTy (tyRef erased mut (tyInt w8))) l₁₄) ∷ ‵ (froom (tyRef erased mut (tyInt w8)) l₁₃ 0) ∷ ‵ (fdies (tyRef erased mut (tyInt w8)) l₁₃)
           ∷ ‵ (froom T′.mir l₁₂ 0) ∷ ‵ (fdies T′.mir l₁₂) ∷ ‵ (froom T′.mir l₁₁ 0) ∷ ‵ (fdies T′.mir l₁₁)
@@ -288,7 +288,7 @@ module _ {M : Type 1} (𝓤 : URA M) (H : Heap 𝓤) (A : Atoms 𝓤) (W : Given
           ∷ ‵ (fat fullShare B′.mir l₂ 0 (only (tables-vals (s .tables)))) ∷ ‵ (fdies B′.mir l₂) ∷ ‵ (fat fullShare ref-ports l₁ 0 (low x)) ∷ ‵ (fdies ref-ports l₁) ∷ ‵ (froom D′.mir l₀ 0) ∷ ‵ (fdies D′.mir l₀) ∷ []
 
       -- both ports are picked, and `go_way` decides
-      onward : (k : Survey) → k ≡ surveyOf (now x) → (w : Way) → w ≡ wayOf k (s .tables) (now (s .routes)) i (s .destination) → w .leaving < 2 ^ 64 → Is Y.the-row w (way-vals w)
+      onward : (k : Survey) → k ≡ surveyOf (now x) → (w : Course) → w ≡ wayOf k (s .tables) (now (s .routes)) i (s .destination) → w .leaving < 2 ^ 64 → Is Y.the-row w (way-vals w)
           → Sq W (‵ (flft κ₁ q₁) ∷ ‵ (flft κ₀ q₀) ∷ ‵ (Held κ₀ x) ∷ ‵ (ShrSlice (named 2) κ₂ u8 .own (s .area) (lent (s .area) ∷ [])) ∷ ‵ (MutSlice (named 3) κ₃ u8 .own (s .out) (lent (s .out) ∷ [])) ∷ ‵ (flft κ₂ q₂) ∷ ‵ (flft κ₃ q₃) ∷ Locals k w)
           (runs C Λ En walked-code.t-3 (atRet En Post))
       onward k ek w ew gw isw =
@@ -350,13 +350,13 @@ module _ {M : Type 1} (𝓤 : URA M) (H : Heap 𝓤) (A : Atoms 𝓤) (W : Given
         use2 W (raw (Find 𝓤 H A W mem run .pre (to-find 𝓤 H A W mem run κ₁ q₁ s g k i))) (goes-find 𝓤 H A W mem run κ₁ q₁ s g k i (subst (λ (vs : List Val). Is S.the-row k vs) (LL.tells S.the-type S′.the-laws k _ isk) isk) gi) $
         calls-at ! fm (Find 𝓤 H A W mem run) known-find (to-find 𝓤 H A W mem run κ₁ q₁ s g k i)
         (and-then ! (load ! (from ! (stop !)) (look ! 17 refl)) (and-then ! (load ! (from ! (stop !)) (look ! 31 refl)) (and-then ! (load ! (from ! (stop !)) (look ! 29 refl)) (and-then ! (load ! (from ! (stop !)) (look ! 27 refl)) (and-then ! (load ! (from ! (stop !)) (look ! 25 refl)) (no-more !)))))) (λ vw.
-        use1 W (later (some (λ (w : Way). ((‵ (flft κ₁ q₁) ⊛ ‵ ftrue) ⊛ ‵ (Y.the-row .own w (vw ∷ []))) ⊛ raw (ensured 𝓤 H A finds.ended (finds.clauses 𝓤 H A mem run) (κ₁, tt) (find-args 𝓤 H A W mem run κ₁ q₁ s g k i) tt w)))) (id⊢ 𝓤 _) $ await ! tt $ pick ! (λ w.
+        use1 W (later (some (λ (w : Course). ((‵ (flft κ₁ q₁) ⊛ ‵ ftrue) ⊛ ‵ (Y.the-row .own w (vw ∷ []))) ⊛ raw (ensured 𝓤 H A finds.ended (finds.clauses 𝓤 H A mem run) (κ₁, tt) (find-args 𝓤 H A W mem run κ₁ q₁ s g k i) tt w)))) (id⊢ 𝓤 _) $ await ! tt $ pick ! (λ w.
         split ! $ move ! (1 ∷ []) $ use1 W (raw (fact 𝓤 (Found 𝓤 H A W mem run κ₁ q₁ s g k i w))) (found 𝓤 H A W mem run κ₁ q₁ s g k i w) $ heard ! (Found 𝓤 H A W mem run κ₁ q₁ s g k i w) (λ ew. split ! $ split ! $ move ! (1 ∷ []) $ drop ! $ move ! (1 ∷ []) $
         facts ! Y.the-row (Is Y.the-row) (shows 𝓤 H A Y.the-row) w (vw ∷ []) (λ isw. land ! (from ! (stop !)) (init ! 15 refl (LL.lawful Y.the-type Y′.the-laws 𝓤 H A W .typed w _ isw .0)) $
         rewrite ! 15 (λ (z : List Val). ‵ (fat fullShare Y′.mir l₁₀ 0 (only z))) (LL.tells Y.the-type Y′.the-laws w _ isw) refl $
         onward l₀ l₁ l₂ l₃ l₄ l₅ l₆ l₇ l₈ l₉ l₁₀ l₁₁ l₁₂ l₁₃ l₁₄ k ek w (ew .0) (narrow w (ew .1)) (subst (λ (vs : List Val). Is Y.the-row w vs) (LL.tells Y.the-type Y′.the-laws w _ isw) isw))))))))))))))))))))))))
       where
-        narrow : (w : Way) → w .leaving ≤ 4294967295 → w .leaving < 2 ^ 64
+        narrow : (w : Course) → w .leaving ≤ 4294967295 → w .leaving < 2 ^ 64
         narrow w h = omega arith
 
 module _ {M : Type 1} (𝓤 : URA M) (H : Heap 𝓤) (A : Atoms 𝓤) (W : Given 𝓤 H A) (mem : Memory → SProp 𝓤) (run : Routine → Fun 𝓤) where

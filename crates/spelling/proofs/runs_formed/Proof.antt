@@ -108,7 +108,7 @@ loop-again c =
           ∙ rw (seen-used d)
           (and-chain (v .good) (leb (v .floor) (r .low)) (leb (r .low) (r .high)) (rises (r .high + 2) (drop (v .i + 1) (used l)))),
       simp length-set (v .inv .2),
-      rw (c .key-of .ensures, v .inv .3, ← getD-take (l .count) (l .runs) (v .i) noRun (d .loop-test .taken))
+      rw (c .key-of .ensures .0, v .inv .3, ← getD-take (l .count) (l .runs) (v .i) noRun (d .loop-test .taken))
           (keys-next runKey (used l) (s .args .keys .now) (v .i) noRun (omega (arith, used-sized s)) (omega (arith, s .pre .0, s .pre .1))),
     )
 

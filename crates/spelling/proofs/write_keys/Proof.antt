@@ -17,13 +17,13 @@ use Rattle.spelling.proofs.write_keys.Tie as tie
 
 -- a form was chosen
 module _ (c : tie.Else3) where
-  pos : 0 < c .before .choose .result .tag
+  pos : 0 < c .before .before .choose .result .tag
   pos = let q = c .if3 .left in omega arith
 
-  written : Written (c .before .choose .result .tag) (c .before .choose .result .size) (keyRuns (c .before .before .before .before .before .before .args .keys .now))
+  written : Written (c .before .before .choose .result .tag) (c .before .before .choose .result .size) (keyRuns (c .before .before .before .before .before .before .before .args .keys .now))
   written =
-      let a = c .before .before .before .before .before .before .args in
-      form-written (a .permitted) (keyRuns (a .keys .now)) (c .before .choose .result) (c .before .choose .ensures) pos
+      let a = c .before .before .before .before .before .before .before .args in
+      form-written (a .permitted) (keyRuns (a .keys .now)) (c .before .before .choose .result) (c .before .before .choose .ensures) pos
 
 returns : tie.Need-returns
 returns c =
@@ -40,7 +40,7 @@ choose-requires c κs = search needs
 
 returns-3 : tie.Need-returns-3
 returns-3 c =
-    let d = c .before in
+    let d = c .before .before in
     let a = d .before .before .before .before .before .args in
     keys-none (a .permitted) (a .domain) (a .level) (a .keys .now) (a .out .now) (d .before .before .if1 .left)
     (keys-within (a .permitted) (a .domain) (a .level) (a .keys .now) (d .before .if2 .left) ∙ spelled-none (a .permitted) (a .domain) (a .level) (keyRuns (a .keys .now)) (sym (ap (λ (f : Form). f .tag) (d .choose .ensures)) ∙ c .if3 .taken))
@@ -63,7 +63,7 @@ write-head-requires : tie.Need-write-head-requires
 write-head-requires c κs =
     let wb = c .before .before .before in
     let d = wb .before .before in
-    (put-long (d .before .before .before .before .before .before .args .out .now) (wb .write-body .last .1 .1 .1 .0) (omega arith), written d .short)
+    (put-long (d .before .before .before .before .before .before .before .args .out .now) (wb .write-body .last .1 .1 .1 .0) (omega arith), written d .short)
 
 add-result : tie.Need-add-result
 add-result c =
@@ -79,13 +79,13 @@ returns-4 c =
     let wh = c .before .before in
     let wb = wh .before .before .before .before in
     let d = wb .before .before in
-    let a = d .before .before .before .before .before .before .args in
+    let a = d .before .before .before .before .before .before .before .args in
     let rs = keyRuns (a .keys .now) in
-    let f = d .before .choose .result in
-    let long = d .before .before .before .if1 .left in
-    let e : f ≡ formFor (a .permitted) rs = d .before .choose .ensures in
+    let f = d .before .before .choose .result in
+    let long = d .before .before .before .before .if1 .left in
+    let e : f ≡ formFor (a .permitted) rs = d .before .before .choose .ensures in
     let some-is = spelled-some (a .permitted) (a .domain) (a .level) rs (rw e at (pos d)) in
-    keys-some (a .permitted) (a .domain) (a .level) (a .keys .now) (a .out .now) _ _ _ long (keys-within (a .permitted) (a .domain) (a .level) (a .keys .now) (d .before .before .if2 .left) ∙ some-is)
+    keys-some (a .permitted) (a .domain) (a .level) (a .keys .now) (a .out .now) _ _ _ long (keys-within (a .permitted) (a .domain) (a .level) (a .keys .now) (d .before .before .before .if2 .left) ∙ some-is)
     (option-written (a .domain) (a .level) (f .tag) (f .size) rs (a .out .now) (wb .write-body .last .1 .1 .1 .0) _ long (written d .sized) (wb .write-body .ensures) (wh .write-head .ensures) _ (ap (λ (g : Form). spelledBy g (a .domain) (a .level) rs) (sym e)))
 
 pub write-keys-spec : {M : Type 1} → statement M
