@@ -312,7 +312,8 @@ fn mix(total: usize, x: usize) -> usize {
 
 fn label_digest(label: &fast::Label) -> usize {
     let run = label.runs[0];
-    mix(mix(mix(label.level as usize, label.count as usize), run.low as usize), run.high as usize)
+    let head = mix(mix(label.domain as usize, label.level as usize), label.count as usize);
+    mix(mix(head, run.low as usize), run.high as usize)
 }
 
 fn next_place(at: usize, size: usize, last: usize) -> usize {

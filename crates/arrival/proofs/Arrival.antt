@@ -13,7 +13,7 @@ use borrow.Author.Tests.{eqb-false, eq-eqb, ne-eqb, le-leb, le-ltb, ltb-false}
 use Rattle.label.specs.declared.Run.{Run}
 use Rattle.label.specs.declared.Label.{Label}
 use Rattle.label.specs.Label.{used, wellFormed, leq, inRange}
-use Rattle.label.specs.Keys.{keyRuns, withKeys}
+use Rattle.keys.specs.Keys.{keyRuns, withKeys}
 use Rattle.label.proofs.Bools.{and-left, less-or}
 use Rattle.label.proofs.Labels.{leq-says, used-of}
 use Rattle.option.specs.Option.{Octets}
@@ -37,10 +37,12 @@ use Rattle.basic.specs.Settings.{passesWay}
 use Rattle.port.specs.declared.Port.{Port}
 use Rattle.port.specs.Port.{portSound}
 use Rattle.port.proofs.Laws.{sound}
-use Rattle.arrival.specs.Checks.{Refusal, faulty, barred, when, firstOf, badArea, walkAt, walkRefusal, walkCheck, placeIn, basicIn, optionAt, requiredBy, requiredCheck, optionBy, optionCheck, badBasicBy, badBasicCheck, arrivingBasic, missingBasicBy, missingBasicCheck, basicPasses, basicRangeCheck, labelBy, arrivingLabel, rangeCheck}
-use Rattle.arrival.specs.declared.Verdict.{Verdict}
+use Rattle.decision.specs.Decision.{Refusal}
+use Rattle.arrival.specs.Checks.{faulty, barred, when, firstOf, badArea, walkAt, walkRefusal, walkCheck, placeIn, basicIn, optionAt, requiredBy, requiredCheck, optionBy, optionCheck, badBasicBy, badBasicCheck, arrivingBasic, missingBasicBy, missingBasicCheck, basicPasses, basicRangeCheck, labelBy, arrivingLabel, rangeCheck}
+use Rattle.decision.specs.declared.Verdict.{Verdict}
 use Rattle.arrival.specs.Decision.{arrivalChecks}
-use Rattle.arrival.specs.Verdict.{verdictOf, stopped, going, keysBy, arrivalOf, arrivalKeys, Arrives}
+use Rattle.decision.specs.Verdict.{verdictOf, stopped, going}
+use Rattle.arrival.specs.Verdict.{keysBy, arrivalOf, arrivalKeys, Arrives}
 use Rattle.arrival.specs.Stages.{placeChecks, basicChecks, isOpen, insteadOf, beforeRange, heldBetween, ArrivesAt}
 use Rattle.arrival.proofs.Pointer.{reading-pointer, reading-number}
 use Rattle.arrival.proofs.First.{first-append, Real, late-else, Late, late-first, late-when, late-real, Early, AllEarly, early-first, early-when, between, before-none, before-zero, first-none, when-none, not-false-yes}

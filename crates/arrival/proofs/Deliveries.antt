@@ -9,17 +9,20 @@ use lib.ListN.{length, take}
 use borrow.Author.Tests.{le-ltb, ne-eqb}
 use Rattle.label.specs.declared.Label.{Label}
 use Rattle.label.specs.Label.{used, inRange}
-use Rattle.label.specs.Keys.{keyRuns, labelFrom}
+use Rattle.keys.specs.Keys.{keyRuns, labelFrom}
 use Rattle.port.specs.Port.{portSound, hostSound}
 use Rattle.port.proofs.Laws.{host-range}
-use Rattle.arrival.specs.declared.Verdict.{Verdict}
-use Rattle.arrival.specs.Checks.{Refusal, silent, barred, firstOf, badArea, arrivingLabel, Delivery, deliverySizes, deliveryRecords, hostCheck}
-use Rattle.arrival.specs.Decision.{silenced, refused, done, arrivalChecks, deliverChecks, deliverOf}
-use Rattle.arrival.specs.Verdict.{verdictOf, stopped, arrivalOf, Arrives, concluded}
+use Rattle.decision.specs.declared.Verdict.{Verdict}
+use Rattle.decision.specs.Decision.{Refusal, silenced, refused, done}
+use Rattle.arrival.specs.Checks.{silent, barred, firstOf, badArea, arrivingLabel, Delivery, deliverySizes, deliveryRecords, hostCheck}
+use Rattle.arrival.specs.Decision.{arrivalChecks, deliverChecks, deliverOf}
+use Rattle.decision.specs.Verdict.{verdictOf, stopped, concluded}
+use Rattle.arrival.specs.Verdict.{arrivalOf, Arrives}
 use Rattle.arrival.specs.Stages.{heldBetween, hostedBy}
 use Rattle.arrival.proofs.First.{orElse, first-append, Late}
 use Rattle.arrival.proofs.Arrival.{arrival-held, arrival-late}
-use Rattle.arrival.proofs.Verdicts.{held-in-range, label-from, concluded-refused, concluded-done}
+use Rattle.arrival.proofs.Verdicts.{held-in-range, label-from}
+use Rattle.decision.proofs.Concluded.{concluded-refused, concluded-done}
 
 module _ (d : Delivery) where
   pub deliver-refused : (x : Refusal) → firstOf (deliverChecks d) ≡ some x → refused (silenced (d .facts)) x ≡ deliverOf d

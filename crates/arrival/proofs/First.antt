@@ -6,10 +6,11 @@ use mathlib.Core.Option.{Option, none, some}
 use Prim.Native.Nat.{ℕ, _≤_}
 use native.Mathlib.Omega.{arith}
 use borrow.Author.Tests.{ne-eqb}
-use Rattle.arrival.specs.declared.Verdict.{Verdict}
-use Rattle.arrival.specs.Checks.{Refusal, barred, when, firstOf, NoneApplies}
-use Rattle.arrival.specs.Verdict.{verdictOf}
-use Rattle.arrival.specs.Stages.{isOpen, insteadOf, beforeRange}
+use Rattle.decision.specs.declared.Verdict.{Verdict}
+use Rattle.decision.specs.Decision.{Refusal}
+use Rattle.arrival.specs.Checks.{barred, when, firstOf, NoneApplies}
+use Rattle.decision.specs.Verdict.{verdictOf}
+use Rattle.arrival.specs.Stages.{isOpen, beforeRange}
 
 abbrev pub orElse : Option Refusal → Option Refusal → Option Refusal
 orElse (some r) o = some r

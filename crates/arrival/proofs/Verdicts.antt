@@ -1,29 +1,24 @@
--- Laws of verdicts: keys held against a range, the keys of a label, and the decision that a verdict becomes.
-use mathlib.Core.Path.{_≡_, refl, sym, _∙_, ap}
-use mathlib.Core.Bool.{Bool, true, false, cond}
-use mathlib.Core.List.{List, [], map}
-use mathlib.Core.Option.{none, some}
+-- Laws of verdicts: keys held against a range, and the keys of a label.
+use mathlib.Core.Path.{_≡_, sym, _∙_, ap}
+use mathlib.Core.Bool.{true, cond}
+use mathlib.Core.List.{List, map}
 use Prim.Native.Nat.{ℕ, _≤_}
 use native.Mathlib.Omega.{arith}
-use lib.Dec.{leb, eqb}
+use lib.Dec.{leb}
 use lib.ListN.{length, take, drop, length-map}
 use lib.Seq.{take-at}
-use borrow.Author.Tests.{le-leb, ne-eqb}
+use borrow.Author.Tests.{le-leb}
 use Rattle.label.specs.declared.Run.{Run}
 use Rattle.label.specs.declared.Label.{Label}
 use Rattle.label.specs.Runs.{spaced}
 use Rattle.label.specs.Label.{used, labelOf, zeroLabel, wellFormed, inRange}
-use Rattle.label.specs.Keys.{keyRuns, runKey, labelFrom, keysFit, withKeys}
-use Rattle.label.specs.Range.{setInRange}
-use Rattle.label.proofs.Keys.{keys-runs}
+use Rattle.keys.specs.Keys.{keyRuns, runKey, labelFrom, keysFit, withKeys}
+use Rattle.keys.specs.Range.{setInRange}
+use Rattle.keys.proofs.Keys.{keys-runs}
 use Rattle.label.proofs.Labels.{formed, used-length, of-used}
-use Rattle.label.proofs.Range.{look-right, set-in-range}
-use Rattle.arrival.specs.declared.Decision.{Decision}
-use Rattle.arrival.specs.declared.Verdict.{Verdict}
-use Rattle.arrival.specs.Checks.{Refusal}
-use Rattle.arrival.specs.Decision.{refused, done}
-use Rattle.arrival.specs.Verdict.{verdictOf, stopped, going, concluded}
-use Rattle.arrival.specs.Stages.{reported, heldBetween}
+use Rattle.keys.proofs.Range.{look-right, set-in-range}
+use Rattle.decision.specs.declared.Verdict.{Verdict}
+use Rattle.arrival.specs.Stages.{heldBetween}
 
 -- keys that are spaced, held against a range of well-formed labels
 pub held-in-set : (lowest highest : Label) (r : Verdict) (keys : List ℕ) → wellFormed lowest ≡ true → wellFormed highest ≡ true
@@ -57,52 +52,3 @@ label-from l rs w e =
     let n : length (used l) ≤ 120 = omega (arith, used-length l f, f .held) in
     ap (λ (q : List Run). cond (leb (length q) 120) (labelOf (l .domain) (l .level) q) zeroLabel) e
     ∙ rw (le-leb (length (used l)) 120 n) (sym (of-used l f))
-
-none-from : labelFrom 0 0 [] ≡ zeroLabel
-unfolding labelFrom
-none-from = refl
-
--- what is reported, with its label and count, is the decision
-pub concluded-by : (r said : Verdict) (domain owner count n : ℕ) (quiet : Bool) (keys : List ℕ) (l : Label)
-    → said ≡ reported quiet r
-    → owner ≡ cond (eqb (said .number) 0) domain 0
-    → l ≡ labelFrom owner (said .level) (keyRuns (take (said .count) keys))
-    → n ≡ cond (eqb (said .number) 0) count 0
-    → _≡_ {A = Decision} (record { number = said .number; kind = said .kind; code = said .code; pointer = said .pointer; count = n; label = l }) (concluded r domain quiet count keys)
-unfolding concluded
-concluded-by r said domain owner count n quiet keys l e f g h = go (eqb (r .number) 0) refl quiet e
-  where
-    -- nothing refused
-    passed : said ≡ going (r .level) (r .count)
-        → _≡_ {A = Decision} (record { number = said .number; kind = said .kind; code = said .code; pointer = said .pointer; count = n; label = l }) (done (labelFrom domain (r .level) (keyRuns (take (r .count) keys))) count)
-    passed q =
-        let f′ : owner ≡ domain = f ∙ ap (λ (s : Verdict). cond (eqb (s .number) 0) domain 0) q in
-        let h′ : n ≡ count = h ∙ ap (λ (s : Verdict). cond (eqb (s .number) 0) count 0) q in
-        let g′ : l ≡ labelFrom domain (r .level) (keyRuns (take (r .count) keys)) = g ∙ (λ i. labelFrom (f′ i) (q i .level) (keyRuns (take (q i .count) keys))) in
-        λ i. record { number = q i .number; kind = q i .kind; code = q i .code; pointer = q i .pointer; count = h′ i; label = g′ i }
-
-    -- a refusal
-    stopped-with : (k c p : ℕ) → eqb (r .number) 0 ≡ false → said ≡ stopped (r .number) k c p
-        → _≡_ {A = Decision} (record { number = said .number; kind = said .kind; code = said .code; pointer = said .pointer; count = n; label = l }) (record { number = r .number; kind = k; code = c; pointer = p; count = 0; label = zeroLabel })
-    stopped-with k c p z q =
-        let f′ : owner ≡ 0 = f ∙ ap (λ (s : Verdict). cond (eqb (s .number) 0) domain 0) q ∙ rw z in
-        let h′ : n ≡ 0 = h ∙ ap (λ (s : Verdict). cond (eqb (s .number) 0) count 0) q ∙ rw z in
-        let g′ : l ≡ zeroLabel = g ∙ (λ i. labelFrom (f′ i) (q i .level) (keyRuns (take (q i .count) keys))) ∙ none-from in
-        λ i. record { number = q i .number; kind = q i .kind; code = q i .code; pointer = q i .pointer; count = h′ i; label = g′ i }
-
-    go : (b : Bool) → eqb (r .number) 0 ≡ b → (quiet : Bool) → said ≡ reported quiet r
-        → _≡_ {A = Decision} (record { number = said .number; kind = said .kind; code = said .code; pointer = said .pointer; count = n; label = l })
-        (cond (eqb (r .number) 0) (done (labelFrom domain (r .level) (keyRuns (take (r .count) keys))) count) (refused quiet (record { number = r .number; kind = r .kind; code = r .code; pointer = r .pointer })))
-    go true z quiet q = rw z (passed (rw z at q))
-    go false z true q = rw z (stopped-with 0 0 0 z (rw z at q))
-    go false z false q = rw z (stopped-with (r .kind) (r .code) (r .pointer) z (rw z at q))
-
--- the decision of a refusal, and of a verdict that nothing stopped
-pub concluded-refused : (x : Refusal) (v n domain count : ℕ) (quiet : Bool) (keys : List ℕ) → (x .number ≡ 0 → ⊥)
-    → concluded (verdictOf (some x) v n) domain quiet count keys ≡ refused quiet x
-unfolding concluded
-concluded-refused x v n domain count quiet keys h = rw (ne-eqb (x .number) 0 h)
-
-pub concluded-done : (v n domain count : ℕ) (quiet : Bool) (keys : List ℕ) → concluded (verdictOf none v n) domain quiet count keys ≡ done (labelFrom domain v (keyRuns (take n keys))) count
-unfolding concluded
-concluded-done v n domain count quiet keys = refl

@@ -20,14 +20,8 @@ use Rattle.basic.specs.Settings.{passesWay}
 use Rattle.port.specs.declared.Port.{Port}
 use Rattle.port.specs.declared.Host.{Host}
 use Rattle.port.specs.Port.{portSound, hostSound}
-use Rattle.arrival.specs.declared.Facts.{Facts}
-
--- a refusal: its number, and its ICMP type, code and pointer
-pub record Refusal : Type 0 where
-  pub number : ℕ
-  pub kind : ℕ
-  pub code : ℕ
-  pub pointer : ℕ
+use Rattle.decision.specs.declared.Facts.{Facts}
+use Rattle.decision.specs.Decision.{Refusal}
 
 -- "silent" is type, code and pointer all 0
 abbrev pub silent : ℕ → Refusal

@@ -8,8 +8,8 @@ use lib.Dec.{eqb}
 use lib.ListN.{take}
 use Rattle.label.specs.declared.Label.{Label}
 use Rattle.label.specs.Label.{used, inRange}
-use Rattle.label.specs.Keys.{keyRuns}
-use Rattle.label.specs.Range.{answered, lookOf, runsBetween}
+use Rattle.keys.specs.Keys.{keyRuns}
+use Rattle.keys.specs.Range.{answered, lookOf, runsBetween}
 use Rattle.area.specs.declared.Place.{Place}
 use Rattle.area.specs.Area.{octetsAt}
 use Rattle.basic.specs.declared.BasicReading.{BasicReading}
@@ -18,20 +18,16 @@ use Rattle.basic.specs.Alone.{basicBad, basicReading}
 use Rattle.port.specs.declared.Port.{Port}
 use Rattle.port.specs.declared.Host.{Host}
 use Rattle.port.specs.Port.{hostSound}
-use Rattle.arrival.specs.declared.Verdict.{Verdict}
-use Rattle.arrival.specs.declared.Facts.{Facts}
-use Rattle.arrival.specs.Checks.{Refusal, barred, when, firstOf, requiredBy, optionBy, badBasicBy, missingBasicBy, basicPasses, labelBy, Delivery}
-use Rattle.arrival.specs.Verdict.{verdictOf, stopped, going, keysBy}
+use Rattle.decision.specs.declared.Verdict.{Verdict}
+use Rattle.decision.specs.declared.Facts.{Facts}
+use Rattle.decision.specs.Decision.{Refusal}
+use Rattle.arrival.specs.Checks.{barred, when, firstOf, requiredBy, optionBy, badBasicBy, missingBasicBy, basicPasses, labelBy, Delivery}
+use Rattle.decision.specs.Verdict.{verdictOf, stopped}
+use Rattle.arrival.specs.Verdict.{keysBy}
 
 -- the inputs of a delivery
 abbrev pub deliveryOf : Port → Host → Facts → List ℕ → Delivery
 deliveryOf p h facts area = record { port = p; host = h; facts = facts; area = area }
-
--- a verdict, if the datagram is silenced
-abbrev pub reported : Bool → Verdict → Verdict
-reported quiet r =
-    cond (eqb (r .number) 0) (going (r .level) (r .count))
-    (cond quiet (stopped (r .number) 0 0 0) (stopped (r .number) (r .kind) (r .code) (r .pointer)))
 
 -- checks 6 to 13, and 14, with the option 134 at its place
 abbrev pub placeChecks : Place → Port → List ℕ → ℕ → List (Option Refusal)

@@ -1,13 +1,13 @@
--- Document 01, "The order of checks": what is decided on the way to a decision, without the label, whose categories stand in a lent list as keys.
-use mathlib.Core.Bool.{Bool, cond, not, _||_}
-use mathlib.Core.List.{List, [], _∷_}
-use mathlib.Core.Option.{Option, none, some}
+-- Document 01, "The order of checks": what arrives at a port, checks 1 to 14 and 19 to 21: their verdict, and the keys that a lent list holds then.
+use mathlib.Core.Bool.{cond, not, _||_}
+use mathlib.Core.List.{List, _∷_}
+use mathlib.Core.Option.{Option}
 use mathlib.Core.Path.{_≡_}
 use Prim.Native.Nat.{ℕ}
-use lib.Dec.{ltb, eqb}
+use lib.Dec.{ltb}
 use lib.ListN.{length, take}
 use Rattle.label.specs.Label.{used}
-use Rattle.label.specs.Keys.{keyRuns, labelFrom, withKeys}
+use Rattle.keys.specs.Keys.{keyRuns, withKeys}
 use Rattle.reading.specs.Keys.{keysAfter}
 use Rattle.area.specs.declared.Place.{Place}
 use Rattle.area.specs.declared.Place.the-variants.{Nowhere, At}
@@ -15,23 +15,11 @@ use Rattle.area.specs.declared.Walk.{Walk}
 use Rattle.area.specs.declared.Walk.the-variants.{Sound, Refused}
 use Rattle.port.specs.declared.Port.{Port}
 use Rattle.port.specs.Port.{portSound}
-use Rattle.arrival.specs.declared.Decision.{Decision}
-use Rattle.arrival.specs.declared.Verdict.{Verdict}
-use Rattle.arrival.specs.Checks.{Refusal, silent, when, firstOf, badArea, walkAt, optionAt, arrivingLabel}
-use Rattle.arrival.specs.Decision.{refused, done, arrivalChecks}
-
--- the refusal of the first check that applies, with level and count 0; or 0 with the level and the count of keys
-abbrev pub verdictOf : Option Refusal → ℕ → ℕ → Verdict
-verdictOf (some r) v n = record { number = r .number; kind = r .kind; code = r .code; pointer = r .pointer; level = 0; count = 0 }
-verdictOf none v n = record { number = 0; kind = 0; code = 0; pointer = 0; level = v; count = n }
-
--- a check that applies, by its parts
-abbrev pub stopped : ℕ → ℕ → ℕ → ℕ → Verdict
-stopped n k c p = verdictOf (some (record { number = n; kind = k; code = c; pointer = p })) 0 0
-
--- no check has applied so far
-abbrev pub going : ℕ → ℕ → Verdict
-going v n = verdictOf none v n
+use Rattle.decision.specs.declared.Verdict.{Verdict}
+use Rattle.decision.specs.Decision.{Refusal}
+use Rattle.decision.specs.Verdict.{verdictOf}
+use Rattle.arrival.specs.Checks.{silent, when, firstOf, badArea, walkAt, optionAt, arrivingLabel}
+use Rattle.arrival.specs.Decision.{arrivalChecks}
 
 -- the checks at a port, from 1 to 14 in their order; `room` is the length of the list of keys, and 1 is given where it is under 120
 abbrev pub portChecks : Port → List ℕ → ℕ → ℕ → List (Option Refusal)
@@ -60,9 +48,3 @@ pub record Arrives (port : Port) (area : List ℕ) (code : ℕ) (keys keys′ : 
   pub answer : r ≡ arrivalOf port area code (length keys)
   pub left : keys′ ≡ arrivalKeys port area keys
   pub stands : r .number ≡ 0 → keyRuns (take (r .count) keys′) ≡ used (arrivingLabel port area)
-
--- the decision of a verdict: the label with the runs of the first keys and a count, or the refusal
-unfoldable pub concluded : Verdict → ℕ → Bool → ℕ → List ℕ → Decision
-concluded r domain quiet n keys =
-    cond (eqb (r .number) 0) (done (labelFrom domain (r .level) (keyRuns (take (r .count) keys))) n)
-    (refused quiet (record { number = r .number; kind = r .kind; code = r .code; pointer = r .pointer }))

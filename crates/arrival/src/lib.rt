@@ -7,19 +7,24 @@ use basic::BasicReading;
 use basic::Way;
 use basic::passes_way;
 use basic::read_basic;
+use decision::Decision;
+use decision::Facts;
+use decision::Verdict;
+use decision::conclude;
+use decision::go_on;
+use decision::stop;
+use keys::Look;
+use keys::label_keys;
+use keys::look_between;
+use keys::runs_between;
 use label::Label;
-use label::Look;
-use label::label_keys;
-use label::look_between;
-use label::runs_between;
-use label::to_label;
 use port::Host;
 use port::Port;
 use port::host_sound;
 use port::port_sound;
 use reading::read_keys;
 ghost use mathlib.Core.Path.{_≡_};
-ghost use mathlib.Core.Bool.{true, false, cond, _||_, not};
+ghost use mathlib.Core.Bool.{true, cond, _||_, not};
 ghost use Prim.Native.Nat.{_%_, _≤_};
 ghost use lib.ListN.{length};
 ghost use lib.Dec.{ltb, eqb};
@@ -28,46 +33,11 @@ ghost use Rattle.area.specs.declared.Kind.the-variants.{Basic, Cipso};
 ghost use Rattle.area.specs.declared.Place.the-variants.{At};
 ghost use Rattle.basic.specs.Alone.{basicReading};
 ghost use Rattle.port.specs.Port.{portSound};
-ghost use Rattle.arrival.specs.Decision.{silenced, deliverOf};
-ghost use Rattle.arrival.specs.Verdict.{stopped, going, Arrives, concluded};
+ghost use Rattle.arrival.specs.Decision.{deliverOf};
+ghost use Rattle.arrival.specs.Verdict.{Arrives};
+ghost use Rattle.decision.specs.Verdict.{stopped, going};
 ghost use Rattle.arrival.specs.Checks.{firstOf, basicIn, optionAt};
-ghost use Rattle.arrival.specs.Stages.{deliveryOf, ArrivesAt, basicChecks, isOpen, beforeRange, basicRead, reported, heldBetween, hostedBy};
-
-// What is decided: 0 and the label (and, of a forwarding, the count of the leaving area), or a refusal's number with its ICMP type (`kind`),
-// code and pointer.
-pub struct Decision {
-    pub number: u8,
-    pub kind: u8,
-    pub code: u8,
-    pub pointer: u8,
-    pub count: usize,
-    pub label: Label,
-}
-
-// What is decided so far, without the label: 0, the level, and how many keys of a lent list hold the categories; or a refusal with level and
-// count 0.
-pub struct Verdict {
-    pub number: u8,
-    pub kind: u8,
-    pub code: u8,
-    pub pointer: u8,
-    pub level: u8,
-    pub count: usize,
-}
-
-// What the caller states of a datagram (RFC 1122, section 3.2.2): no error goes out about one of which any of these holds.
-pub struct Facts {
-    // it is an ICMP error message
-    pub error: bool,
-    // its destination is broadcast or multicast
-    pub group: bool,
-    // it came as a link-layer broadcast
-    pub link: bool,
-    // it is a fragment other than the first
-    pub fragment: bool,
-    // its source is not one host
-    pub source: bool,
-}
+ghost use Rattle.arrival.specs.Stages.{deliveryOf, ArrivesAt, basicChecks, isOpen, beforeRange, basicRead, heldBetween, hostedBy};
 
 // Decides whether a datagram is delivered to the host behind the port.
 pub fn deliver(port: Port, host: Host, facts: Facts, area: &[u8]) -> Decision
@@ -125,94 +95,6 @@ pub fn find_basic(area: &[u8]) -> BasicReading
             Place::At(at) => read_basic_at(area, at),
         },
     }
-}
-
-// The decision of a verdict: the label of the domain with the runs of the first keys, and the count; or the refusal, with count 0 and an
-// all-zero label. If a fact silences the datagram, the number of a refusal stays and the report is silent.
-pub fn conclude(verdict: Verdict, domain: u32, facts: Facts, count: usize, keys: &[u32]) -> Decision
-    ensures { λ r. ⌜ r ≡ concluded verdict domain (silenced facts) count (now (keys .entry)) ⌝ }
-{
-    let quiet = is_silenced(facts);
-    let said = report(verdict, quiet);
-    let owner = owned_by(said.number, domain);
-    // one exit, so that the label is built where it is returned
-    let label = to_label(keys, said.count, owner, said.level);
-    Decision {
-        number: said.number,
-        kind: said.kind,
-        code: said.code,
-        pointer: said.pointer,
-        count: counted_by(said.number, count),
-        label: label,
-    }
-}
-
-// The first check that applies.
-pub fn stop(number: u8, kind: u8, code: u8, pointer: u8) -> Verdict
-    ensures { λ r. ⌜ r ≡ stopped number kind code pointer ⌝ }
-{
-    Verdict {
-        number: number,
-        kind: kind,
-        code: code,
-        pointer: pointer,
-        level: 0,
-        count: 0,
-    }
-}
-
-// No check has applied so far.
-pub fn go_on(level: u8, count: usize) -> Verdict
-    ensures { λ r. ⌜ r ≡ going level count ⌝ }
-{
-    Verdict {
-        number: 0,
-        kind: 0,
-        code: 0,
-        pointer: 0,
-        level: level,
-        count: count,
-    }
-}
-
-// Whether any of the five facts holds.
-fn is_silenced(facts: Facts) -> bool
-    ensures { λ r. ⌜ r ≡ silenced facts ⌝ }
-{
-    facts.error | (facts.group | (facts.link | (facts.fragment | facts.source)))
-}
-
-// What is reported of a refusal: its number alone where the datagram is silenced.
-fn report(verdict: Verdict, quiet: bool) -> Verdict
-    ensures { λ r. ⌜ r ≡ reported quiet verdict ⌝ }
-{
-    if verdict.number == 0 {
-        return go_on(verdict.level, verdict.count);
-    }
-    if quiet {
-        return stop(verdict.number, 0, 0, 0);
-    }
-    stop(verdict.number, verdict.kind, verdict.code, verdict.pointer)
-}
-
-// A refusal's label is of domain 0.
-fn owned_by(number: u8, domain: u32) -> u32
-    ensures { λ r. ⌜ r ≡ cond (eqb number 0) domain 0 ⌝ }
-{
-    if number == 0 {
-        return domain;
-    }
-    0
-}
-
-// A refusal's count is 0.
-fn counted_by(number: u8, count: usize) -> usize
-    ensures { λ r. ⌜ r ≡ cond (eqb number 0) count 0 ⌝ }
-{
-    if number == 0 {
-        return count;
-    }
-    0
 }
 
 // Check 1 of an area of n octets: over 40, or not a multiple of 4.

@@ -1,8 +1,8 @@
 -- A port of zeros is unsound, and an unsound port passes nothing.
 use mathlib.Core.Bool.{Bool, true, false, cond, not, _&&_, _||_, and-false, true≢false}
-use mathlib.Core.List.{List, [], _∷_}
-use mathlib.Core.Option.{Option, none, some}
-use mathlib.Core.Path.{_≡_, refl, sym, ap, _∙_}
+use mathlib.Core.List.{List, _∷_}
+use mathlib.Core.Option.{Option, some}
+use mathlib.Core.Path.{_≡_, refl, ap, _∙_}
 use Prim.Native.Nat.{ℕ, zero, suc}
 use native.Mathlib.Omega.{arith}
 use lib.Dec.{eqb, ltb}
@@ -15,8 +15,8 @@ use Rattle.table.specs.Table.{tableSound}
 use Rattle.fileset.specs.declared.Set.{Set}
 use Rattle.fileset.specs.Set.{noPort, emptySet}
 use Rattle.file.specs.File.{fileFormat, fileReading, fileAnswer, accepted, fileRefused, unknown}
-use Rattle.arrival.specs.Checks.{Refusal, silent, when, firstOf, badArea}
-use Rattle.arrival.specs.Decision.{silenced, decided}
+use Rattle.decision.specs.Decision.{Refusal, silenced, decided}
+use Rattle.arrival.specs.Checks.{silent, when, firstOf, badArea}
 use Rattle.gateway.specs.Crossing.{Forwarding, sizes, records, sameDomain, crossing, leavingLabel}
 use Rattle.gateway.specs.Forward.{forwardOf, forwardChecks, leavingCount}
 use Rattle.batch.specs.Batch.{portAt, gatewayOf, forwardingIn}

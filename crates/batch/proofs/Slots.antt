@@ -1,16 +1,16 @@
 -- Records and slots: one datagram's slot, a turn of the loop over all, and the records picked from a file's set.
 use mathlib.Core.Path.{_≡_, refl, sym, _∙_, ap}
-use mathlib.Core.Bool.{Bool, true, false, cond, _&&_}
+use mathlib.Core.Bool.{Bool, true, false, cond}
 use mathlib.Core.List.{List, [], _∷_, _++_, append-assoc, append-nil}
 use Prim.Native.Nat.{ℕ, zero, suc, _+_, _-_, _<_, _≤_}
 use native.Mathlib.Omega.{arith}
 use native.Mathlib.Nat.{not-suc-le-zero, le-of-suc-le-suc}
 use native.Mathlib.Numerals.{add-one}
-use lib.Dec.{leb, eqb}
+use lib.Dec.{leb}
 use borrow.Author.Tests.{leb-true, leb-false}
 use lib.ListN.{length, getD, take, drop, length-drop, length-append, take-append-drop, drop-of-length-le}
 use lib.Seq.{take-all, take-at, drop-at, drop-drop, drop-cons, length-take-le}
-use Rattle.arrival.specs.declared.Decision.{Decision}
+use Rattle.decision.specs.declared.Decision.{Decision}
 use Rattle.gateway.specs.Crossing.{Forwarding}
 use Rattle.gateway.specs.Forward.{forwardOf, outputOf}
 use Rattle.gateway.specs.Stages.{forwardingOf}

@@ -7,14 +7,13 @@ use lib.ListN.{length, getD}
 use lib.Dec.{eqb}
 use native.Mathlib.Omega.{arith}
 use native.Mathlib.Nat.{add-zero, add-suc}
-use native.Mathlib.Numerals.{add-one}
 use borrow.Author.Tests.{eq-eqb, ne-eqb, eqb-true, eqb-false}
 use Rattle.label.specs.declared.Run.{Run}
 use Rattle.label.specs.Runs.{run, pushRun, topOf}
-use Rattle.label.proofs.Push.{push-top, push-more, push-some}
-use Rattle.option.specs.Bitmap.{weight, bitAt}
+use Rattle.label.proofs.Push.{push-top, push-more}
+use Rattle.option.specs.Bitmap.{bitAt}
 use Rattle.option.specs.Index.{setRuns}
-use Rattle.bitmap.specs.Entry.{octetRuns}
+use Rattle.entries.specs.Entry.{octetRuns}
 
 abbrev pub shiftRun : ℕ → Run → Run
 shiftRun c r = run (c + r .low) (c + r .high)

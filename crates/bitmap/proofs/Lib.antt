@@ -1,4 +1,3 @@
-pub mod Table
 pub mod Join
 pub mod Step
 pub mod Turn

@@ -1,15 +1,15 @@
 -- One octet of the engine: the keys that it writes are those of the runs read so far.
-use Prim.Native.Nat.{ℕ, zero, suc, _+_, _-_, _*_, _/_, _%_, _≤_, _<_, zero-le}
+use Prim.Native.Nat.{ℕ, suc, _+_, _-_, _*_, _/_, _%_, _≤_, _<_, zero-le}
 use mathlib.Core.Path.{_≡_, refl, ap, sym, _∙_}
 use mathlib.Core.List.{List, [], _∷_, _++_, map, append-nil, append-assoc}
-use mathlib.Core.Bool.{Bool, true, false, cond}
+use mathlib.Core.Bool.{Bool}
 use lib.ListN.{length, getD, take, drop, length-append, length-map}
-use lib.Seq.{sets, sets-eq, take-at, drop-at, take-suc, take-length, length-take-le}
+use lib.Seq.{sets, sets-eq, take-at, drop-at, length-take-le}
 use lib.Dec.{eqb}
 use native.Mathlib.Omega.{arith}
 use borrow.Author.Tests.{eq-eqb, ne-eqb}
 use Rattle.label.specs.declared.Run.{Run}
-use Rattle.label.specs.Runs.{run, pushRun, topOf, joined}
+use Rattle.label.specs.Runs.{run, topOf, joined}
 use Rattle.label.proofs.Canon.{Canon, canon-length}
 use Rattle.label.proofs.Push.{push-top, push-some}
 use Rattle.option.specs.Bitmap.{bitAt}
@@ -17,9 +17,9 @@ use Rattle.option.specs.Reading.{bitPieces}
 use Rattle.option.specs.Index.{setRuns}
 use Rattle.option.proofs.Pieces.{joined-good, bits-falling}
 use Rattle.option.proofs.Bridge.{set-joined}
-use Rattle.label.specs.Keys.{keyRun, keyRuns, runKey}
+use Rattle.keys.specs.Keys.{keyRun, keyRuns, runKey}
 use Rattle.bitmap.specs.Stages.{headed, Ends}
-use Rattle.bitmap.proofs.Table.{firstLow}
+use Rattle.entries.proofs.Table.{firstLow}
 use Rattle.bitmap.proofs.Join.{shiftRun, shifted, joinRuns, push-apart, push-touch, set-top}
 
 -- Keys of runs.

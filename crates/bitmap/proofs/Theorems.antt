@@ -1,31 +1,24 @@
--- The theorems: the table's rule, and that both engines agree.
+-- The theorem: both engines agree.
 use Prim.Native.Nat.{ℕ, _*_, _≤_, _<_}
 use mathlib.Core.Path.{_≡_, ap, sym, _∙_}
-use mathlib.Core.List.{List, [], map}
+use mathlib.Core.List.{List, map}
 use lib.ListN.{length, take, drop, length-map}
 use lib.Seq.{take-at}
 use native.Mathlib.Omega.{arith}
 use borrow.Author.Tests.{lt-ltb, le-ltb}
 use Rattle.label.specs.declared.Run.{Run}
-use Rattle.label.specs.Runs.{joined}
 use Rattle.label.specs.Label.{labelOf}
 use Rattle.label.proofs.Canon.{Below, below-weaken}
-use Rattle.label.proofs.Keys.{keys-back}
+use Rattle.keys.proofs.Keys.{keys-back}
 use Rattle.option.specs.Bitmap.{bitAt}
 use Rattle.option.specs.Reading.{bitPieces, pieces}
-use Rattle.option.specs.Index.{setRuns}
 use Rattle.option.proofs.Pieces.{joined-good, bits-falling}
 use Rattle.option.proofs.Bridge.{set-joined}
-use Rattle.label.specs.Keys.{keyRuns, runKey}
+use Rattle.keys.specs.Keys.{keyRuns, runKey}
 use Rattle.bitmap.specs.Bitmap.{bitmapRuns, bitmapNumber, bitmapFound, inPlace, bitmapKeys}
 use Rattle.bitmap.specs.declared.Found.{Found}
-use Rattle.bitmap.specs.Theorems.{Rule, Agree}
-use Rattle.bitmap.proofs.Table.{table}
-use Rattle.bitmap.proofs.Table as table
+use Rattle.bitmap.specs.Theorems.{Agree}
 use Rattle.bitmap.proofs.Step.{most-runs}
-
-pub the-rule : Rule table
-the-rule = table.rule
 
 -- the runs of a bitmap lie below its length, and a list with room holds them
 module _ (b : List ℕ) (h : length b ≤ 30) where

@@ -1,8 +1,8 @@
 -- A turn of the engine: where it stands after an octet.
-use Prim.Native.Nat.{ℕ, zero, suc, _+_, _-_, _*_, _/_, _%_, _≤_, _<_}
+use Prim.Native.Nat.{ℕ, suc, _+_, _-_, _*_, _/_, _%_, _≤_, _<_}
 use mathlib.Core.Path.{_≡_, refl, ap, sym, _∙_}
 use mathlib.Core.List.{List, [], _∷_, _++_, map}
-use mathlib.Core.Logic.{_⊎_, inl, inr, ⊎-elim}
+use mathlib.Core.Logic.{_⊎_, ⊎-elim}
 use lib.ListN.{length, getD, take, drop, set, length-set, length-map, take-append-drop}
 use lib.Seq.{sets, length-sets, take-at, getD-at, getD-take, getD-set-same, take-take, length-take-le, drop-drop}
 use native.Mathlib.Omega.{arith}
@@ -12,11 +12,11 @@ use Rattle.label.proofs.Bools.{less-or}
 use Rattle.option.specs.Bitmap.{bitAt}
 use Rattle.option.specs.Index.{setRuns}
 use Rattle.bitmap.specs.declared.Last.{Last}
-use Rattle.label.specs.Keys.{keyRuns, runKey}
-use Rattle.bitmap.specs.Entry.{partOf, countIn, partsIn, octetRuns, Right}
+use Rattle.keys.specs.Keys.{keyRuns, runKey}
+use Rattle.entries.specs.Entry.{partOf, countIn, partsIn, octetRuns, Right}
 use Rattle.bitmap.specs.Bitmap.{bitmapRuns, inPlace}
 use Rattle.bitmap.specs.Stages.{headed, Ends, LastKey, Stands}
-use Rattle.bitmap.proofs.Table.{firstLow, firstHigh, octet-some, octet-first, octet-later}
+use Rattle.entries.proofs.Table.{firstLow, firstHigh, octet-some, octet-first, octet-later}
 use Rattle.bitmap.proofs.Join.{shifted, joinRuns, octet-joined, set-top}
 use Rattle.bitmap.proofs.Step.{keys-append, apart-keys, touch-keys, stored-count, stored-keys, stored-rest, headed-length, most-runs, Final, final, final-low, ends-next}
 

@@ -1,4 +1,3 @@
-pub mod Entry
 pub mod Bitmap
 pub mod Stages
 pub mod Theorems

@@ -5,7 +5,7 @@ use Prim.Native.Nat.{ℕ, _+_, _-_, _*_, _≤_, _<_}
 use lib.ListN.{length, getD, take}
 use Rattle.label.specs.declared.Run.{Run}
 use Rattle.label.specs.Runs.{topOf}
-use Rattle.label.specs.Keys.{runKey}
+use Rattle.keys.specs.Keys.{runKey}
 use Rattle.option.specs.Bitmap.{bitAt}
 use Rattle.option.specs.Index.{setRuns}
 use Rattle.bitmap.specs.declared.Last.{Last}

@@ -1,18 +1,13 @@
 -- Document 02, wish 12: what is proved of the table's engine beside its contract.
 use mathlib.Core.Path.{_≡_}
 use mathlib.Core.List.{List}
-use Prim.Native.Nat.{ℕ, _≤_, _<_}
-use lib.ListN.{length, getD, take}
+use Prim.Native.Nat.{ℕ, _≤_}
+use lib.ListN.{length, take}
 use Rattle.label.specs.Runs.{joined}
 use Rattle.label.specs.Label.{labelOf}
 use Rattle.option.specs.Reading.{pieces}
-use Rattle.label.specs.Keys.{keyRuns}
-use Rattle.bitmap.specs.Entry.{Right}
+use Rattle.keys.specs.Keys.{keyRuns}
 use Rattle.bitmap.specs.Bitmap.{bitmapFound, bitmapKeys}
-
--- "The table's rule is shown once for all entries"
-abbrev pub Rule : List ℕ → Type 0
-Rule table = (x : ℕ) → x < 256 → Right x (getD table x 0)
 
 -- both engines agree: the keys that the one writes are the runs of the label that the other reads a tag 1 to
 abbrev pub Agree : Type 0

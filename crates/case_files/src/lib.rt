@@ -10,13 +10,13 @@ use case_fields::take_wide_port;
 use case_fields::take_wide_table;
 use case_lines::put_broken;
 use case_lines::put_part;
-use file::Written;
 use file::read_file;
-use file::write_file;
 use fileset::Set;
 use fileset::empty_set;
 use filetable::LevelPair;
 use filetable::Renumbering;
+use filewrite::Written;
+use filewrite::write_file;
 use lines::put_next;
 use lines::put_word;
 

@@ -7,7 +7,7 @@ use lib.Dec.{eqb}
 use Rattle.label.specs.declared.Run.{Run}
 use Rattle.label.specs.declared.Label.{Label}
 use Rattle.label.specs.Label.{used}
-use Rattle.arrival.specs.declared.Decision.{Decision}
+use Rattle.decision.specs.declared.Decision.{Decision}
 use Rattle.lines.specs.Text.{decimal, hexOf}
 use Rattle.lines.specs.Line.{next}
 

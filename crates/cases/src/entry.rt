@@ -1,8 +1,9 @@
 // Which function a case asks: its first octet names the entry. An entry takes its fields, calls its function and puts its line.
-use case_decisions::ask_deliver;
-use case_decisions::ask_forward;
-use case_decisions::ask_wide_deliver;
-use case_decisions::ask_wide_forward;
+use crate::decision_entries::ask_deliver;
+use crate::decision_entries::ask_forward;
+use crate::decision_entries::ask_wide_deliver;
+use crate::decision_entries::ask_wide_forward;
+use crate::routing_entries::ask_decide;
 use case_fields::take_octet;
 use case_files::ask_read_file;
 use case_files::ask_read_write;
@@ -18,7 +19,6 @@ use case_labels::ask_spell_permitted;
 use case_labels::ask_within;
 use case_labels::ask_write_basic;
 use case_lines::put_broken;
-use case_routing::ask_decide;
 
 // The line of one case.
 pub fn answer(case: &[u8], out: &mut [u8], n: usize) -> usize {

@@ -2,7 +2,7 @@
 use mathlib.Core.Path.{_≡_, refl, sym, _∙_, ap, transport}
 use mathlib.Core.Bool.{Bool, true, false}
 use mathlib.Core.List.{List, [], _++_, append-assoc, append-nil}
-use mathlib.Core.Option.{Option, none, some}
+use mathlib.Core.Option.{Option, some}
 use Prim.Native.Nat.{ℕ, _+_, _-_, _%_, _≤_}
 use native.Mathlib.Omega.{arith}
 use lib.ListN.{length, getD, take, drop, replicate, length-append, length-replicate, replicate-append-replicate, List·getD-append}
@@ -24,9 +24,9 @@ use Rattle.leaving.specs.Kept.{keptOf, roundUp, leavingOf}
 use Rattle.leaving.proofs.Again.{Starts, Again, free-nowhere, basicFrom, kept-again, front-walk, front-kept}
 use Rattle.port.specs.declared.Port.{Port}
 use Rattle.port.specs.Port.{portSound}
-use Rattle.arrival.specs.declared.Decision.{Decision}
+use Rattle.decision.specs.declared.Decision.{Decision}
 use Rattle.arrival.specs.Checks.{walkAt, basicIn, optionAt, arrivingBasic, arrivingLabel}
-use Rattle.arrival.specs.Decision.{done}
+use Rattle.decision.specs.Decision.{done}
 use Rattle.arrival.proofs.Arrival.{arrival-held}
 use Rattle.gateway.specs.Crossing.{Forwarding, crossing, leavingLabel}
 use Rattle.gateway.specs.Forward.{forwardOf, outputOf}

@@ -15,7 +15,8 @@ use Rattle.option.specs.declared.Spellings.{Spellings}
 use Rattle.option.specs.Spelling.{spelledOf}
 use Rattle.reading.specs.declared.Reading.{Reading}
 use Rattle.reading.specs.Reading.{Check, check, notRead, checkedReading, framed, tagChecks, labelIn, readingBy, readingOf}
-use Rattle.spelling.specs.Spelling.{lacking, spellingNumber, spellingAnswer, spellingOut}
+use Rattle.forms.specs.Spelled.{lacking}
+use Rattle.spelling.specs.Spelling.{spellingNumber, spellingAnswer, spellingOut}
 use Rattle.spelling.proofs.Answers.{answer-refused, out-refused}
 use Rattle.table.specs.declared.Table.{Table}
 use Rattle.table.specs.declared.Partner.{Partner}

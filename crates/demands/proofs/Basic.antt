@@ -1,14 +1,14 @@
 -- The option 130 of a datagram that passes, and what its area's kept options tell of it.
 use mathlib.Core.Path.{_≡_, refl, sym, _∙_, ap}
-use mathlib.Core.Bool.{Bool, true, false, not, _&&_}
+use mathlib.Core.Bool.{Bool, true, false, not}
 use mathlib.Core.List.{List, [], _∷_}
 use mathlib.Core.Option.{Option, none, some}
 use Prim.Native.Nat.{ℕ, zero, suc, _+_, _<_}
 use native.Mathlib.Omega.{arith}
 use lib.Dec.{eqb}
 use lib.ListN.{getD}
-use borrow.Author.Tests.{eqb-true, not-true}
-use Rattle.label.proofs.Bools.{never, and-left, and-right}
+use borrow.Author.Tests.{eqb-true}
+use Rattle.label.proofs.Bools.{never, and-right}
 use Rattle.option.specs.Option.{Octets}
 use Rattle.basic.specs.declared.BasicReading.{BasicReading}
 use Rattle.basic.specs.declared.Way.{Way}
@@ -29,7 +29,7 @@ use Rattle.leaving.proofs.Again.{basicFrom, basic-of-kept}
 use Rattle.port.specs.declared.Port.{Port}
 use Rattle.port.specs.Port.{portSound}
 use Rattle.port.proofs.Laws.{sound}
-use Rattle.arrival.specs.Checks.{Refusal, faulty, barred, when, firstOf, NoneApplies, walkAt, walkRefusal, walkCheck, basicIn, optionAt, badBasicBy, badBasicCheck, arrivingBasic, missingBasicBy, missingBasicCheck, basicPasses, basicRangeCheck}
+use Rattle.arrival.specs.Checks.{faulty, barred, when, firstOf, NoneApplies, walkAt, walkRefusal, walkCheck, basicIn, optionAt, badBasicBy, badBasicCheck, arrivingBasic, missingBasicBy, missingBasicCheck, basicPasses, basicRangeCheck}
 use Rattle.arrival.specs.Decision.{arrivalChecks}
 use Rattle.arrival.proofs.First.{first-none, when-none, not-false-yes}
 use Rattle.arrival.proofs.Arrival.{octets-part, off-none}

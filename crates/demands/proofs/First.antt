@@ -1,14 +1,13 @@
 -- Demand 1: the first refusal that applies decides.
-use mathlib.Core.Path.{_≡_, refl, sym, _∙_, ap}
-use mathlib.Core.List.{List, [], _∷_, _++_}
-use mathlib.Core.Option.{Option, none, some}
-use Prim.Native.Nat.{ℕ}
-use Rattle.arrival.specs.Checks.{Refusal, firstOf, Delivery}
-use Rattle.arrival.specs.Decision.{refused, deliverChecks, deliverOf}
-use Rattle.arrival.proofs.First.{orElse, first-append, none-first}
+use mathlib.Core.Path.{_≡_, sym, _∙_, ap}
+use mathlib.Core.List.{List, _∷_}
+use mathlib.Core.Option.{Option, some}
+use Rattle.decision.specs.Decision.{Refusal}
+use Rattle.arrival.specs.Checks.{firstOf}
+use Rattle.arrival.specs.Decision.{deliverChecks}
+use Rattle.arrival.proofs.First.{first-append, none-first}
 use Rattle.arrival.proofs.Deliveries.{deliver-refused}
-use Rattle.gateway.specs.Crossing.{Forwarding}
-use Rattle.gateway.specs.Forward.{forwardChecks, forwardOf, outputOf}
+use Rattle.gateway.specs.Forward.{forwardChecks}
 use Rattle.gateway.proofs.Forwards.{forward-refused}
 use Rattle.demands.specs.Demands.{FirstIs, Demand1}
 

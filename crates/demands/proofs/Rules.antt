@@ -22,15 +22,15 @@ use Rattle.area.specs.declared.Size.{Size}
 use Rattle.area.specs.declared.Size.the-variants.{Whole, Bad}
 use Rattle.area.specs.declared.Place.{Place}
 use Rattle.area.specs.declared.Place.the-variants.{Nowhere, At}
-use Rattle.area.specs.declared.Walk.the-variants.{Sound}
 use Rattle.area.specs.Area.{kindOf, Met, metOf, judged, walkOf, octetsAt, WholeAt}
 use Rattle.area.proofs.Laws.{sound-placed, cipso-octet, basic-octet}
 use Rattle.basic.specs.Option.{basicLevel, basicFlags, basicValid}
 use Rattle.basic.specs.Alone.{basicFound, basicBad, basicReading}
 use Rattle.leaving.specs.Kept.{keptOf}
 use Rattle.port.specs.declared.Port.{Port}
-use Rattle.arrival.specs.Checks.{Refusal, faulty, when, firstOf, walkAt, walkRefusal, walkCheck, placeIn, basicIn, optionAt, requiredBy, requiredCheck, optionBy, optionCheck, badBasicBy, badBasicCheck, arrivingBasic, missingBasicBy, missingBasicCheck, basicRangeCheck, rangeCheck, Delivery, deliverySizes, deliveryRecords, hostCheck}
-use Rattle.arrival.specs.Decision.{silenced, decided, deliverChecks, deliverOf}
+use Rattle.decision.specs.Decision.{Refusal, silenced, decided}
+use Rattle.arrival.specs.Checks.{faulty, when, firstOf, walkAt, walkRefusal, walkCheck, placeIn, basicIn, optionAt, requiredBy, requiredCheck, optionBy, optionCheck, badBasicBy, badBasicCheck, arrivingBasic, missingBasicBy, missingBasicCheck, basicRangeCheck, rangeCheck, Delivery, deliverySizes, deliveryRecords, hostCheck}
+use Rattle.arrival.specs.Decision.{deliverChecks, deliverOf}
 use Rattle.arrival.proofs.First.{orElse, first-append}
 use Rattle.arrival.proofs.Arrival.{whole-inside}
 use Rattle.gateway.specs.Crossing.{Forwarding, sizes, records, leavingBasicCheck, crossing, numberCheck, leavingCheck, spellingCheck}

@@ -30,7 +30,7 @@ use Rattle.table.specs.Numbers.{sends, hasNumber}
 use Rattle.renumber.specs.Theorems.{Far}
 use Rattle.arrival.specs.Checks.{walkCheck, requiredCheck, optionCheck, badBasicCheck, arrivingBasic, missingBasicCheck, basicRangeCheck, arrivingLabel, rangeCheck}
 use Rattle.gateway.specs.Crossing.{sizes, records, leavingBasicCheck, numberCheck}
-use Rattle.arrival.specs.Decision.{silenced}
+use Rattle.decision.specs.Decision.{silenced}
 use Rattle.gateway.specs.Forward.{forwardOf}
 use Rattle.demands.specs.Demands.{own, Forwards, neither}
 use Rattle.sample_records.specs.Sample.{arriving, leaving, table, levels}

@@ -1,26 +1,24 @@
 -- Demand 2: forwarded and delivered exactly when the conditions hold.
 use mathlib.Core.Path.{_≡_, refl, sym, _∙_, ap, subst}
-use mathlib.Core.Bool.{Bool, true, false, cond, not, _&&_, _||_, true≢false}
+use mathlib.Core.Bool.{Bool, true, false, cond, not, _&&_, _||_}
 use mathlib.Core.List.{List, [], _∷_, _++_}
-use mathlib.Core.Logic.{_↔_, _⊎_, inl, inr}
+use mathlib.Core.Logic.{_⊎_, inl, inr}
 use mathlib.Core.Option.{Option, none, some}
-use Prim.Native.Nat.{ℕ, zero, suc, _+_, _%_, _≤_, _<_}
+use Prim.Native.Nat.{ℕ, _+_, _%_, _≤_}
 use native.Mathlib.Omega.{arith}
 use lib.Dec.{ltb, eqb}
 use lib.ListN.{length, getD}
 use borrow.Author.Tests.{eqb-true, eqb-false, eq-eqb, ne-eqb, le-ltb, ltb-false}
 use Rattle.label.specs.declared.Label.{Label}
 use Rattle.label.specs.Label.{wellFormed, inRange}
-use Rattle.label.proofs.Bools.{and-left, and-right, and-both, or-none}
-use Rattle.label.specs.Range.{setInRange}
-use Rattle.option.specs.Option.{Octets, Means}
+use Rattle.label.proofs.Bools.{and-left, and-right, or-none}
+use Rattle.keys.specs.Range.{setInRange}
+use Rattle.option.specs.Option.{Octets}
 use Rattle.option.specs.Spelling.{spelledOf}
-use Rattle.option.specs.Theorems.{Spells}
 use Rattle.option.proofs.OneSpelling.{one-spelling}
 use Rattle.reading.specs.declared.Reading.{Reading}
 use Rattle.reading.specs.Reading.{found, readingFor}
 use Rattle.reading.proofs.Theorems.{reads}
-use Rattle.spelling.specs.Spelling.{lacking, lengthOf}
 use Rattle.area.specs.declared.Place.{Place}
 use Rattle.area.specs.declared.Place.the-variants.{Nowhere, At}
 use Rattle.area.specs.declared.Walk.{Walk}
@@ -35,14 +33,15 @@ use Rattle.renumber.specs.declared.Renumbered.{Renumbered}
 use Rattle.renumber.specs.Renumber.{renumberedAs, carriedOf}
 use Rattle.renumber.specs.Theorems.{Far}
 use Rattle.renumber.proofs.Theorems.{renumbering, agrees}
-use Rattle.arrival.specs.declared.Decision.{Decision}
-use Rattle.arrival.specs.Checks.{Refusal, silent, barred, when, firstOf, NoneApplies, badArea, walkAt, walkCheck, placeIn, optionAt, requiredBy, requiredCheck, optionBy, optionCheck, labelBy, arrivingLabel, rangeCheck, Delivery, deliverySizes, deliveryRecords, hostCheck}
-use Rattle.arrival.specs.Decision as decision
-use Rattle.arrival.specs.Decision.{silenced, refused, decided, arrivalChecks, deliverChecks, deliverOf}
-use Rattle.arrival.proofs.First.{Real, AllReal, real-first, real-when, first-none, none-first, when-none, orElse, first-append, not-false-yes, real-else}
+use Rattle.decision.specs.declared.Decision.{Decision}
+use Rattle.decision.specs.Decision.{Refusal, silenced, refused, decided}
+use Rattle.arrival.specs.Checks.{silent, barred, firstOf, NoneApplies, badArea, walkAt, walkCheck, optionAt, requiredBy, requiredCheck, optionBy, optionCheck, labelBy, arrivingLabel, rangeCheck, Delivery, deliverySizes, deliveryRecords, hostCheck}
+use Rattle.decision.specs.Decision as decision
+use Rattle.arrival.specs.Decision.{arrivalChecks, deliverChecks, deliverOf}
+use Rattle.arrival.proofs.First.{Real, real-first, real-when, first-none, none-first, when-none, first-append, not-false-yes, real-else}
 use Rattle.arrival.proofs.Arrival.{placed-framed, octets-part, Held, arrival-held, arrival-real, in-range-held}
 use Rattle.arrival.proofs.Deliveries.{deliver-done}
-use Rattle.gateway.specs.Crossing.{Forwarding, sameDomain, Crossing, crossing, stays, leavingLabel, leavingOption, noRoom, sizes, records, numberCheck, leavingCheck, leavingLevel, leavingRuns}
+use Rattle.gateway.specs.Crossing.{noRoom, Forwarding, sameDomain, Crossing, crossing, stays, leavingLabel, leavingOption, sizes, records, numberCheck, leavingCheck, leavingLevel, leavingRuns}
 use Rattle.gateway.specs.Forward.{forwardChecks, forwardOf, outputOf}
 use Rattle.gateway.specs.Stages.{crossingChecks}
 use Rattle.gateway.proofs.Crossings.{label-stays, stays-inside, stays-outside, Crossed, crossed, crossed-carried, crosses-passed, default-is}

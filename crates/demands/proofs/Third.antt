@@ -2,7 +2,7 @@
 use mathlib.Core.Path.{_≡_, refl, sym, _∙_, ap, subst}
 use mathlib.Core.Bool.{Bool, true, false, not, true≢false}
 use mathlib.Core.List.{List, [], _∷_, _++_, append-assoc}
-use mathlib.Core.Logic.{_⊎_, inl, inr, ⊎-elim, _↔_}
+use mathlib.Core.Logic.{_⊎_, ⊎-elim, _↔_}
 use mathlib.Core.Option.{Option, none, some}
 use Prim.Native.Nat.{ℕ, _+_, _-_, _≤_}
 use native.Mathlib.Omega.{arith}
@@ -16,21 +16,22 @@ use Rattle.option.specs.Permitted.{usual, Permitted}
 use Rattle.option.specs.Spelling.{padded, spelledOf}
 use Rattle.option.specs.Theorems.{Spells, Shortest}
 use Rattle.option.proofs.OneSpelling.{one-spelling, usual-spelling, spelled-or-none}
-use Rattle.reading.specs.Reading.{found, readingFor}
 use Rattle.reading.proofs.Theorems.{reads}
-use Rattle.spelling.specs.Spelling.{lacking, lengthOf, spellingAnswer, spellingOut}
+use Rattle.forms.specs.Spelled.{lacking, lengthOf}
+use Rattle.spelling.specs.Spelling.{spellingAnswer, spellingOut}
 use Rattle.spelling.proofs.Theorems.{spelling-alone}
 use Rattle.area.specs.declared.Place.the-variants.{At}
 use Rattle.leaving.specs.Kept.{keptOf, roundUp, leavingOf}
 use Rattle.port.specs.declared.Port.{Port}
 use Rattle.port.specs.declared.Host.{Host}
-use Rattle.arrival.specs.declared.Decision.{Decision}
-use Rattle.arrival.specs.Checks.{Refusal, barred, when, firstOf, badBasicCheck, arrivingBasic, missingBasicBy, missingBasicCheck, basicPasses, basicRangeCheck, arrivingLabel, rangeCheck, Delivery, deliverySizes, deliveryRecords, hostCheck}
-use Rattle.arrival.specs.Decision.{silenced, decided, deliverChecks, deliverOf}
+use Rattle.decision.specs.declared.Decision.{Decision}
+use Rattle.decision.specs.Decision.{Refusal, silenced, decided}
+use Rattle.arrival.specs.Checks.{barred, when, firstOf, badBasicCheck, arrivingBasic, missingBasicBy, missingBasicCheck, basicPasses, basicRangeCheck, arrivingLabel, rangeCheck, Delivery, deliverySizes, deliveryRecords, hostCheck}
+use Rattle.arrival.specs.Decision.{deliverOf}
 use Rattle.gateway.specs.Crossing.{Forwarding, sizes, records, leavingBasicCheck, Crossing, crossing, numberCheck, leavingCheck, spellingCheck, leavingLabel, leavingOption}
-use Rattle.gateway.specs.Forward.{forwardChecks, forwardOf, optionOctets, written, outputOf}
+use Rattle.gateway.specs.Forward.{forwardChecks, forwardOf, written, outputOf}
 use Rattle.gateway.proofs.Forwards.{forward-passed}
-use Rattle.demands.specs.Demands.{LabelOf, own, Forwards, MeansAt, Alike, AlikeDelivered, Demand3}
+use Rattle.demands.specs.Demands.{own, MeansAt, Alike, AlikeDelivered, Demand3}
 use Rattle.leaving.proofs.Again.{basicFrom}
 use Rattle.demands.proofs.Basic.{basic-kept}
 use Rattle.demands.proofs.Second.{Reads, label-reads, forwarded-passes, demand2}

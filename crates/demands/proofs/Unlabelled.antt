@@ -6,7 +6,7 @@ use mathlib.Core.Option.{Option, none}
 use Prim.Native.Nat.{ℕ, _+_}
 use lib.ListN.{length}
 use Rattle.label.specs.Label.{inRange}
-use Rattle.spelling.specs.Spelling.{lengthOf}
+use Rattle.forms.specs.Spelled.{lengthOf}
 use Rattle.area.specs.declared.Place.the-variants.{Nowhere}
 use Rattle.area.specs.declared.Place.{Place}
 use Rattle.area.specs.declared.Walk.the-variants.{Sound}
@@ -14,9 +14,10 @@ use Rattle.leaving.proofs.Again.{basicFrom}
 use Rattle.leaving.specs.Kept.{keptOf, roundUp}
 use Rattle.port.specs.declared.Port.{Port}
 use Rattle.port.specs.declared.Host.{Host}
-use Rattle.arrival.specs.declared.Decision.{Decision}
-use Rattle.arrival.specs.Checks.{Refusal, barred, when, firstOf, walkAt, walkCheck, requiredBy, requiredCheck, optionCheck, badBasicCheck, arrivingBasic, missingBasicBy, missingBasicCheck, basicPasses, basicRangeCheck, arrivingLabel, rangeCheck, Delivery, deliverySizes, deliveryRecords, hostCheck}
-use Rattle.arrival.specs.Decision.{silenced, decided, deliverOf}
+use Rattle.decision.specs.declared.Decision.{Decision}
+use Rattle.decision.specs.Decision.{Refusal, silenced, decided}
+use Rattle.arrival.specs.Checks.{barred, when, firstOf, walkAt, walkCheck, requiredBy, requiredCheck, optionCheck, badBasicCheck, arrivingBasic, missingBasicBy, missingBasicCheck, basicPasses, basicRangeCheck, arrivingLabel, rangeCheck, Delivery, deliverySizes, deliveryRecords, hostCheck}
+use Rattle.arrival.specs.Decision.{deliverOf}
 use Rattle.gateway.specs.Crossing.{Forwarding, Crossing, sizes, records, leavingBasicCheck, crossing, numberCheck, leavingCheck, spellingCheck, leavingLabel, leavingOption}
 use Rattle.gateway.specs.Forward.{forwardOf}
 use Rattle.demands.specs.Guards.{Unlabelled, UnlabelledDelivered, leavingArea}

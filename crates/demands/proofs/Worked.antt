@@ -13,9 +13,10 @@ use Rattle.basic.specs.Alone.{basicReading}
 use Rattle.basic.specs.Settings as settings
 use Rattle.basic.specs.Settings.{waySound, wayZero, basicSound, passesWay}
 use Rattle.port.specs.Port.{rangeSound, assignedSound, defaultSound, portSound, hostSound}
-use Rattle.label.specs.Range.{setInRange}
+use Rattle.keys.specs.Range.{setInRange}
 use Rattle.arrival.specs.Checks.{walkCheck, requiredCheck, optionCheck, badBasicCheck, arrivingBasic, missingBasicCheck, basicRangeCheck, arrivingLabel, rangeCheck, deliverySizes, deliveryRecords, hostCheck}
-use Rattle.arrival.specs.Decision.{silenced, deliverOf}
+use Rattle.decision.specs.Decision.{silenced}
+use Rattle.arrival.specs.Decision.{deliverOf}
 use Rattle.gateway.specs.Crossing.{sizes, records, leavingBasicCheck, numberCheck, leavingLevel, leavingRuns, leavingCheck, spellingCheck}
 use Rattle.gateway.specs.Forward.{forwardOf, outputOf}
 use Rattle.demands.specs.Worked.{WorkedDecisions}

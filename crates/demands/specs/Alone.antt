@@ -14,7 +14,8 @@ use Rattle.option.specs.Option.{domainOf}
 use Rattle.option.specs.declared.Spellings.{Spellings}
 use Rattle.option.specs.Spelling.{spelledOf}
 use Rattle.reading.specs.Reading.{Check, check, framed, tagChecks, readingOf}
-use Rattle.spelling.specs.Spelling.{lacking, spellingAnswer, spellingOut}
+use Rattle.forms.specs.Spelled.{lacking}
+use Rattle.spelling.specs.Spelling.{spellingAnswer, spellingOut}
 use Rattle.table.specs.declared.Table.{Table}
 use Rattle.table.specs.declared.Partner.the-variants.{Level}
 use Rattle.table.specs.Table.{usedRows, tableSound}

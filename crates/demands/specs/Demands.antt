@@ -2,12 +2,12 @@
 -- functions have no `requires`, and their contracts equate what they answer with `forwardOf`, `outputOf`, `deliverOf`, `readingOf`,
 -- `spellingAnswer`, `spellingOut` and `renumberedOf` for every input; here is what these say.
 use mathlib.Core.Path.{_≡_}
-use mathlib.Core.Bool.{Bool, true, false}
+use mathlib.Core.Bool.{true, false}
 use mathlib.Core.List.{List, [], _∷_, _++_}
 use mathlib.Core.Logic.{_⊎_, _↔_}
 use mathlib.Core.Option.{Option, none, some}
 use Prim.Native.Nat.{ℕ, _+_, _%_, _≤_}
-use lib.ListN.{length, take, drop}
+use lib.ListN.{length, take}
 use Rattle.label.specs.declared.Label.{Label}
 use Rattle.label.specs.Label.{wellFormed, inRange}
 use Rattle.option.specs.Option.{Octets, Means}
@@ -27,8 +27,9 @@ use Rattle.port.specs.declared.Port.{Port}
 use Rattle.port.specs.Port.{portSound, hostSound}
 use Rattle.table.specs.Table.{tableSound}
 use Rattle.renumber.specs.Theorems.{Far}
-use Rattle.arrival.specs.Checks.{Refusal, NoneApplies, walkAt, optionAt, badBasicCheck, Delivery, deliverySizes, deliveryRecords, walkCheck, requiredCheck, optionCheck, missingBasicCheck, basicRangeCheck, rangeCheck}
-use Rattle.arrival.specs.Decision.{silenced, refused, done, deliverChecks, deliverOf}
+use Rattle.decision.specs.Decision.{Refusal, silenced, refused, done}
+use Rattle.arrival.specs.Checks.{NoneApplies, walkAt, optionAt, badBasicCheck, Delivery, deliverySizes, deliveryRecords, walkCheck, requiredCheck, optionCheck, missingBasicCheck, basicRangeCheck, rangeCheck}
+use Rattle.arrival.specs.Decision.{deliverChecks, deliverOf}
 use Rattle.gateway.specs.Crossing.{Forwarding, sizes, records, leavingBasicCheck, crossing, numberCheck}
 use Rattle.gateway.specs.Forward.{forwardChecks, forwardOf, outputOf}
 

@@ -17,7 +17,7 @@ use Rattle.area.specs.declared.Walk.the-variants.{Sound}
 use Rattle.area.specs.Area.{walkOf}
 use Rattle.leaving.specs.Kept.{keptOf}
 use Rattle.port.specs.declared.Port.{Port}
-use Rattle.arrival.specs.declared.Decision.{Decision}
+use Rattle.decision.specs.declared.Decision.{Decision}
 use Rattle.arrival.specs.Checks.{walkAt, optionAt, requiredCheck, optionCheck, badBasicCheck, arrivingBasic, arrivingLabel, Delivery, deliverySizes}
 use Rattle.arrival.specs.Decision.{deliverOf}
 use Rattle.gateway.specs.Crossing.{Forwarding, sizes}

@@ -8,7 +8,7 @@ use Prim.Native.Nat.{ℕ, _+_, _*_, _<_}
 use lib.Dec.{leb, ltb, eqb}
 use lib.ListN.{length, getD}
 use Rattle.label.specs.Label.{inRange}
-use Rattle.label.specs.Range.{setInRange}
+use Rattle.keys.specs.Range.{setInRange}
 use Rattle.option.specs.Option.{domainOf, tagOf, tagLengthOf, isEven}
 use Rattle.reading.specs.Reading.{knownTag, goodLength, categoriesIn, badIn, badPlace}
 use Rattle.area.specs.declared.Kind.{Kind}
@@ -24,10 +24,11 @@ use Rattle.leaving.specs.Kept.{keptOf}
 use Rattle.port.specs.declared.Port.{Port}
 use Rattle.port.specs.Port.{portSound, hostSound, lowestOut, highestOut}
 use Rattle.table.specs.Table.{tableSound}
-use Rattle.arrival.specs.declared.Decision.{Decision}
-use Rattle.arrival.specs.Checks.{Refusal, badArea, walkAt, placeIn, basicIn, optionAt, arrivingBasic, basicPasses, arrivingLabel, Delivery}
-use Rattle.arrival.specs.Decision.{silenced, refused, deliverOf}
-use Rattle.gateway.specs.Crossing.{Forwarding, sameDomain, crossing, stays, hasNumbers, leavingLevel, leavingRuns, leavingOption, noRoom}
+use Rattle.decision.specs.declared.Decision.{Decision}
+use Rattle.decision.specs.Decision.{Refusal, silenced, refused}
+use Rattle.arrival.specs.Checks.{badArea, walkAt, placeIn, basicIn, optionAt, arrivingBasic, basicPasses, arrivingLabel, Delivery}
+use Rattle.arrival.specs.Decision.{deliverOf}
+use Rattle.gateway.specs.Crossing.{noRoom, Forwarding, sameDomain, crossing, stays, hasNumbers, leavingLevel, leavingRuns, leavingOption}
 use Rattle.gateway.specs.Forward.{forwardOf}
 use Rattle.demands.specs.First.{NoneOf, FirstOf}
 

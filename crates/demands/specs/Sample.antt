@@ -6,7 +6,7 @@ use lib.ListN as lists
 use lib.ListN.{replicate}
 use Rattle.label.specs.Runs.{run}
 use Rattle.label.specs.Label.{labelOf}
-use Rattle.arrival.specs.Decision.{noFact}
+use Rattle.decision.specs.Decision.{noFact}
 use Rattle.gateway.specs.Crossing.{Forwarding}
 use Rattle.gateway.specs.Forward.{forwardOf, outputOf}
 use Rattle.sample_records.specs.Sample.{arriving, leaving, table, levels}

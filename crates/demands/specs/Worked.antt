@@ -14,10 +14,11 @@ use Rattle.port.specs.declared.Port.{Port}
 use Rattle.port.specs.declared.Host.{Host}
 use Rattle.port.specs.Port.{plainPort}
 use Rattle.table.specs.declared.Table.{Table}
-use Rattle.arrival.specs.declared.Decision.{Decision}
-use Rattle.arrival.specs.declared.Facts.{Facts}
+use Rattle.decision.specs.declared.Decision.{Decision}
+use Rattle.decision.specs.declared.Facts.{Facts}
 use Rattle.arrival.specs.Checks.{Delivery}
-use Rattle.arrival.specs.Decision.{silenced, noFact, deliverOf}
+use Rattle.decision.specs.Decision.{silenced, noFact}
+use Rattle.arrival.specs.Decision.{deliverOf}
 use Rattle.gateway.specs.Crossing.{Forwarding}
 use Rattle.gateway.specs.Forward.{forwardOf, outputOf}
 

@@ -1,19 +1,19 @@
 -- What the exported functions' answers come to where there is room, and where there is too little.
 use Prim.Native.Nat.{ℕ, _≤_, _<_}
-use mathlib.Core.Path.{_≡_, refl, ap, _∙_}
-use mathlib.Core.Bool.{Bool, true, false, and-false}
+use mathlib.Core.Path.{_≡_, ap, _∙_}
+use mathlib.Core.Bool.{true, false, and-false}
 use mathlib.Core.List.{List}
 use borrow.Author.Tests.{le-leb, lt-leb}
 use lib.ListN.{length}
 use Rattle.label.specs.declared.Label.{Label}
-use Rattle.label.specs.Keys.{withKeys}
+use Rattle.keys.specs.Keys.{withKeys}
 use Rattle.reading.specs.declared.Reading.{Reading}
 use Rattle.reading.specs.Reading.{readingOf}
 use Rattle.option.specs.Permitted.{usual}
 use Rattle.spelling.specs.declared.Spelling.{Spelling}
 use Rattle.spelling.specs.Spelling.{spellingAnswer, spellingOut}
-use Rattle.arrival.specs.declared.Decision.{Decision}
-use Rattle.arrival.specs.declared.Facts.{Facts}
+use Rattle.decision.specs.declared.Decision.{Decision}
+use Rattle.decision.specs.declared.Facts.{Facts}
 use Rattle.gateway.specs.Crossing.{Forwarding}
 use Rattle.gateway.specs.Stages.{forwardingOf}
 use Rattle.gateway.specs.Forward.{forwardOf, outputOf}

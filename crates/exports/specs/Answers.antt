@@ -7,14 +7,14 @@ use mathlib.Core.List.{List, [], _∷_, _++_}
 use lib.ListN.{length, drop}
 use lib.Dec.{leb}
 use Rattle.label.specs.declared.Label.{Label}
-use Rattle.label.specs.Keys.{keyRuns, labelFrom, withKeys}
+use Rattle.keys.specs.Keys.{keyRuns, labelFrom, withKeys}
 use Rattle.reading.specs.declared.Reading.{Reading}
 use Rattle.reading.specs.Reading.{readingOf}
 use Rattle.option.specs.Permitted.{usual}
 use Rattle.spelling.specs.declared.Spelling.{Spelling}
 use Rattle.spelling.specs.Spelling.{spellingAnswer, spellingOut}
-use Rattle.arrival.specs.declared.Decision.{Decision}
-use Rattle.arrival.specs.declared.Facts.{Facts}
+use Rattle.decision.specs.declared.Decision.{Decision}
+use Rattle.decision.specs.declared.Facts.{Facts}
 use Rattle.gateway.specs.Crossing.{Forwarding}
 use Rattle.gateway.specs.Stages.{forwardingOf}
 use Rattle.gateway.specs.Forward.{forwardOf, outputOf}

@@ -1,19 +1,15 @@
 -- docs/FILE.md, the file, version 1. The layout's row: length of the whole file (2), version (1), port count (1), the ports, table count (1), the tables.
-use mathlib.Core.Bool.{Bool, true, false, cond, not, _&&_}
+use mathlib.Core.Bool.{Bool, true, cond, _&&_}
 use mathlib.Core.List.{List, [], _∷_}
-use mathlib.Core.Path.{_≡_}
 use Prim.Native.Nat.{ℕ, _+_}
 use lib.Dec.{leb, ltb, eqb}
 use lib.ListN.{length, take}
-use Rattle.lists.specs.Lists.{paint}
 use Rattle.port.specs.declared.Port.{Port}
 use Rattle.port.specs.Port.{isPlain}
 use Rattle.format.specs.Format.{Format, Found, got, bad, one, two, number, _then_, _such_, octets, readAt}
 use Rattle.fileset.specs.declared.Set.{Set}
-use Rattle.fileset.specs.Set.{emptySet, setSound}
+use Rattle.fileset.specs.Set.{emptySet}
 use Rattle.file.specs.declared.FileRead.{FileRead}
-use Rattle.file.specs.declared.Written.{Written}
-use Rattle.file.specs.declared.Written.the-variants.{Done, Short, Unsound, Unsaid}
 use Rattle.file.specs.SetFormat.{setFormat}
 
 -- a file of `total` octets. Its size is a rule over the two fields of its head, and so blames octet 0 when the version has passed
@@ -44,8 +40,7 @@ fileAnswer total (bad n) = cond (eqb n 2 && ltb 2 total) unknown (fileRefused n)
 unfoldable pub fileReading : List ℕ → FileRead
 fileReading s = fileAnswer (length s) (readAt (fileFormat (length s)) s 0)
 
--- 2. The one file of a set, and what the writer does: 2 for an unsound set; then a refusal by name for one that version 1 cannot say; then 1 for an output that is too
--- short; else the file.
+-- 2. The one file of a set.
 
 abbrev pub allPlain : List Port → Bool
 allPlain [] = true
@@ -60,11 +55,3 @@ totalOf s = 3 + length (octets setFormat s)
 
 unfoldable pub fileOctets : Set → List ℕ
 fileOctets s = octets (fileFormat (totalOf s)) ((totalOf s, 1), s)
-
-unfoldable pub writtenOf : Set → ℕ → Written
-writtenOf s room =
-    cond (setSound s) (cond (sayable s) (cond (leb (totalOf s) room) (Done (totalOf s)) Short) Unsaid) Unsound
-
--- the output at the end: nothing is written on a refusal, and octets past the file are kept
-unfoldable pub fileOutput : Set → List ℕ → List ℕ
-fileOutput s out = cond (setSound s && (sayable s && leb (totalOf s) (length out))) (paint 0 (fileOctets s) out) out

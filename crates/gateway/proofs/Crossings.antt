@@ -1,43 +1,42 @@
 -- Laws of checks 16 and 17, and of 18 on the runs.
 use mathlib.Core.Path.{_≡_, refl, sym, _∙_, ap, subst}
-use mathlib.Core.Bool.{Bool, true, false, cond, not, _&&_, _||_, and-false, true≢false}
+use mathlib.Core.Bool.{Bool, true, false, cond, not, _&&_, _||_}
 use mathlib.Core.List.{List, [], _∷_, _++_}
 use mathlib.Core.Option.{Option, none, some}
-use Prim.Native.Nat.{ℕ, _≤_, _<_}
+use Prim.Native.Nat.{ℕ, _≤_}
 use native.Mathlib.Omega.{arith}
 use lib.Dec.{leb, ltb, eqb}
 use lib.ListN.{length, take, drop}
 use lib.Seq.{length-take-le, take-append-le, take-take}
-use borrow.Author.Tests.{eq-eqb, ne-eqb, eqb-true, eqb-false, leb-true, leb-false, le-ltb, lt-ltb, ltb-false, le-leb}
+use borrow.Author.Tests.{eq-eqb, ne-eqb, eqb-true, eqb-false, leb-true, leb-false, le-ltb, lt-ltb}
 use Rattle.label.specs.declared.Run.{Run}
 use Rattle.label.specs.declared.Label.{Label}
 use Rattle.label.specs.Runs.{spaced, subset}
 use Rattle.label.specs.Label.{used, labelOf, wellFormed, inRange}
-use Rattle.label.specs.Keys.{keyRuns}
-use Rattle.label.specs.Range.{setInRange}
+use Rattle.keys.specs.Keys.{keyRuns}
+use Rattle.keys.specs.Range.{setInRange}
 use Rattle.label.proofs.Bools.{and-left, and-right}
 use Rattle.label.proofs.Runs.{subset-sub, one-form}
 use Rattle.label.proofs.Labels.{formed, used-length, of-used}
-use Rattle.port.specs.declared.Port.{Port}
 use Rattle.port.specs.Port.{portSound, lowestOut, highestOut}
 use Rattle.port.proofs.Laws.{Range, sound}
-use Rattle.table.specs.declared.Table.{Table}
 use Rattle.table.specs.declared.Partner.{Partner}
 use Rattle.table.specs.declared.Partner.the-variants.{Level, Missing}
 use Rattle.table.specs.Table.{usedRows, tableSound}
-use Rattle.table.specs.Numbers.{partnerOf, known, levelOr0, numbered}
-use Rattle.renumber.specs.declared.Carried.{Carried}
+use Rattle.table.specs.Numbers.{known, levelOr0, numbered}
+use Rattle.carry.specs.declared.Carried.{Carried}
 use Rattle.renumber.specs.declared.Renumbered.{Renumbered}
 use Rattle.renumber.specs.Renumber.{notRenumbered, renumberedAs, imageRuns, fitted, whenNumbered, carriedOf}
-use Rattle.renumber.specs.Carry.{notCarried, carriedTo, carriedKeys, carryOf}
+use Rattle.carry.specs.Carry.{notCarried, carriedTo, carriedKeys, carryOf}
 use Rattle.renumber.specs.Theorems as far
-use Rattle.renumber.proofs.Carrying.{label-runs, carry-checked, carry-unsound, carry-two, carried-number, carried-yes, carried-runs, image-spaced}
+use Rattle.carry.proofs.Carrying.{label-runs, carry-checked, carry-unsound, carry-two, carried-number, carried-yes, carried-runs, image-spaced}
 use Rattle.renumber.proofs.Theorems.{held-label, carrying}
-use Rattle.arrival.specs.Checks.{Refusal, barred, when, firstOf}
-use Rattle.arrival.proofs.First.{Real, AllReal, real-first, real-when, first-none, when-none, not-false-yes}
+use Rattle.decision.specs.Decision.{Refusal}
+use Rattle.arrival.specs.Checks.{barred, when, firstOf}
+use Rattle.arrival.proofs.First.{Real, real-first, real-when, first-none, when-none, not-false-yes}
 use Rattle.gateway.specs.Crossing.{Crossing, stays, partner, hasNumbers, numberCheck, leavingLevel, leavingRuns, leavingCheck, leavingLabel}
-use Rattle.arrival.specs.declared.Verdict.{Verdict}
-use Rattle.arrival.specs.Verdict.{stopped, going}
+use Rattle.decision.specs.declared.Verdict.{Verdict}
+use Rattle.decision.specs.Verdict.{stopped, going}
 use Rattle.gateway.specs.Stages.{crossingChecks, numberedBy}
 
 -- Every refusal has a number.

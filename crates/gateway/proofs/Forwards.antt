@@ -5,34 +5,32 @@ use mathlib.Core.List.{List, [], _∷_, _++_}
 use mathlib.Core.Option.{Option, none, some}
 use Prim.Native.Nat.{ℕ, _+_, _-_, _≤_, _<_}
 use native.Mathlib.Omega.{arith}
-use lib.Dec.{leb, ltb, eqb}
-use lib.ListN.{length, take, drop, replicate, length-append, length-drop}
-use lib.Seq.{take-append-seam, drop-append-seam, drop-drop, drop-at}
+use lib.Dec.{leb, ltb}
+use lib.ListN.{length, drop, length-append, length-drop}
+use lib.Seq.{take-append-seam, drop-drop, drop-at}
 use borrow.Author.Tests.{le-leb, leb-true, leb-false, lt-ltb, le-ltb, ltb-false, ne-eqb}
 use Rattle.label.specs.declared.Run.{Run}
 use Rattle.label.specs.declared.Label.{Label}
-use Rattle.label.specs.Label.{used, wellFormed, inRange}
-use Rattle.label.specs.Range.{setInRange}
+use Rattle.label.specs.Label.{wellFormed, inRange}
+use Rattle.keys.specs.Range.{setInRange}
 use Rattle.label.proofs.Bools.{and-left, and-right, or-none}
 use Rattle.label.proofs.Labels.{used-of}
 use Rattle.option.specs.declared.Spellings.{Spellings}
 use Rattle.option.specs.Spelling.{spellingOf, spelledOf}
-use Rattle.spelling.specs.Spelling.{lacking, lengthOf}
-use Rattle.spelling.specs.Keys.{inFront}
-use Rattle.spelling.proofs.Answers.{spelled-bounds}
+use Rattle.forms.specs.Spelled.{lengthOf}
+use Rattle.writing.specs.Keys.{inFront}
+use Rattle.forms.proofs.Lengths.{spelled-bounds}
 use Rattle.leaving.specs.Kept.{keptOf, roundUp, leavingOf, restCount, restOf}
 use Rattle.leaving.proofs.Laws.{kept-most, rest-counted, rest-whole}
-use Rattle.port.specs.declared.Port.{Port}
 use Rattle.port.specs.Port.{portSound, lowestOut, highestOut}
-use Rattle.table.specs.declared.Table.{Table}
 use Rattle.table.specs.Table.{tableSound}
-use Rattle.arrival.specs.declared.Decision.{Decision}
-use Rattle.arrival.specs.Checks.{Refusal, silent, barred, when, firstOf, badArea, arrivingBasic, basicPasses, arrivingLabel, rangeCheck}
-use Rattle.arrival.specs.Decision.{silenced, refused, done, decided, arrivalChecks}
+use Rattle.decision.specs.Decision.{Refusal, silenced, refused, done}
+use Rattle.arrival.specs.Checks.{silent, barred, when, firstOf, badArea, arrivingBasic, basicPasses, arrivingLabel, rangeCheck}
+use Rattle.arrival.specs.Decision.{arrivalChecks}
 use Rattle.arrival.proofs.First.{orElse, first-append, first-none, none-first, when-none, Real, real-first, real-when, not-false-yes, real-else, Late, late-first, late-when, late-real, late-else}
 use Rattle.arrival.proofs.Arrival.{beforeChecks, before-late, arrival-held}
 use Rattle.gateway.specs.Crossing.{Forwarding, sameDomain, sizes, records, leavingBasicCheck, Crossing, crossing, stays, hasNumbers, numberCheck, leavingLevel, leavingRuns, leavingCheck, leavingLabel, leavingOption, noRoom, spellingCheck}
-use Rattle.gateway.specs.Forward.{forwardChecks, leavingCount, forwardOf, optionOctets, outputOf}
+use Rattle.gateway.specs.Forward.{forwardChecks, forwardOf, outputOf}
 use Rattle.gateway.specs.Stages.{crossingChecks, hasRoomFor}
 use Rattle.gateway.proofs.Crossings.{crossing-real, crossing-formed}
 

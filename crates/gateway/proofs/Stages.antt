@@ -5,29 +5,32 @@ use mathlib.Core.List.{List, [], _∷_, _++_}
 use mathlib.Core.Option.{Option, none, some}
 use Prim.Native.Nat.{ℕ, _+_, _≤_, _<_}
 use native.Mathlib.Omega.{arith}
-use lib.Dec.{leb, ltb, eqb}
+use lib.Dec.{leb, eqb}
 use lib.ListN.{length, take}
-use borrow.Author.Tests.{eq-eqb, ne-eqb, eqb-true, eqb-false, le-leb, lt-leb, leb-true, leb-false, le-ltb, lt-ltb, ltb-true, ltb-false}
+use borrow.Author.Tests.{ne-eqb, eqb-true, eqb-false, le-leb, lt-leb, leb-true, leb-false, le-ltb, lt-ltb}
 use Rattle.label.specs.declared.Run.{Run}
 use Rattle.label.specs.declared.Label.{Label}
-use Rattle.label.specs.Label.{used, labelOf, wellFormed, inRange}
-use Rattle.label.specs.Keys.{keyRuns, labelFrom}
-use Rattle.label.specs.Range.{setInRange}
+use Rattle.label.specs.Label.{used, inRange}
+use Rattle.keys.specs.Keys.{keyRuns, labelFrom}
+use Rattle.keys.specs.Range.{setInRange}
 use Rattle.option.specs.Spelling.{spellingOf}
-use Rattle.spelling.specs.Spelling.{lengthOf}
-use Rattle.spelling.specs.Keys.{inFront, keysSpelled}
-use Rattle.spelling.proofs.Keys.{keys-spelled, keys-put}
+use Rattle.forms.specs.Spelled.{lengthOf}
+use Rattle.forms.specs.Keys.{keysSpelled}
+use Rattle.writing.specs.Keys.{inFront}
+use Rattle.forms.proofs.Keys.{keys-spelled}
+use Rattle.writing.proofs.Keys.{keys-put}
 use Rattle.leaving.specs.Kept.{keptOf, restCount, restOf}
 use Rattle.port.specs.Port.{portSound, lowestOut, highestOut}
 use Rattle.port.proofs.Laws.{sound}
 use Rattle.table.specs.Table.{tableSound}
-use Rattle.renumber.specs.declared.Carried.{Carried}
-use Rattle.renumber.specs.Renumber.{imageOf}
-use Rattle.renumber.specs.Carry.{carriedKeys, carryOf}
-use Rattle.arrival.specs.declared.Verdict.{Verdict}
-use Rattle.arrival.specs.Checks.{Refusal, silent, barred, when, firstOf, badArea, basicIn, arrivingBasic, missingBasicCheck, basicPasses, arrivingLabel, rangeCheck}
-use Rattle.arrival.specs.Decision.{silenced, done, arrivalChecks}
-use Rattle.arrival.specs.Verdict.{verdictOf, stopped, going, arrivalOf, Arrives, concluded}
+use Rattle.carry.specs.declared.Carried.{Carried}
+use Rattle.carry.specs.Carry.{imageOf, carriedKeys, carryOf}
+use Rattle.decision.specs.declared.Verdict.{Verdict}
+use Rattle.decision.specs.Decision.{Refusal, silenced, done}
+use Rattle.arrival.specs.Checks.{silent, barred, when, firstOf, badArea, basicIn, arrivingBasic, missingBasicCheck, basicPasses, arrivingLabel, rangeCheck}
+use Rattle.arrival.specs.Decision.{arrivalChecks}
+use Rattle.decision.specs.Verdict.{verdictOf, stopped, concluded}
+use Rattle.arrival.specs.Verdict.{arrivalOf, Arrives}
 use Rattle.area.specs.Area.{walkOf, octetsAt}
 use Rattle.basic.specs.declared.BasicReading.{BasicReading}
 use Rattle.basic.specs.declared.Way.{Way}
@@ -35,8 +38,9 @@ use Rattle.basic.specs.Settings.{passesWay}
 use Rattle.arrival.specs.Stages.{heldBetween, beforeRange, basicRead}
 use Rattle.arrival.proofs.First.{first-append, first-one, first-none, Late, Early, early-first, between}
 use Rattle.arrival.proofs.Arrival.{Held, beforeChecks, arrival-early, arrival-held, arrival-late, off-none, on-some}
-use Rattle.arrival.proofs.Verdicts.{held-in-set, concluded-refused, concluded-done}
-use Rattle.gateway.specs.Crossing.{Forwarding, sameDomain, leavingBasicCheck, Crossing, crossing, stays, hasNumbers, numberCheck, leavingLevel, leavingRuns, leavingCheck, leavingLabel, leavingOption, noRoom, spellingCheck}
+use Rattle.arrival.proofs.Verdicts.{held-in-set}
+use Rattle.decision.proofs.Concluded.{concluded-refused, concluded-done}
+use Rattle.gateway.specs.Crossing.{Forwarding, sameDomain, leavingBasicCheck, Crossing, crossing, hasNumbers, leavingLevel, leavingRuns, leavingLabel, leavingOption, noRoom}
 use Rattle.gateway.specs.Forward.{forwardChecks, forwardOf, outputOf}
 use Rattle.gateway.specs.Stages.{recordedBy, sentBy, tabledBy, numberedBy, Crosses, heldBy, hasRoomFor, fittedBy, putCount, putFront, Writes}
 use Rattle.gateway.proofs.Crossings.{Over, leavingVerdict, stays-verdict, stays-over, unsound-verdict, numberless-verdict, carried-verdict, carried-over}

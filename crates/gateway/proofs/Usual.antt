@@ -9,14 +9,14 @@ use borrow.Author.Tests.{eq-eqb}
 use lib.ListN.{take, getD}
 use Rattle.label.specs.declared.Run.{Run}
 use Rattle.label.specs.declared.Label.{Label}
-use Rattle.label.specs.declared.Look.the-variants.{Within, Outside, Open}
+use Rattle.keys.specs.declared.Look.the-variants.{Within, Outside, Open}
 use Rattle.label.specs.Runs.{passes, topOf}
 use Rattle.label.specs.Label.{noRun, used}
-use Rattle.label.specs.Range.{lookOf, lookUnder, runsBetween, answered}
+use Rattle.keys.specs.Range.{lookOf, lookUnder, runsBetween, answered}
 use Rattle.option.specs.declared.Spellings.{Spellings}
 use Rattle.basic.specs.declared.Way.{Way}
 use Rattle.basic.specs.declared.BasicReading.{BasicReading}
-use Rattle.arrival.specs.declared.Verdict.{Verdict}
+use Rattle.decision.specs.declared.Verdict.{Verdict}
 use Rattle.arrival.proofs.First.{before-none}
 use Rattle.gateway.specs.Stages.{sentBy, Writes}
 

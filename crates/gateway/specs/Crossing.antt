@@ -1,5 +1,5 @@
 -- Document 01, "The order of checks, and each number": the checks of a forwarding, 1, 2 and 16 to 18. Document 02, Wish 3: 21 at the leaving port.
-use mathlib.Core.Bool.{Bool, true, false, cond, not, _&&_, _||_}
+use mathlib.Core.Bool.{Bool, cond, not, _&&_, _||_}
 use mathlib.Core.List.{List, []}
 use mathlib.Core.Option.{Option, some}
 use Prim.Native.Nat.{ℕ, _+_}
@@ -8,18 +8,19 @@ use lib.ListN.{length, take}
 use Rattle.label.specs.declared.Run.{Run}
 use Rattle.label.specs.declared.Label.{Label}
 use Rattle.label.specs.Label.{used, labelOf}
-use Rattle.label.specs.Range.{setInRange}
+use Rattle.keys.specs.Range.{setInRange}
 use Rattle.option.specs.Spelling.{spellingOf}
-use Rattle.spelling.specs.Spelling.{lacking, lengthOf}
+use Rattle.forms.specs.Spelled.{lacking, lengthOf}
 use Rattle.port.specs.declared.Port.{Port}
 use Rattle.port.specs.Port.{portSound, lowestOut, highestOut}
-use Rattle.arrival.specs.declared.Facts.{Facts}
+use Rattle.decision.specs.declared.Facts.{Facts}
 use Rattle.table.specs.declared.Table.{Table}
 use Rattle.table.specs.declared.Partner.{Partner}
 use Rattle.table.specs.Table.{usedRows, tableSound}
 use Rattle.table.specs.Numbers.{partnerOf, known, levelOr0, numbered}
 use Rattle.renumber.specs.Renumber.{imageRuns}
-use Rattle.arrival.specs.Checks.{Refusal, silent, barred, when, badArea, arrivingBasic, basicPasses, arrivingLabel}
+use Rattle.decision.specs.Decision.{Refusal}
+use Rattle.arrival.specs.Checks.{silent, barred, when, badArea, arrivingBasic, basicPasses, arrivingLabel}
 
 -- Forward: two ports, and a table that is read when their domains differ; `room` is the length of the output.
 pub record Forwarding : Type 0 where

@@ -3,12 +3,12 @@ use mathlib.Core.List.{List, [], _∷_}
 use mathlib.Core.Option.{Option, none, some}
 use Prim.Native.Nat.{ℕ, _+_}
 use lib.ListN.{length}
-use Rattle.spelling.specs.Spelling.{lengthOf}
+use Rattle.forms.specs.Spelled.{lengthOf}
 use Rattle.leaving.specs.Kept.{keptOf, roundUp, leavingOf}
-use Rattle.arrival.specs.declared.Decision.{Decision}
-use Rattle.arrival.specs.Checks.{Refusal, firstOf, walkCheck, requiredCheck, optionCheck, badBasicCheck, missingBasicCheck, basicRangeCheck, rangeCheck}
+use Rattle.decision.specs.declared.Decision.{Decision}
+use Rattle.decision.specs.Decision.{Refusal, silenced, decided}
+use Rattle.arrival.specs.Checks.{firstOf, walkCheck, requiredCheck, optionCheck, badBasicCheck, missingBasicCheck, basicRangeCheck, rangeCheck}
 use Rattle.gateway.specs.Crossing.{Forwarding, sizes, records, leavingBasicCheck, numberCheck, leavingCheck, spellingCheck, crossing, leavingLabel, leavingOption}
-use Rattle.arrival.specs.Decision.{silenced, decided}
 
 -- forward: the checks in their order
 abbrev pub forwardChecks : Forwarding → List (Option Refusal)

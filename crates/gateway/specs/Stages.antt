@@ -1,5 +1,5 @@
 -- What the private stages of a decision answer, in the terms of the checks; no public contract names these but for the inputs put together.
-use mathlib.Core.Bool.{Bool, true, cond, not, _&&_, _||_}
+use mathlib.Core.Bool.{Bool, cond, not, _&&_, _||_}
 use mathlib.Core.List.{List, [], _∷_, _++_}
 use mathlib.Core.Option.{Option}
 use mathlib.Core.Path.{_≡_}
@@ -7,21 +7,22 @@ use Prim.Native.Nat.{ℕ, _+_}
 use lib.Dec.{leb, ltb, eqb}
 use lib.ListN.{length, take, drop}
 use Rattle.label.specs.declared.Label.{Label}
-use Rattle.label.specs.Keys.{keyRuns}
+use Rattle.keys.specs.Keys.{keyRuns}
 use Rattle.option.specs.declared.Spellings.{Spellings}
-use Rattle.spelling.specs.Spelling.{lengthOf}
-use Rattle.spelling.specs.Keys.{keysSpelled, keysCount, keysWritten}
+use Rattle.forms.specs.Spelled.{lengthOf}
+use Rattle.forms.specs.Keys.{keysSpelled}
+use Rattle.writing.specs.Keys.{keysCount, keysWritten}
 use Rattle.leaving.specs.Kept.{keptOf, restCount, restOf}
 use Rattle.port.specs.declared.Port.{Port}
-use Rattle.arrival.specs.declared.Facts.{Facts}
+use Rattle.decision.specs.declared.Facts.{Facts}
 use Rattle.table.specs.declared.Table.{Table}
 use Rattle.table.specs.Table.{tableSound}
-use Rattle.renumber.specs.declared.Carried.{Carried}
-use Rattle.renumber.specs.Renumber.{imageOf}
-use Rattle.renumber.specs.Carry.{carriedKeys, carryOf}
-use Rattle.arrival.specs.declared.Verdict.{Verdict}
-use Rattle.arrival.specs.Checks.{Refusal, barred, when}
-use Rattle.arrival.specs.Verdict.{stopped, going}
+use Rattle.carry.specs.declared.Carried.{Carried}
+use Rattle.carry.specs.Carry.{imageOf, carriedKeys, carryOf}
+use Rattle.decision.specs.declared.Verdict.{Verdict}
+use Rattle.decision.specs.Decision.{Refusal}
+use Rattle.arrival.specs.Checks.{barred, when}
+use Rattle.decision.specs.Verdict.{stopped, going}
 use Rattle.basic.specs.declared.BasicReading.{BasicReading}
 use Rattle.basic.specs.declared.Way.{Way}
 use Rattle.basic.specs.Settings.{passesWay}

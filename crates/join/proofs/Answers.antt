@@ -1,6 +1,6 @@
 -- Laws of the answers: each way to one, and what led to one that is no refusal.
 use mathlib.Core.Path.{_≡_, refl, sym, _∙_, ap}
-use mathlib.Core.Bool.{Bool, true, false, cond, _&&_, and-false}
+use mathlib.Core.Bool.{Bool, true, false, cond, _&&_}
 use mathlib.Core.List.{List}
 use Prim.Native.Nat.{ℕ, _≤_, _<_, max}
 use native.Mathlib.Omega.{arith}
@@ -8,10 +8,9 @@ use lib.Dec.{leb, eqb}
 use lib.ListN.{length, take, length-map}
 use lib.Seq.{length-take-le}
 use borrow.Author.Tests.{le-leb, lt-leb, leb-true, eqb-true, eq-eqb, ne-eqb}
-use Rattle.label.specs.declared.Run.{Run}
 use Rattle.label.specs.declared.Label.{Label}
 use Rattle.label.specs.Label.{labelOf, wellFormed}
-use Rattle.label.specs.Keys.{keyRun, keyRuns, labelFrom}
+use Rattle.keys.specs.Keys.{keyRun, keyRuns, labelFrom}
 use Rattle.join.specs.declared.Joined.{Joined}
 use Rattle.join.specs.Join.{notJoined, joinedAs, fittedJoin, eitherRuns, joinedOf}
 

@@ -1,5 +1,5 @@
 -- The theorems of `specs/Theorems.antt`.
-use mathlib.Core.Path.{_≡_, refl, sym, _∙_, ap}
+use mathlib.Core.Path.{_≡_, sym, _∙_, ap}
 use mathlib.Core.Bool.{Bool, true, _||_}
 use mathlib.Core.List.{List}
 use mathlib.Core.Logic.{⊎-elim}
@@ -24,7 +24,7 @@ use Rattle.table.proofs.Sound.{sound}
 use Rattle.table.proofs.Numbers.{partners-order}
 use Rattle.renumber.specs.Renumber as far
 use Rattle.renumber.specs.Theorems.{Join}
-use Rattle.renumber.proofs.Sets.{set-covers, set-spaced, the-runs}
+use Rattle.carry.proofs.Sets.{set-covers, set-spaced, the-runs}
 use Rattle.renumber.proofs.Theorems as renumber-theorems
 use Rattle.join.specs.Join.{joinedAs, either, eitherRuns, joinedOf}
 use Rattle.join.specs.Theorems.{Joining, LeastAbove, Keeping}

@@ -9,7 +9,7 @@ use Rattle.label.specs.declared.Run.{Run}
 use Rattle.label.specs.declared.Label.{Label}
 use Rattle.label.specs.Runs.{covers}
 use Rattle.label.specs.Label.{used, labelOf, zeroLabel, wellFormed}
-use Rattle.renumber.specs.Sets.{runsOf}
+use Rattle.carry.specs.Sets.{runsOf}
 use Rattle.join.specs.declared.Joined.{Joined}
 
 -- a refusal comes with an all-zero label

@@ -8,6 +8,4 @@ pub mod Canon
 pub mod Push
 pub mod Count
 pub mod Labels
-pub mod Keys
-pub mod Range
 pub mod Theorems

@@ -4,11 +4,9 @@ use native.Mathlib.Omega.{arith}
 use native.Mathlib.Nat.{le-refl}
 use Rattle.label.specs.declared.Label.{Label}
 use Rattle.label.specs.Runs.{subset, allBelow}
-use Rattle.label.specs.Label.{used, wellFormed, labelTyped, atMost, leq}
-use Rattle.label.specs.Theorems.{OneForm, AtMost, Comparing, OnePass, AsKeys, PartialOrder, examples, Holds}
+use Rattle.label.specs.Label.{wellFormed, labelTyped, atMost, leq}
+use Rattle.label.specs.Theorems.{OneForm, AtMost, Comparing, OnePass, PartialOrder, examples, Holds}
 use Rattle.label.proofs.Labels.{formed, same-runs, same-label, leq-says, leq-said, compared-at-most}
-use Rattle.label.proofs.Keys.{keys-runs}
-use Rattle.label.proofs.Range.{look-right}
 use Rattle.label.proofs.Pass.{passes-subset, rounds-most}
 use Rattle.label.proofs.Bools.{same-yes}
 
@@ -20,13 +18,6 @@ comparing = record { says = leq-says; said = leq-said }
 
 pub one-pass : OnePass
 one-pass = record { categories = passes-subset; labels = compared-at-most; turns = rounds-most }
-
-pub as-keys : AsKeys
-as-keys =
-    record {
-      back = λ l w. keys-runs 0 (used l) (formed l w .runs);
-      held = λ lowest highest v rs wl wh s. look-right lowest highest v wl wh rs s;
-    }
 
 both-ways : (a b : Label) → AtMost a b → AtMost b a → a ≡ b
 both-ways a b h k =

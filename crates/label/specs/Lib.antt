@@ -1,5 +1,3 @@
 pub mod Runs
 pub mod Label
-pub mod Keys
-pub mod Range
 pub mod Theorems

@@ -1,15 +1,13 @@
 -- Document 01, "Labels": what is proved of these definitions, for every label.
 use mathlib.Core.Bool.{Bool, true, false}
-use mathlib.Core.List.{List, [], _∷_, map}
+use mathlib.Core.List.{List, [], _∷_}
 use mathlib.Core.Path.{_≡_}
 use Prim.Native.Nat.{ℕ, _+_, _≤_}
 use Rattle.label.specs.declared.Run.{Run}
 use Rattle.label.specs.declared.Label.{Label}
 use lib.ListN.{length}
 use Rattle.label.specs.Runs.{run, spaced, subset, passes, rounds}
-use Rattle.label.specs.Label.{used, labelOf, wellFormed, member, atMost, leq, compared}
-use Rattle.label.specs.Keys.{keyRuns, runKey}
-use Rattle.label.specs.Range.{answered, lookOf, runsBetween, setInRange}
+use Rattle.label.specs.Label.{labelOf, wellFormed, member, atMost, leq, compared}
 
 -- "Thus one set has one form": well-formed labels of one domain and level with the same members are one label
 abbrev pub OneForm : Type 0
@@ -40,16 +38,6 @@ pub record OnePass : Type 0 where
   pub categories : (xs ys : List Run) → spaced 0 xs ≡ true → spaced 0 ys ≡ true → passes xs ys ≡ subset xs ys
   pub labels : (a b : Label) → wellFormed a ≡ true → wellFormed b ≡ true → compared a b ≡ atMost a b
   pub turns : (xs ys : List Run) → rounds xs ys ≤ length xs + length ys
-
--- runs as keys: those of a well-formed label come back, and keys that are spaced are held against a range by a first look and, where that leaves
--- the answer open, by one pass over each two lists
-pub record AsKeys : Type 0 where
-  pub back : (l : Label) → wellFormed l ≡ true → keyRuns (map runKey (used l)) ≡ used l
-  pub held : (lowest highest : Label) (v : ℕ) (rs : List Run)
-      → wellFormed lowest ≡ true
-      → wellFormed highest ≡ true
-      → spaced 0 rs ≡ true
-      → answered (lookOf lowest highest v rs) (runsBetween lowest highest rs) ≡ setInRange lowest highest v rs
 
 -- ≤ is a partial order on well-formed labels
 pub record PartialOrder : Type 0 where

@@ -1,2 +1,1 @@
 pub mod Port
-pub mod Stages

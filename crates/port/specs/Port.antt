@@ -1,7 +1,7 @@
 -- Document 01, "Records": what makes a port and a host's range sound.
 use mathlib.Core.Bool.{Bool, false, cond, not, _&&_}
 use Prim.Native.Nat.{ℕ}
-use lib.Dec.{eqb, leb}
+use lib.Dec.{eqb}
 use Rattle.label.specs.declared.Label.{Label}
 use Rattle.label.specs.Label.{leq, inRange, isZero, zeroLabel}
 use Rattle.basic.specs.Settings.{basicOff, isOff, basicSound}
@@ -50,16 +50,6 @@ unfoldable pub portSound : Port → Bool
 portSound p =
     not (eqb (p .domain) 0)
     && (rangeSound (p .lowest) (p .highest) (p .domain) && (assignedSound p && (basicSound (p .basic) && (someOf (p .spellings) && defaultSound p))))
-
--- as most ports are: a label is required, no option 130 is read, the hosts behind it have labels, and its range goes from no categories to those of
--- at most one run
-unfoldable pub looksUsual : Port → Bool
-looksUsual p =
-    p .required && (not (p .unlabelled) && (not (p .basic .on) && (eqb (p .lowest .count) 0 && leb (p .highest .count) 1)))
-
--- such a port that is sound
-unfoldable pub usualPort : Port → Bool
-usualPort p = looksUsual p && portSound p
 
 -- the host's range, in the port's domain. House: that the port's range lies inside the host's is not tested
 unfoldable pub hostSound : Host → ℕ → Bool

@@ -1,22 +1,23 @@
 -- One law for every reader: what a piece does to the keys under construction. The runs are those of `pushRun`, in their places.
-use Prim.Native.Nat.{ℕ, _+_, _-_, _≤_, _<_}
+use Prim.Native.Nat.{ℕ, suc, _+_, _-_, _*_, _≤_, _<_}
 use mathlib.Core.Path.{_≡_, refl, ap, sym, _∙_}
 use mathlib.Core.List.{List, [], _∷_, _++_, map, map-append, append-assoc}
-use mathlib.Core.Bool.{Bool, true, false, _&&_, cond, and-false}
-use lib.ListN.{length, set, drop, length-append, length-map}
+use mathlib.Core.Bool.{Bool, true, false, not, _&&_, cond}
+use mathlib.Core.Logic.{⊎-elim}
+use lib.ListN.{length, set, getD, drop, length-append, length-map, length-set}
 use lib.Seq.{set-append-seam}
 use lib.Dec.{ltb, eqb}
 use native.Mathlib.Omega.{arith}
-use borrow.Author.Tests.{lt-ltb, eq-eqb, eqb-true, eqb-false, ltb-true}
+use borrow.Author.Tests.{lt-ltb, le-ltb, eq-eqb, ne-eqb, eqb-true, eqb-false, ltb-true}
 use Rattle.label.specs.declared.Run.{Run}
 use Rattle.label.specs.Runs.{run, pushRun, topOf}
-use Rattle.label.specs.Keys.{runKey}
-use Rattle.label.proofs.Bools.{and-left, and-right, not-yes}
+use Rattle.keys.specs.Keys.{runKey}
+use Rattle.label.proofs.Bools.{less-or, and-left, and-right, not-yes}
 use Rattle.label.proofs.Canon.{Below}
-use Rattle.label.proofs.Keys.{front-store}
+use Rattle.keys.proofs.Keys.{front-store}
 use Rattle.label.proofs.Push.{push-some}
 use Rattle.reading.specs.declared.Last.{Last}
-use Rattle.reading.specs.Stages.{lastLow, lastOf, afterPiece}
+use Rattle.reading.specs.Stages.{lastLow, lastOf, afterPiece, touchesLast, countAfter, keysAfterNumber}
 use Rattle.reading.specs.Keys.{atFront}
 
 -- The last run of a list.
@@ -136,3 +137,67 @@ module _ {was keys : List ℕ} {rs : List Run} {last : Last} (s : Stands was rs 
         last-is = piece-is;
         small = push-limit 65536 l h rs b (s .small);
       }
+
+-- Tag 2: the runs are known by their keys; of the last one only the category after it is remembered.
+
+-- the first number touches nothing
+pub touch-is : (count next x : ℕ) (first : Bool) → first ≡ eqb count 0 → (not first && eqb next x) ≡ touchesLast count next x
+touch-is count next x first e =
+    ⊎-elim
+    (λ w. rw (e, ne-eqb count 0 (λ q. omega arith), lt-ltb 0 count w))
+    (λ w. rw (e, eq-eqb count 0 (omega arith), le-ltb 0 count w))
+    (less-or 0 count)
+
+pub touch-some : (count next x : ℕ) → touchesLast count next x ≡ true → (0 < count) × (next ≡ x)
+touch-some count next x q = (ltb-true _ _ (and-left (ltb 0 count) _ q), eqb-true _ _ (and-right (ltb 0 count) _ q))
+
+-- the low that is not remembered is none above it
+pub record Numbered (was : List ℕ) (rs : List Run) (keys : List ℕ) (count next : ℕ) : Type 0 where
+  pub stands : Stands was rs keys (record { count = count; low = lastLow rs; next = next })
+  pub ordered : lastLow rs ≤ next
+
+pub numbered-nil : (was : List ℕ) → Numbered was [] was 0 0
+numbered-nil was = record { stands = stands-nil was; ordered = omega arith }
+
+-- the last key: its run's low, and the high before the next category
+last-key : (rs : List Run) (zs : List ℕ) → 0 < length rs → getD (map runKey rs ++ zs) (length rs - 1) 0 + 1 ≡ lastLow rs * 65536 + topOf rs
+last-key [] zs h = absurd (omega arith)
+last-key (r ∷ []) zs h = omega arith
+last-key (r ∷ s ∷ rs) zs h = let n : length (r ∷ s ∷ rs) - 1 ≡ suc (length (s ∷ rs) - 1) = omega arith in rw n (last-key (s ∷ rs) zs (omega arith))
+
+module _ {was keys : List ℕ} {rs : List Run} {count next : ℕ} (t : Numbered was rs keys count next) where
+  last-key-is : 0 < count → getD keys (count - 1) 0 + 1 ≡ lastLow rs * 65536 + next
+  last-key-is h = rw (t .stands .keys-are, stands-count (t .stands), stands-next (t .stands)) (last-key rs (drop (length (map runKey rs)) was) (omega (arith, stands-count (t .stands))))
+
+  -- it has room for one category more
+  pub last-key-most : 0 < count → next < 65536 → getD keys (count - 1) 0 < 4294967295
+  last-key-most h b = omega (arith, last-key-is h, t .ordered)
+
+  module _ (x : ℕ) (room : length (pushRun rs x x) ≤ length was) (small : x < 65536) where
+    grown : (n l key : ℕ) → _≡_ {A = Last} (record { count = n; low = l; next = x + 1 }) (afterPiece (record { count = count; low = lastLow rs; next = next }) x x)
+        → key ≡ runKey (run l x) → l ≤ x → Numbered was (pushRun rs x x) (set keys (n - 1) key) n (x + 1)
+    grown n l key e q h =
+        let after : Last = record { count = n; low = l; next = x + 1 } in
+        let low : l ≡ lastLow (pushRun rs x x) = ap (λ (z : Last). z .low) (piece-is (t .stands) x x after e) in
+        record { stands = rw (← low) (stands-push (t .stands) x x after e room small key q); ordered = omega arith }
+
+    pub number-push : (r : ℕ) → r ≡ countAfter count next x → (keys′ : List ℕ) → keys′ ≡ keysAfterNumber keys count next x → Numbered was (pushRun rs x x) keys′ r (x + 1)
+    number-push r e keys′ f = go (touchesLast count next x) refl e f
+      where
+        go : (b : Bool) → touchesLast count next x ≡ b → r ≡ cond b count (count + 1)
+            → keys′ ≡ cond b (set keys (count - 1) (getD keys (count - 1) 0 + 1)) (set keys count (runKey (run x x))) → Numbered was (pushRun rs x x) keys′ r (x + 1)
+        go true q a k =
+            let some = touch-some count next x q in
+            let key : getD keys (count - 1) 0 + 1 ≡ runKey (run (lastLow rs) x) = last-key-is (some .0) ∙ ap (λ (z : ℕ). lastLow rs * 65536 + z) (some .1) in
+            rw (a, k) (grown count (lastLow rs) _ (rw q) key (omega (arith, t .ordered, some .1)))
+        go false q a k =
+            let at : count + 1 - 1 ≡ count = omega arith in
+            rw (a, k) (rw at at (grown (count + 1) x _ (rw q) refl (omega arith)))
+
+-- no number makes the list longer
+pub number-length : (keys keys′ : List ℕ) (count next x : ℕ) → keys′ ≡ keysAfterNumber keys count next x → length keys′ ≡ length keys
+number-length keys keys′ count next x = go (touchesLast count next x)
+  where
+    go : (b : Bool) → keys′ ≡ cond b (set keys (count - 1) (getD keys (count - 1) 0 + 1)) (set keys count (runKey (run x x))) → length keys′ ≡ length keys
+    go true e = rw e (simp length-set)
+    go false e = rw e (simp length-set)

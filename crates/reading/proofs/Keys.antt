@@ -1,28 +1,30 @@
 -- Laws of reading into keys: what each return of the readers leaves.
-use Prim.Native.Nat.{ℕ, _+_, _-_, _*_, _/_, _%_, _≤_, _<_}
+use Prim.Native.Nat.{ℕ, _-_, _*_, _/_, _%_, _≤_, _<_}
 use mathlib.Core.Path.{_≡_, refl, ap, sym, _∙_}
-use mathlib.Core.List.{List, []}
+use mathlib.Core.List.{List}
 use mathlib.Core.Bool.{Bool, true, false, not, cond, _&&_}
-use lib.ListN.{length, take, drop, length-append, length-map}
+use lib.ListN.{length, take, drop, length-map}
 use lib.Seq.{take-at}
-use lib.Dec.{eqb, ltb}
+use lib.Dec.{eqb}
 use native.Mathlib.Omega.{arith}
-use borrow.Author.Tests.{lt-ltb, le-ltb, eq-eqb, ne-eqb, eqb-true}
+use borrow.Author.Tests.{lt-ltb, le-ltb, ne-eqb, eqb-true, not-false}
 use Rattle.label.specs.declared.Run.{Run}
-use Rattle.label.proofs.Bools.{never}
 use Rattle.label.specs.declared.Label.{Label}
+use Rattle.label.proofs.Bools.{never}
 use Rattle.label.specs.Runs.{joined}
 use Rattle.label.specs.Label.{labelOf}
-use Rattle.label.specs.Keys.{keyRuns, runKey}
+use Rattle.keys.specs.Keys.{keyRuns, runKey, labelFrom}
+use Rattle.keys.proofs.Keys.{label-fits}
 use Rattle.option.specs.Option.{domainOf, tagOf, levelOf}
 use Rattle.option.specs.Reading.{pieces}
 use Rattle.option.specs.Index.{firstTrue, badNumber, badPair, pairsOf}
 use Rattle.reading.specs.declared.Reading.{Reading}
 use Rattle.reading.specs.declared.KeyReading.{KeyReading}
 use Rattle.reading.specs.declared.Pass.{Pass}
-use Rattle.reading.specs.Reading.{found, notRead, checkedReading, categoriesIn, badPlace, tagChecks, labelIn, readingOf, readingFor}
+use Rattle.reading.specs.Reading.{found, notRead, checkedReading, categoriesIn, badPlace, tagChecks, labelIn, framed, readingBy, readingOf}
 use Rattle.reading.specs.Keys.{runsIn, keysIn, atFront, keyed, withLabel, labelled, early, keysWith, keyReadingFor, keysAfter, ReadsKeys}
-use Rattle.reading.specs.Stages.{PassOver, ReadsTag, AloneRead}
+use Rattle.reading.specs.Stages.{PassOver, ReadsTag, foreignTo, readingBoth, ReadsChecked}
+use Rattle.reading.proofs.Checks.{parts-framed, stops3, alone, for-port}
 use Rattle.reading.proofs.Loops.{runs-joined}
 
 -- A pass over the categories of tag 5 is what a tag that is neither 1 nor 2 asks for.
@@ -53,7 +55,6 @@ module _ (o keys keys′ : List ℕ) (n p : ℕ) (z : n ≡ 0 → ⊥) (f : chec
         answer = q ∙ ap keyed (sym f);
         left = e ∙ ap (λ (x : Reading). atFront (keysWith x o) keys) (sym f);
         held = omega (arith, zero-count);
-        fits = omega (arith, zero-count);
         reading = ap (λ (x : KeyReading). labelled (domainOf o) x keys′) q ∙ refused-label (domainOf o) keys′ n p z ∙ sym f;
       }
 
@@ -81,75 +82,85 @@ module _ (o keys keys′ : List ℕ) (pass : Pass) (p : PassOver (tagOf o) (cate
         answer = a ∙ ap keyed (sym f);
         left = p .left ∙ ap (λ (x : Reading). atFront (keysWith x o) keys) (sym f);
         held = p .held;
-        fits = omega (arith, ap length (p .left), length-append ks (drop (length ks) keys), length-map (runsIn (tagOf o) (categoriesIn o)) runKey, p .counted);
         reading = ap (λ (rs : List Run). found (labelOf (domainOf o) (levelOf o) rs)) taken ∙ sym f;
       }
 
--- An option alone.
-module _ (o keys : List ℕ) (n p : ℕ) (z : n ≡ 0 → ⊥) (r : KeyReading) (q : r ≡ keyed (notRead n p)) where
-  none-held : r .count ≤ 120
-  none-held = let e : r .count ≡ 0 = ap (λ (x : KeyReading). x .count) q in omega arith
-
-  none-fits : r .count ≤ length keys
-  none-fits = let e : r .count ≡ 0 = ap (λ (x : KeyReading). x .count) q in omega arith
-
-  pub refused-alone : readingOf o ≡ notRead n p → AloneRead o keys r
-  refused-alone f =
-      record {
-        held = none-held;
-        fits = none-fits;
-        long = λ e. absurd (z (sym (ap (λ (x : KeyReading). x .number) q) ∙ e));
-        reading = ap (λ (x : KeyReading). labelled (domainOf o) x keys) q ∙ refused-label (domainOf o) keys n p z ∙ sym f;
-      }
-
-  -- For a port: refused before the categories.
-  pub refused-for : (d : ℕ) → 120 ≤ length keys → readingFor d o ≡ notRead n p → early n ≡ true → ReadsKeys d o keys keys r
-  unfolding keyReadingFor keysAfter
-  refused-for d h f e =
-      record {
-        answer = q ∙ rw (le-ltb (length keys) 120 h, f);
-        left = rw (le-ltb (length keys) 120 h, f, e);
-        held = none-held;
-        reading = λ k. ap (λ (x : KeyReading). labelled d x keys) q ∙ refused-label d keys n p z ∙ sym f;
-      }
-
-  -- no room
-  pub no-room : (d : ℕ) → n ≡ 1 → p ≡ 0 → length keys < 120 → ReadsKeys d o keys keys r
-  unfolding keyReadingFor keysAfter
-  no-room d e f h =
-      record {
-        answer = q ∙ rw (lt-ltb (length keys) 120 h, e, f);
-        left = rw (lt-ltb (length keys) 120 h);
-        held = none-held;
-        reading = λ k. absurd (omega arith);
-      }
-
-module _ (o keys keys′ : List ℕ) (r : KeyReading) (t : ReadsTag o keys keys′ r) where
-  pub tag-alone : readingOf o ≡ checkedReading (tagChecks o) (labelIn o) → 10 ≤ length o → AloneRead o keys′ r
-  tag-alone f h = record { held = t .held; fits = t .fits; long = λ e. h; reading = t .reading ∙ sym f }
-
-  pub tag-for : (d : ℕ) → 120 ≤ length keys → domainOf o ≡ d → readingFor d o ≡ checkedReading (tagChecks o) (labelIn o) → ReadsKeys d o keys keys′ r
-  unfolding keyReadingFor keysAfter
-  tag-for d h e f =
-      record {
-        answer = t .answer ∙ rw (le-ltb (length keys) 120 h, f);
-        left = t .left ∙ rw (le-ltb (length keys) 120 h, f);
-        held = t .held;
-        reading = λ k. ap (λ (x : ℕ). labelled x r keys′) (sym e) ∙ t .reading ∙ sym f;
-      }
-
--- Only a reading with number 0 has its domain.
-pub owner-is : {o keys : List ℕ} {r : KeyReading} → AloneRead o keys r → (d : ℕ) → (10 ≤ length o → d ≡ domainOf o) → cond (eqb (r .number) 0) d 0 ≡ cond (eqb (r .number) 0) (domainOf o) 0
-owner-is {o} {keys} {r} a d h = go (eqb (r .number) 0) refl
+-- Past row 3 an option alone is read as for a port.
+pub past-three : (alone : Bool) (d : ℕ) (o : List ℕ) → (alone && not (framed o)) ≡ false → readingBoth alone d o ≡ readingBy (foreignTo alone d (domainOf o)) o
+past-three true d o e = alone o (go (framed o) e)
   where
-    go : (t : Bool) → eqb (r .number) 0 ≡ t → cond t d 0 ≡ cond t (domainOf o) 0
-    go true e = h (a .long (eqb-true _ _ e))
-    go false e = refl
+    go : (t : Bool) → not t ≡ false → t ≡ true
+    go true e = refl
+    go false e = sym e
+past-three false d o e = for-port d o
 
--- An option without a bitmap's octets is no tag 1 with categories.
-pub short-none : (o : List ℕ) → (ltb 10 (length o) && eqb (tagOf o) 1) ≡ false → tagOf o ≡ 1 → 10 < length o → ⊥
-short-none o e t h = never (rw (lt-ltb 10 (length o) h, eq-eqb (tagOf o) 1 t) at e)
+pub stops-three : (alone : Bool) (d : ℕ) (o : List ℕ) → (alone && not (framed o)) ≡ true → (readingBoth alone d o ≡ notRead 3 0) × (alone ≡ false → early 3 ≡ true)
+stops-three true d o e = (stops3 o (λ f. never (sym (rw (parts-framed o f) at e))), λ a. absurd (never a))
+stops-three false d o e = absurd (never (sym e))
 
--- The label is made of the keys.
-pub alone-is : {o keys : List ℕ} {r : KeyReading} → AloneRead o keys r → (d : ℕ) → d ≡ cond (eqb (r .number) 0) (domainOf o) 0 → (x : Reading) → x ≡ withLabel d r keys → x ≡ readingOf o
-alone-is {o} {keys} {r} a d e x f = f ∙ ap (λ (z : ℕ). withLabel z r keys) e ∙ a .reading
+-- A domain that is not foreign to a port is the port's.
+pub foreign-none : (alone : Bool) (d f : ℕ) → foreignTo alone d f ≡ false → alone ≡ false → f ≡ d
+foreign-none true d f e a = absurd (never a)
+foreign-none false d f e a = eqb-true f d (not-false _ e)
+
+-- Each refusal.
+pub stopped : (alone : Bool) (d : ℕ) (o keys : List ℕ) (n p : ℕ) → (n ≡ 0 → ⊥) → readingBoth alone d o ≡ notRead n p → (alone ≡ false → early n ≡ true)
+    → (r : KeyReading) → r ≡ keyed (notRead n p) → ReadsChecked alone d o keys keys r
+stopped alone d o keys n p z f e r q =
+    rw q
+    (record {
+      answer = ap keyed (sym f);
+      left = λ a. rw (f, e a);
+      held = omega arith;
+      long = λ b. absurd (z b);
+      own = λ a b. absurd (z b);
+      reading = refused-label (domainOf o) keys n p z ∙ sym f;
+    })
+
+-- Past rows 7 and 8.
+pub tag-checked : (alone : Bool) (d : ℕ) {o keys keys′ : List ℕ} {r : KeyReading} → ReadsTag o keys keys′ r → readingBoth alone d o ≡ checkedReading (tagChecks o) (labelIn o)
+    → 10 ≤ length o → (alone ≡ false → domainOf o ≡ d) → ReadsChecked alone d o keys keys′ r
+tag-checked alone d {o} {keys} {keys′} {r} t f h e =
+    record {
+      answer = t .answer ∙ ap keyed (sym f);
+      left = λ a. t .left ∙ ap (λ (x : Reading). atFront (keysWith x o) keys) (sym f);
+      held = t .held;
+      long = λ b. h;
+      own = λ a b. e a;
+      reading = t .reading ∙ sym f;
+    }
+
+-- Alone: the label is made of the keys.
+pub checked-alone : (o : List ℕ) (d : ℕ) {keys keys′ : List ℕ} {r : KeyReading} → ReadsChecked true d o keys keys′ r → r .count ≤ length keys′ → (n : ℕ) → n ≡ cond (eqb (r .number) 0) (domainOf o) 0
+    → (l : Label) → l ≡ labelFrom n (r .level) (keyRuns (take (r .count) keys′)) → _≡_ {A = Reading} (record { number = r .number; pointer = r .pointer; label = l }) (readingOf o)
+checked-alone o d {keys} {keys′} {r} t h n q l e =
+    ap (λ (x : Label). record { number = r .number; pointer = r .pointer; label = x }) (e ∙ sym (label-fits n (r .level) keys′ (r .count) (r .count) (omega arith) (t .held)))
+    ∙ ap (λ (x : ℕ). withLabel x r keys′) q
+    ∙ t .reading
+
+-- For a port.
+module _ (d : ℕ) (o keys : List ℕ) where
+  pub no-room : (r : KeyReading) → r ≡ keyed (notRead 1 0) → length keys < 120 → ReadsKeys d o keys keys r
+  unfolding keyReadingFor keysAfter
+  no-room r q h =
+      rw q
+      (record {
+        answer = rw (lt-ltb (length keys) 120 h);
+        left = rw (lt-ltb (length keys) 120 h);
+        held = omega arith;
+        reading = λ k. absurd (omega arith);
+      })
+
+  pub checked-for : (keys′ : List ℕ) (r : KeyReading) → ReadsChecked false d o keys keys′ r → 120 ≤ length keys → ReadsKeys d o keys keys′ r
+  unfolding keyReadingFor keysAfter
+  checked-for keys′ r t h =
+      record {
+        answer = rw (le-ltb (length keys) 120 h) (t .answer);
+        left = rw (le-ltb (length keys) 120 h) (t .left refl);
+        held = t .held;
+        reading = λ k. ap (λ (x : ℕ). withLabel x r keys′) (go (eqb (r .number) 0) refl) ∙ t .reading;
+      }
+    where
+      go : (b : Bool) → eqb (r .number) 0 ≡ b → cond b d 0 ≡ cond b (domainOf o) 0
+      go true e = sym (t .own refl (eqb-true _ _ e))
+      go false e = refl

@@ -3,7 +3,7 @@ use Prim.Native.Nat.{ℕ, zero, suc, _+_, _-_, _*_, _/_, _%_, _≤_, _<_, zero-l
 use mathlib.Core.Path.{_≡_, refl, ap, sym, _∙_}
 use mathlib.Core.List.{List, [], _++_, map}
 use mathlib.Core.Bool.{Bool, true, false, cond, _||_, or-true}
-use mathlib.Core.Logic.{_⊎_, inl, inr, ⊎-elim}
+use mathlib.Core.Logic.{_⊎_, ⊎-elim}
 use lib.ListN.{length, drop, length-map}
 use lib.Dec.{leb, ltb, eqb}
 use native.Mathlib.Omega.{arith}
@@ -11,8 +11,7 @@ use native.Mathlib.Numerals.{add-one}
 use Rattle.label.specs.declared.Run.{Run}
 use Rattle.label.specs.Runs.{pushRun, joined, topOf}
 use Rattle.label.proofs.Bools.{less-or, same-leb}
-use Rattle.label.proofs.Canon.{canon-length}
-use Rattle.label.proofs.Push.{push-length, push-more, push-some, push-top}
+use Rattle.label.proofs.Push.{push-length, push-some, push-top}
 use borrow.Author.Tests.{eq-eqb, ne-eqb, eqb-false, le-leb, lt-leb, lt-ltb, le-ltb}
 use Rattle.bitmap.specs.declared.Found.{Found}
 use Rattle.bitmap.specs.Bitmap.{bitmapRuns, bitmapFound, bitmapKeys}
@@ -21,16 +20,14 @@ use Rattle.option.specs.Bitmap.{bitAt}
 use Rattle.option.specs.Option.{numbersIn, singles, pairsIn}
 use Rattle.option.specs.Reading.{turned, bitPieces, pieces}
 use Rattle.option.specs.Index.{setRuns, rangeRuns, firstTrue, numberAt, badNumber, badPair, pairsOf, lowPair, highPair, topAt, bottomAt}
-use Rattle.option.proofs.Pieces.{joined-good, bits-falling}
 use Rattle.option.proofs.Bridge.{set-joined, numbers-joined, pairs-joined}
 use Rattle.option.proofs.Bad.{first-is}
 use Rattle.reading.specs.Reading.{badPlace}
-use Rattle.label.specs.Keys.{runKey}
+use Rattle.keys.specs.Keys.{runKey}
 use Rattle.reading.specs.declared.Last.{Last}
-use Rattle.reading.specs.declared.Pass.{Pass}
 use Rattle.reading.specs.Keys.{runsIn, atFront}
 use Rattle.reading.specs.Stages.{limitAt, PassOver}
-use Rattle.label.proofs.Keys.{keys-back}
+use Rattle.keys.proofs.Keys.{keys-back}
 use Rattle.reading.proofs.Building.{Stands, stands-count}
 
 -- at most one run a piece

@@ -7,14 +7,13 @@ use lib.ListN.{length, take, drop}
 use lib.Dec.{leb, ltb, eqb}
 use Rattle.label.specs.declared.Run.{Run}
 use Rattle.label.specs.Label.{labelOf}
-use Rattle.label.specs.Keys.{keyRuns, runKey}
+use Rattle.keys.specs.Keys.{keyRuns, runKey}
 use Rattle.option.specs.Bitmap.{bitAt}
-use Rattle.option.specs.Option.{domainOf, tagOf}
+use Rattle.option.specs.Option.{tagOf}
 use Rattle.option.specs.Index.{setRuns, rangeRuns, firstTrue, numberAt, badNumber, pairsOf, lowPair, highPair}
 use Rattle.reading.specs.declared.Reading.{Reading}
 use Rattle.reading.specs.declared.KeyReading.{KeyReading}
-use Rattle.reading.specs.declared.Pass.{Pass}
-use Rattle.reading.specs.Reading.{categoriesIn, badPlace, checkedReading, tagChecks, labelIn, readingOf, readingFor}
+use Rattle.reading.specs.Reading.{categoriesIn, readingFor}
 
 -- the runs that are written of a tag's categories: tag 2 ends before its first bad number, tags 1 and 5 go on to their end
 abbrev pub runsIn : ℕ → List ℕ → List Run

@@ -2,19 +2,19 @@
 // or the first refusal that applies with its place in the option.
 ghost use mathlib.Core.Path.{_≡_};
 ghost use Prim.Native.Nat.{_+_, _-_, _*_, _%_, _≤_, _<_};
-ghost use mathlib.Core.Bool.{false, cond, _&&_, _||_};
+ghost use mathlib.Core.Bool.{cond, not, _&&_, _||_};
 ghost use lib.Dec.{leb, ltb, eqb};
-ghost use lib.ListN.{length};
+ghost use lib.ListN.{length, getD};
 ghost use Rattle.label.specs.Runs.{run};
-ghost use Rattle.label.specs.Keys.{runKey};
-ghost use Rattle.option.specs.Option.{domainOf, tagOf};
+ghost use Rattle.keys.specs.Keys.{runKey};
+ghost use Rattle.option.specs.Option.{domainOf};
 ghost use Rattle.option.specs.Index.{numberAt, bottomAt};
-ghost use Rattle.reading.specs.Stages.{afterPiece, limitAt, PassOver, ReadsTag, AloneRead};
-ghost use Rattle.reading.specs.Reading.{notRead, knownTag, goodLength, readingOf};
-ghost use Rattle.reading.specs.Keys.{keyed, withLabel, ReadsKeys};
+ghost use Rattle.reading.specs.Stages.{afterPiece, countAfter, keysAfterNumber, limitAt, PassOver, ReadsTag, foreignTo, ReadsChecked};
+ghost use Rattle.reading.specs.Reading.{notRead, knownTag, goodLength, framed, readingOf};
+ghost use Rattle.reading.specs.Keys.{keyed, ReadsKeys};
 use bitmap::read_bitmap;
+use keys::to_label;
 use label::Label;
-use label::to_label;
 
 // The one number of two octets that is no category.
 const NO_CATEGORY: u16 = Label::MAX_CATEGORY + 1;
@@ -95,7 +95,7 @@ fn add_piece(last: Last, first: bool, low: u16, high: u16) -> Last
 
 // Tag 1, by the table; none of its categories can be bad.
 fn bitmap_keys(octets: &[u8], keys: &mut [u32]) -> Pass
-    requires { ⌜ (length (now octets) ≤ 30) × (0 < length (now octets) → 120 ≤ length (now keys)) ⌝ }
+    requires { ⌜ (length (now octets) ≤ 30) × (120 ≤ length (now keys)) ⌝ }
     ensures { λ r. ⌜ PassOver 1 (now (octets .entry)) (now (keys .entry)) (now (keys .exit)) r ⌝ }
 {
     let n = octets.len();
@@ -129,33 +129,54 @@ fn bad_after(x: u16, next: u32) -> bool
     after <= next
 }
 
+// Whether a number goes on from the last run; the first one does not, by the caller's counter, so that only its first turn asks.
+fn touches(first: bool, next: u32, x: u16) -> bool
+    ensures { λ r. ⌜ r ≡ (not first && eqb next x) ⌝ }
+{
+    if first {
+        return false;
+    }
+    next == x as u32
+}
+
+// Tag 2: a number above all others is added. One that touches the last run becomes its high, which makes its key greater by 1. Two stores, so
+// that this is a branch, which few numbers take: no store waits for the count.
+fn add_number(keys: &mut [u32], count: usize, first: bool, next: u32, x: u16) -> usize
+    requires { ⌜ (count < length (now keys)) × (first ≡ eqb count 0) × (0 < count → next ≡ x → getD (now keys) (count - 1) 0 < 4294967295) ⌝ }
+    ensures { λ r. ⌜ (r ≡ countAfter count next x) × (now (keys .exit) ≡ keysAfterNumber (now (keys .entry)) count next x) ⌝ }
+{
+    if touches(first, next, x) {
+        let at = count - 1;
+        keys[at] = keys[at] + 1;
+        return count;
+    }
+    keys[count] = key_of(x, x);
+    count + 1
+}
+
 // Tag 2: the numbers are checked and added in one pass, which ends at the first bad one.
 fn number_keys(octets: &[u8], keys: &mut [u32]) -> Pass
     requires { ⌜ (length (now octets) ≤ 30) × (15 ≤ length (now keys)) ⌝ }
     ensures { λ r. ⌜ PassOver 2 (now (octets .entry)) (now (keys .entry)) (now (keys .exit)) r ⌝ }
 {
     let n = octets.len() / 2;
-    let mut last = Last {
-        count: 0,
-        low: 0,
-        next: 0,
-    };
+    let mut count: usize = 0;
+    let mut next: u32 = 0;
     let mut k: usize = 0;
     while k < n {
         let x = number_at(octets, k);
-        if bad_after(x, last.next) {
+        if bad_after(x, next) {
             return Pass {
-                count: last.count,
+                count: count,
                 bad: 2 * k,
             };
         }
-        last = add_piece(last, k == 0, x, x);
-        let at = last.count - 1;
-        keys[at] = key_of(last.low, x);
+        count = add_number(keys, count, k == 0, next, x);
+        next = (x as u32) + 1;
         k += 1;
     }
     Pass {
-        count: last.count,
+        count: count,
         bad: 2 * k,
     }
 }
@@ -243,7 +264,7 @@ fn pair_keys(octets: &[u8], keys: &mut [u32]) -> Pass
 
 // A tag's categories, checked and written as keys.
 fn category_keys(tag: u8, octets: &[u8], keys: &mut [u32]) -> Pass
-    requires { ⌜ (length (now octets) ≤ 30) × ((tag ≡ 1 → ⊥) → length (now octets) % 2 ≡ 0) × (15 ≤ length (now keys)) × (tag ≡ 1 → 0 < length (now octets) → 120 ≤ length (now keys)) ⌝ }
+    requires { ⌜ (length (now octets) ≤ 30) × ((tag ≡ 1 → ⊥) → length (now octets) % 2 ≡ 0) × (120 ≤ length (now keys)) ⌝ }
     ensures { λ r. ⌜ PassOver tag (now (octets .entry)) (now (keys .entry)) (now (keys .exit)) r ⌝ }
 {
     if tag == 1 {
@@ -322,7 +343,7 @@ fn domain_in(octets: &[u8]) -> u32
 
 // Rows 9 to 13, and the keys.
 fn read_tag(octets: &[u8], keys: &mut [u32]) -> KeyReading
-    requires { ⌜ (10 ≤ length (now octets)) × (15 ≤ length (now keys)) × (tagOf (now octets) ≡ 1 → 10 < length (now octets) → 120 ≤ length (now keys)) ⌝ }
+    requires { ⌜ (10 ≤ length (now octets)) × (120 ≤ length (now keys)) ⌝ }
     ensures { λ r. ⌜ ReadsTag (now (octets .entry)) (now (keys .entry)) (now (keys .exit)) r ⌝ }
 {
     let n = octets.len();
@@ -355,106 +376,76 @@ fn read_tag(octets: &[u8], keys: &mut [u32]) -> KeyReading
     }
 }
 
-// The keys of one option alone, or the first refusal of 3 and 7 to 13.
-fn read_alone(octets: &[u8], domain: u32, keys: &mut [u32]) -> KeyReading
-    requires { ⌜ (15 ≤ length (now keys)) × (tagOf (now octets) ≡ 1 → 10 < length (now octets) → 120 ≤ length (now keys)) × (10 ≤ length (now octets) → domain ≡ domainOf (now octets)) ⌝ }
-    ensures { λ r. ⌜ AloneRead (now (octets .entry)) (now (keys .exit)) r ⌝ }
+// Row 3 of an option alone: it does not begin with 134 or does not fill its buffer.
+fn unframed(octets: &[u8], alone: bool) -> bool
+    ensures { λ r. ⌜ r ≡ (alone && not (framed (now (octets .entry)))) ⌝ }
 {
+    if !alone {
+        return false;
+    }
     let n = octets.len();
     if n < 2 {
-        return refuse(3, 0);
+        return true;
     }
     if octets[0] != option::OPTION_TYPE {
-        return refuse(3, 0);
+        return true;
     }
     let size = length_in(octets[option::LENGTH_AT]);
-    if size != n {
+    size != n
+}
+
+// Row 8: alone domain 0, for a port every other one.
+fn foreign(alone: bool, found: u32, domain: u32) -> bool
+    ensures { λ r. ⌜ r ≡ foreignTo alone domain found ⌝ }
+{
+    if alone {
+        return found == 0;
+    }
+    found != domain
+}
+
+// Rows 3 and 7 to 13, and the keys: of an option alone, or for a port of the domain. One function for both, so that what calls it is small
+// enough to become part of its callers: a label is then built where it is used, and not copied.
+fn read_checked(octets: &[u8], alone: bool, domain: u32, keys: &mut [u32]) -> KeyReading
+    requires { ⌜ 120 ≤ length (now keys) ⌝ }
+    ensures { λ r. ⌜ ReadsChecked alone domain (now (octets .entry)) (now (keys .entry)) (now (keys .exit)) r ⌝ }
+{
+    if unframed(octets, alone) {
         return refuse(3, 0);
     }
-    if n < option::CATEGORIES_AT {
+    if octets.len() < option::CATEGORIES_AT {
         return refuse(7, option::LENGTH_AT);
     }
-    if domain == 0 {
+    if foreign(alone, domain_in(octets), domain) {
         return refuse(8, option::DOMAIN_AT);
     }
     read_tag(octets, keys)
 }
 
-// A refusal's label is of domain 0.
-fn owned_by(number: u8, domain: u32) -> u32
-    ensures { λ r. ⌜ r ≡ cond (eqb number 0) domain 0 ⌝ }
+// The domain of an option that was read; a refusal's label is of domain 0.
+fn owner_of(octets: &[u8], number: u8) -> u32
+    requires { ⌜ (number ≡ 0 → 10 ≤ length (now octets)) ⌝ }
+    ensures { λ r. ⌜ r ≡ cond (eqb number 0) (domainOf (now (octets .entry))) 0 ⌝ }
 {
     if number == 0 {
-        return domain;
+        return domain_in(octets);
     }
     0
-}
-
-// The domain of an option that is long enough to have one.
-fn domain_alone(octets: &[u8]) -> u32
-    ensures { λ r. ⌜ (10 ≤ length (now (octets .entry)) → r ≡ domainOf (now (octets .entry))) ⌝ }
-{
-    if octets.len() < option::CATEGORIES_AT {
-        return 0;
-    }
-    domain_in(octets)
-}
-
-// A reading into keys with its label.
-fn to_reading(read: KeyReading, domain: u32, keys: &[u32]) -> Reading
-    requires { ⌜ (read .count ≤ 120) × (read .count ≤ length (now keys)) ⌝ }
-    ensures { λ r. ⌜ r ≡ withLabel domain read (now (keys .entry)) ⌝ }
-{
-    let n = read.count;
-    let label = to_label(keys, n, domain, read.level);
-    Reading {
-        number: read.number,
-        pointer: read.pointer,
-        label: label,
-    }
-}
-
-// Whether an option has octets of a bitmap.
-fn has_bitmap(octets: &[u8]) -> bool
-    ensures { λ r. ⌜ r ≡ (ltb 10 (length (now (octets .entry))) && eqb (tagOf (now (octets .entry))) 1) ⌝ }
-{
-    if octets.len() <= option::CATEGORIES_AT {
-        return false;
-    }
-    octets[option::TAG_TYPE_AT] == 1
-}
-
-// Room for the runs of a bitmap.
-fn read_long(octets: &[u8]) -> Reading
-    ensures { λ r. ⌜ r ≡ readingOf (now (octets .entry)) ⌝ }
-{
-    let mut keys = [0u32; 120];
-    let domain = domain_alone(octets);
-    let read = read_alone(octets, domain, &mut keys);
-    let owner = owned_by(read.number, domain);
-    to_reading(read, owner, &keys)
-}
-
-// Every other option has at most 15 runs: less to fill with zeros.
-fn read_short(octets: &[u8]) -> Reading
-    requires { ⌜ (ltb 10 (length (now octets)) && eqb (tagOf (now octets)) 1) ≡ false ⌝ }
-    ensures { λ r. ⌜ r ≡ readingOf (now (octets .entry)) ⌝ }
-{
-    let mut keys = [0u32; 16];
-    let domain = domain_alone(octets);
-    let read = read_alone(octets, domain, &mut keys);
-    let owner = owned_by(read.number, domain);
-    to_reading(read, owner, &keys)
 }
 
 // Reads one option alone: the label that it means, or the first refusal of 3 and 7 to 13 with its place in the option.
 pub fn read_option(octets: &[u8]) -> Reading
     ensures { λ r. ⌜ r ≡ readingOf (now (octets .entry)) ⌝ }
 {
-    if has_bitmap(octets) {
-        return read_long(octets);
+    let mut keys = [0u32; 120];
+    let read = read_checked(octets, true, 0, &mut keys);
+    let owner = owner_of(octets, read.number);
+    let label = to_label(&keys, read.count, owner, read.level);
+    Reading {
+        number: read.number,
+        pointer: read.pointer,
+        label: label,
     }
-    read_short(octets)
 }
 
 // Reads the option 134 of an area for a port of the domain into keys: how many there are, or the first refusal of 7 to 13 with its place in
@@ -465,11 +456,5 @@ pub fn read_keys(octets: &[u8], domain: u32, keys: &mut [u32]) -> KeyReading
     if keys.len() < Label::MAX_RUNS {
         return refuse(1, 0);
     }
-    if octets.len() < option::CATEGORIES_AT {
-        return refuse(7, option::LENGTH_AT);
-    }
-    if domain_in(octets) != domain {
-        return refuse(8, option::DOMAIN_AT);
-    }
-    read_tag(octets, keys)
+    read_checked(octets, false, domain, keys)
 }

@@ -1,32 +1,27 @@
 -- Laws of the answers: each by the checks that led to it.
 use mathlib.Core.Path.{_≡_, refl, sym, _∙_, ap}
 use mathlib.Core.Bool.{Bool, true, false, and-false}
-use mathlib.Core.List.{List, _++_}
-use Prim.Native.Nat.{ℕ, _-_, _≤_, _<_}
+use mathlib.Core.List.{List}
+use Prim.Native.Nat.{ℕ, _≤_, _<_}
 use native.Mathlib.Omega.{arith}
-use lib.ListN.{length, take, replicate, length-map, length-append, length-replicate}
-use lib.Seq.{length-take-le, take-at}
+use lib.ListN.{length, take, length-map}
+use lib.Seq.{length-take-le}
 use borrow.Author.Tests.{le-leb, lt-leb, eq-eqb, ne-eqb}
 use Rattle.label.specs.declared.Run.{Run}
 use Rattle.label.specs.declared.Label.{Label}
 use Rattle.label.specs.Label.{used, wellFormed}
-use Rattle.label.specs.Keys.{keyRuns, labelFrom}
-use Rattle.label.specs.Range.{setInRange}
-use Rattle.table.specs.declared.Row.{Row}
+use Rattle.keys.specs.Keys.{keyRuns, labelFrom}
+use Rattle.keys.specs.Range.{setInRange}
 use Rattle.table.specs.declared.Table.{Table}
 use Rattle.table.specs.declared.Partner.{Partner}
 use Rattle.table.specs.declared.Partner.the-variants.{Level, Missing}
 use Rattle.table.specs.Table.{usedRows, tableSound}
 use Rattle.table.specs.Numbers.{partnerOf, numbered}
-use Rattle.table.specs.Order.{rowOrder, orderOf}
-use Rattle.table.proofs.Sound.{sound}
-use Rattle.table.proofs.Order.{order-length}
+use Rattle.carry.specs.declared.Carried.{Carried}
+use Rattle.carry.specs.Carry.{imageOf, carriedTo, carriedKeys, carryOf}
+use Rattle.carry.proofs.Carrying.{label-runs, carry-checked, carry-unsound, carried-runs, image-spaced, image-few}
 use Rattle.renumber.specs.declared.Renumbered.{Renumbered}
-use Rattle.renumber.specs.declared.Carried.{Carried}
-use Rattle.renumber.specs.Renumber.{notRenumbered, fitted, imageOf, imageRuns, whenNumbered, renumberedOf, carriedOf}
-use Rattle.renumber.specs.Carry.{labelRuns, carriedTo}
-use Rattle.renumber.specs.Stages.{Ready}
-use Rattle.renumber.proofs.Carrying.{runs-label}
+use Rattle.renumber.specs.Renumber.{notRenumbered, fitted, imageRuns, whenNumbered, renumberedOf, carriedOf}
 
 image-length : (n : ℕ) (ks : List ℕ) (xs : List Run) → keyRuns (take n ks) ≡ xs → n ≤ length ks → length xs ≡ n
 image-length n ks xs e h = ap length (sym e) ∙ rw length-map (length-take-le n ks h)
@@ -41,11 +36,11 @@ module _ (d v n : ℕ) (ks : List ℕ) (h : n ≤ length ks) where
 
 -- What was carried, and what was not.
 module _ (image : List Run) (c : Carried) where
-  missed : (p : Partner) (all : Bool) → c ≡ carriedTo p all image → (f : ℕ → Renumbered) → (c .number ≡ 0 → ⊥) → notRenumbered 16 ≡ whenNumbered p all f
+  missed : (p : Partner) (all : Bool) → c ≡ carriedTo p all image → (f : ℕ → Renumbered) → (c .number ≡ 0 → ⊥) → notRenumbered (c .number) ≡ whenNumbered p all f
   unfolding carriedTo
-  missed Missing all k f h = refl
+  missed Missing all k f h = ap (λ (z : Carried). notRenumbered (z .number)) k
   missed (Level v) true k f h = absurd (h (ap (λ (z : Carried). z .number) k))
-  missed (Level v) false k f h = refl
+  missed (Level v) false k f h = ap (λ (z : Carried). notRenumbered (z .number)) k
 
   found : (p : Partner) (all : Bool) → c ≡ carriedTo p all image → (f : ℕ → Renumbered) → c .number ≡ 0 → f (c .level) ≡ whenNumbered p all f
   unfolding carriedTo
@@ -53,7 +48,7 @@ module _ (image : List Run) (c : Carried) where
   found (Level v) true k f h = ap (λ (z : Carried). f (z .level)) k
   found (Level v) false k f h = let z : c .number ≡ 16 = ap (λ (z : Carried). z .number) k in absurd (omega arith)
 
-  pub found-count : (p : Partner) (all : Bool) → c ≡ carriedTo p all image → c .number ≡ 0 → c .count ≡ length image
+  found-count : (p : Partner) (all : Bool) → c ≡ carriedTo p all image → c .number ≡ 0 → c .count ≡ length image
   unfolding carriedTo
   found-count Missing all k h = let z : c .number ≡ 16 = ap (λ (z : Carried). z .number) k in absurd (omega arith)
   found-count (Level v) true k h = ap (λ (z : Carried). z .count) k
@@ -83,15 +78,48 @@ module _ (l : Label) (t : Table) (ls : List (List ℕ)) where
       unfolding renumberedOf
       renumbered-as = simp (s, w, eq-eqb _ _ d)
 
-      module _ (runs : List Run) (q : runs ≡ used l) (c : Carried) (k : c ≡ carriedTo (partnerOf (take (t .pairs) ls) (l .level)) (numbered (usedRows t) runs) (imageOf t runs)) where
-        here : c ≡ carriedTo (partnerOf (take (t .pairs) ls) (l .level)) (numbered (usedRows t) (used l)) (imageRuns l t)
-        here = rw q at k
+  -- The answers of carrying the label's runs, where the label was checked.
+  module _ (w : wellFormed l ≡ true) (d : l .domain ≡ t .from) (runs : List Run) (q : runs ≡ used l) (room : ℕ) (long : 184 ≤ room) (c : Carried)
+      (k : c ≡ carryOf runs (l .level) t ls room) where
+    here : tableSound t ls ≡ true → c ≡ carriedTo (partnerOf (take (t .pairs) ls) (l .level)) (numbered (usedRows t) (used l)) (imageRuns l t)
+    here s = (rw q at k) ∙ carry-checked (used l) (l .level) t ls room s (label-runs l w) long
 
-        pub renumbered-missed : (c .number ≡ 0 → ⊥) → notRenumbered 16 ≡ renumberedOf l t ls
-        renumbered-missed h = missed (imageRuns l t) c _ _ here (λ v. fitted (t .to) v (imageRuns l t)) h ∙ renumbered-as
+    unsound : tableSound t ls ≡ false → c .number ≡ 2
+    unsound s = ap (λ (z : Carried). z .number) (k ∙ carry-unsound runs (l .level) t ls room s)
 
-        pub renumbered-found : c .number ≡ 0 → fitted (t .to) (c .level) (imageRuns l t) ≡ renumberedOf l t ls
-        renumbered-found h = found (imageRuns l t) c _ _ here (λ v. fitted (t .to) v (imageRuns l t)) h ∙ renumbered-as
+    pub renumbered-missed : (c .number ≡ 0 → ⊥) → notRenumbered (c .number) ≡ renumberedOf l t ls
+    renumbered-missed h = go (tableSound t ls) refl
+      where
+        go : (b : Bool) → tableSound t ls ≡ b → notRenumbered (c .number) ≡ renumberedOf l t ls
+        go true s = missed (imageRuns l t) c _ _ (here s) (λ v. fitted (t .to) v (imageRuns l t)) h ∙ renumbered-as s w d
+        go false s = ap notRenumbered (unsound s) ∙ renumbered-unsound s
+
+    -- nothing is carried by an unsound table
+    pub carried-sound : c .number ≡ 0 → tableSound t ls ≡ true
+    carried-sound h = go (tableSound t ls) refl
+      where
+        go : (b : Bool) → tableSound t ls ≡ b → tableSound t ls ≡ true
+        go true s = s
+        go false s = let z : c .number ≡ 2 = unsound s in absurd (omega arith)
+
+    pub renumbered-found : c .number ≡ 0 → fitted (t .to) (c .level) (imageRuns l t) ≡ renumberedOf l t ls
+    renumbered-found h =
+        let s = carried-sound h in
+        found (imageRuns l t) c _ _ (here s) (λ v. fitted (t .to) v (imageRuns l t)) h ∙ renumbered-as s w d
+
+    -- as many runs are written as the image has
+    pub found-length : c .number ≡ 0 → (c .count ≡ length (imageRuns l t)) × (c .count ≤ 184)
+    found-length h =
+        let s = carried-sound h in
+        let n = found-count (imageRuns l t) c _ _ (here s) h in
+        (n, omega (arith, n, image-few t ls (used l) s (label-runs l w)))
+
+    -- and these are its keys
+    pub found-keys : (far ks : List ℕ) → ks ≡ carriedKeys c (imageOf t runs) far → c .number ≡ 0 → keyRuns (take (c .count) ks) ≡ imageRuns l t
+    found-keys far ks e h =
+        ap (λ (z : ℕ). keyRuns (take z ks)) (found-length h .0)
+        ∙ ap (λ (z : List ℕ). keyRuns (take (length (imageRuns l t)) z)) (e ∙ ap (λ (z : List Run). carriedKeys c (imageOf t z) far) q)
+        ∙ carried-runs c (imageRuns l t) far h (image-spaced t (used l))
 
   -- Toward a range.
   module _ (lowest highest : Label) (v : ℕ) (p : partnerOf (take (t .pairs) ls) (l .level) ≡ Level v) where
@@ -102,29 +130,3 @@ module _ (l : Label) (t : Table) (ls : List (List ℕ)) where
     pub carried-fitted : numbered (usedRows t) (used l) ≡ true → setInRange lowest highest v (imageRuns l t) ≡ true → fitted (t .to) v (imageRuns l t) ≡ carriedOf l t ls lowest highest
     unfolding carriedOf
     carried-fitted n r = simp (p, n, r)
-
--- the list has its 64 places
-pub order-sized : (t : Table) (ls : List (List ℕ)) → tableSound t ls ≡ true → length (orderOf t ls) ≡ 64
-unfolding orderOf
-order-sized t ls s =
-    let g = sound t ls s in
-    let n : length (rowOrder (usedRows t)) ≡ t .count = order-length (usedRows t) ∙ length-take-le (t .count) (t .rows) (omega (arith, g .places, g .rows-held)) in
-    rw s (simp (length-append, length-replicate) (omega (arith, g .rows-held)))
-
--- A table that was checked, with its order, and a label's runs.
-pub ready-of : (t : Table) (ls : List (List ℕ)) (order : List ℕ) (runs : List Run) → tableSound t ls ≡ true → order ≡ orderOf t ls → labelRuns runs ≡ true → Ready t order runs
-unfolding orderOf
-ready-of t ls order runs s o f =
-    let g = sound t ls s in
-    let r = runs-label runs f in
-    let rs : List Row = usedRows t in
-    let n : length (rowOrder rs) ≡ t .count = order-length rs ∙ length-take-le (t .count) (t .rows) (omega (arith, g .places, g .rows-held)) in
-    let p : order ≡ rowOrder rs ++ replicate (64 - t .count) 0 = o ∙ simp s in
-    record {
-      gaps = r .gaps;
-      few = r .few;
-      rows = g .rows;
-      held = g .rows-held;
-      along = rw p (take-at (rowOrder rs) (replicate (64 - t .count) 0) (t .count) n);
-      long = rw p (simp length-append (omega arith));
-    }

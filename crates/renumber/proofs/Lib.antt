@@ -1,11 +1,2 @@
-pub mod Sets
-pub mod Image
-pub mod Join
-pub mod Pass
-pub mod Pieces
-pub mod Cutting
-pub mod Turns
-pub mod Held
-pub mod Carrying
 pub mod Answers
 pub mod Theorems

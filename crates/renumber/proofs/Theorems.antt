@@ -12,7 +12,7 @@ use Rattle.label.specs.declared.Run.{Run}
 use Rattle.label.specs.declared.Label.{Label}
 use Rattle.label.specs.Runs.{covers, subset}
 use Rattle.label.specs.Label.{used, labelOf, wellFormed, member, atMost, inRange}
-use Rattle.label.specs.Range.{setInRange}
+use Rattle.keys.specs.Range.{setInRange}
 use Rattle.label.proofs.Bools.{and-right, or-cases, or-true-right, same-yes, less-or}
 use Rattle.label.proofs.Runs.{one-form}
 use Rattle.label.proofs.Labels.{formed, well-formed, formed-of, used-of, used-length, of-used, member-is, leq-says, leq-said, leq-at-most}
@@ -27,8 +27,8 @@ use Rattle.table.proofs.Numbers.{one-category, one-number, has-number, number-h
 use Rattle.renumber.specs.declared.Renumbered.{Renumbered}
 use Rattle.renumber.specs.Renumber.{notRenumbered, renumberedAs, imageRuns, fitted, whenNumbered, renumberedOf, carriedOf}
 use Rattle.renumber.specs.Theorems.{Far, Renumbering, Agrees, Carried, Carrying, KeepsOrder, KeepsJoins}
-use Rattle.renumber.proofs.Sets.{set-covers, set-spaced, the-runs}
-use Rattle.renumber.proofs.Pass.{numbered-yes, numbered-all, image-hits, sends-hits, hits-sends}
+use Rattle.carry.proofs.Sets.{set-covers, set-spaced, the-runs}
+use Rattle.carry.proofs.Pass.{numbered-yes, numbered-all, image-hits, sends-hits, hits-sends}
 use Rattle.renumber.proofs.Answers.{renumbered-fitted, carried-outside, carried-fitted}
 
 -- What led to an answer that is no refusal.

@@ -7,14 +7,14 @@ use lib.ListN.{length, take}
 use Rattle.label.specs.declared.Run.{Run}
 use Rattle.label.specs.declared.Label.{Label}
 use Rattle.label.specs.Label.{used, labelOf, zeroLabel, wellFormed}
-use Rattle.label.specs.Range.{setInRange}
+use Rattle.keys.specs.Range.{setInRange}
 use Rattle.table.specs.declared.Table.{Table}
 use Rattle.table.specs.declared.Partner.{Partner}
 use Rattle.table.specs.declared.Partner.the-variants.{Level, Missing}
 use Rattle.table.specs.Table.{usedRows, tableSound}
-use Rattle.table.specs.Numbers.{partnerOf, numbered, inImage}
+use Rattle.table.specs.Numbers.{partnerOf, numbered}
+use Rattle.carry.specs.Carry.{imageOf}
 use Rattle.renumber.specs.declared.Renumbered.{Renumbered}
-use Rattle.renumber.specs.Sets.{runsOf}
 
 -- a refusal comes with an all-zero label
 abbrev pub notRenumbered : ℕ → Renumbered
@@ -23,11 +23,7 @@ notRenumbered n = record { number = n; label = zeroLabel }
 abbrev pub renumberedAs : Label → Renumbered
 renumberedAs l = record { number = 0; label = l }
 
--- the numbers of the runs' categories, the whole set: it may have more runs than a label holds
-abbrev pub imageOf : Table → List Run → List Run
-imageOf t rs = runsOf (inImage (usedRows t) rs)
-
--- those of a label's categories
+-- the numbers of a label's categories, the whole set
 abbrev pub imageRuns : Label → Table → List Run
 imageRuns l t = imageOf t (used l)
 

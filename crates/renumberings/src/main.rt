@@ -1,8 +1,8 @@
 // Labels renumbered by tables that scatter them: each line has the number, then the domain, the level, the count of runs and the runs.
+use carry::MOST_RUNS;
+use keys::Look;
 use label::Label;
-use label::Look;
 use label::Run;
-use renumber::MOST_RUNS;
 use renumber::Renumbered;
 use table::Row;
 use table::Table;
@@ -126,10 +126,10 @@ fn refused(number: u8) -> Renumbered {
 
 // Whether a level and the runs of the first n keys lie between two labels.
 fn between(keys: &[u32], n: usize, level: u8, lowest: Label, highest: Label) -> bool {
-    match label::look_between(keys, n, level, lowest, highest) {
+    match keys::look_between(keys, n, level, lowest, highest) {
         Look::Within => true,
         Look::Outside => false,
-        Look::Open => label::runs_between(keys, n, lowest, highest),
+        Look::Open => keys::runs_between(keys, n, lowest, highest),
     }
 }
 
@@ -142,9 +142,9 @@ fn toward(
     highest: Label,
 ) -> Renumbered {
     let mut own = [0u32; 120];
-    label::label_keys(label, &mut own);
+    keys::label_keys(label, &mut own);
     let mut far = [0u32; MOST_RUNS];
-    let carried = renumber::carry(&own, label.count, label.level, table, levels, &mut far);
+    let carried = carry::carry(&own, label.count, label.level, table, levels, &mut far);
     if carried.number != 0 {
         return refused(carried.number);
     }
@@ -155,7 +155,7 @@ fn toward(
     if Label::MAX_RUNS < n {
         return refused(18);
     }
-    let there = label::to_label(&far, n, table.to, carried.level);
+    let there = keys::to_label(&far, n, table.to, carried.level);
     Renumbered {
         number: 0,
         label: there,

@@ -1,9 +1,8 @@
 -- Laws of the answers: the order that the table's test gives, and each way to an answer.
-use mathlib.Core.Path.{_≡_, refl, sym, _∙_, ap}
+use mathlib.Core.Path.{_≡_, sym, _∙_, ap}
 use mathlib.Core.Bool.{true, false}
 use mathlib.Core.List.{List, _++_}
 use Prim.Native.Nat.{ℕ, _-_, _*_, _/_, _≤_, _<_}
-use native.Mathlib.Omega.{arith}
 use lib.ListN.{length, take, drop, replicate}
 use lib.Seq.{take-at}
 use borrow.Author.Tests.{le-leb, lt-leb}
@@ -12,7 +11,7 @@ use Rattle.table.specs.Table.{usedRows, tableSound}
 use Rattle.table.specs.Order.{rowOrder, orderOf}
 use Rattle.table.proofs.Sound.{sound, sound-rows}
 use Rattle.table.proofs.Order.{order-length}
-use Rattle.renumber.proofs.Answers.{order-sized}
+use Rattle.carry.proofs.Ready.{order-sized}
 use Rattle.reverse.specs.declared.Reversed.{Reversed}
 use Rattle.reverse.specs.declared.Head.{Head}
 use Rattle.reverse.specs.Reverse.{turnedRows, reverseTable, noReverse, reversedOf, noHead, reverseHead, rowNumbers, withRows}

@@ -1,35 +1,32 @@
 -- The statements of `specs/Demands.antt`, from those of the two-port decision.
 use mathlib.Core.Path.{_≡_, refl, sym, _∙_, ap}
-use mathlib.Core.Bool.{Bool, true, false, not}
+use mathlib.Core.Bool.{true, not}
 use mathlib.Core.List.{List, [], _∷_, _++_}
 use mathlib.Core.Option.{Option, none, some}
 use Prim.Native.Nat.{ℕ, _≤_}
 use lib.ListN.{length, take}
 use Rattle.label.specs.declared.Label.{Label}
 use Rattle.label.specs.Label.{inRange, zeroLabel}
-use Rattle.option.specs.Option.{Octets}
-use Rattle.leaving.specs.Kept.{keptOf}
 use Rattle.port.specs.declared.Port.{Port}
-use Rattle.arrival.specs.declared.Decision.{Decision}
-use Rattle.arrival.specs.declared.Facts.{Facts}
-use Rattle.arrival.specs.Checks.{Refusal, barred, when, firstOf, badBasicCheck, arrivingBasic, missingBasicBy, missingBasicCheck, basicPasses, basicRangeCheck, rangeCheck}
-use Rattle.arrival.specs.Decision.{silenced, decided, arrivalChecks}
+use Rattle.decision.specs.declared.Decision.{Decision}
+use Rattle.decision.specs.Decision.{Refusal, silenced, decided}
+use Rattle.arrival.specs.Checks.{barred, when, firstOf, badBasicCheck, arrivingBasic, missingBasicBy, missingBasicCheck, basicPasses, basicRangeCheck, rangeCheck}
+use Rattle.arrival.specs.Decision.{arrivalChecks}
 use Rattle.arrival.proofs.First.{orElse, first-append}
-use Rattle.gateway.specs.Crossing.{Forwarding, sizes}
-use Rattle.gateway.specs.Forward.{forwardOf, outputOf}
+use Rattle.gateway.specs.Crossing.{sizes}
 use Rattle.route.specs.declared.Route.{Route}
 use Rattle.route.specs.declared.Chosen.{Chosen}
 use Rattle.route.specs.declared.Chosen.the-variants.{NoRoute, By}
 use Rattle.ports.specs.Ports.{portAt}
 use Rattle.filetable.specs.TableFormat.{levelsOf}
 use Rattle.routing.specs.Routing.{Routing, boxSound, chosen, arrivingPort, chosenPair, tableBetween, noRoute, routingOf, routedOutput}
-use Rattle.routing.specs.Demands.{pairBy, Passing}
+use Rattle.routing.specs.Demands.{pairBy}
 use Rattle.routing.proofs.Decides.{records-none, routed-of, output-of, unrouted-of}
 use Rattle.routing.proofs.Demands.{passes-of}
 use Rattle.demands.specs.Demands.{own, MeansAt, Alike}
 use Rattle.demands.proofs.Second.{label-reads, demand2}
 use Rattle.demands.proofs.Third.{basic-alike, demand3}
-use Rattle.routed.specs.Demands.{RoutedForwards, RoutedAlike, BoxDemands}
+use Rattle.routed.specs.Demands.{RoutedAlike, BoxDemands}
 
 number-of : {d e : Decision} → d ≡ e → d .number ≡ 0 → e .number ≡ 0
 number-of p h = sym (ap (λ (d : Decision). d .number) p) ∙ h

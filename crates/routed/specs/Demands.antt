@@ -10,7 +10,7 @@ use Rattle.label.specs.declared.Label.{Label}
 use Rattle.option.specs.Option.{Octets}
 use Rattle.leaving.specs.Kept.{keptOf, roundUp, leavingOf}
 use Rattle.arrival.specs.Checks.{badBasicCheck}
-use Rattle.arrival.specs.Decision.{done}
+use Rattle.decision.specs.Decision.{done}
 use Rattle.gateway.specs.Crossing.{sizes}
 use Rattle.route.specs.declared.Route.{Route}
 use Rattle.route.specs.declared.Chosen.the-variants.{By}

@@ -1,39 +1,39 @@
 -- The decision by the route chosen, and by none.
 use mathlib.Core.Path.{_≡_, refl, sym, _∙_, ap}
-use mathlib.Core.Bool.{Bool, true, false, cond, not, _&&_, _||_}
+use mathlib.Core.Bool.{Bool, true, false, _&&_, _||_}
 use mathlib.Core.List.{List, [], _∷_, _++_}
 use mathlib.Core.Option.{Option, none, some}
-use Prim.Native.Nat.{ℕ, _<_, _≤_}
+use Prim.Native.Nat.{ℕ, _<_}
 use native.Mathlib.Omega.{arith}
-use lib.Dec.{leb, ltb, eqb}
+use lib.Dec.{leb, eqb}
 use borrow.Author.Tests.{ltb-true, ne-eqb}
 use lib.ListN.{length, length-map}
 use Rattle.label.proofs.Bools.{and-left, and-right}
 use Rattle.label.specs.Label.{zeroLabel}
 use Rattle.port.specs.declared.Port.{Port}
 use Rattle.port.specs.Port.{portSound}
-use Rattle.table.specs.Table.{tableSound}
-use Rattle.arrival.specs.Checks.{Refusal, silent, barred, when, firstOf, walkCheck, requiredCheck, optionCheck, badBasicCheck, missingBasicCheck, basicRangeCheck, rangeCheck}
-use Rattle.arrival.specs.Decision.{silenced, decided, arrivalChecks}
+use Rattle.decision.specs.Decision.{Refusal, silenced, decided}
+use Rattle.arrival.specs.Checks.{silent, barred, firstOf, walkCheck, requiredCheck, optionCheck, badBasicCheck, missingBasicCheck, basicRangeCheck, rangeCheck}
+use Rattle.arrival.specs.Decision.{arrivalChecks}
 use Rattle.leaving.specs.Kept.{keptOf}
 use Rattle.gateway.specs.Crossing.{Forwarding, sizes, records, sameDomain, leavingBasicCheck, numberCheck, leavingCheck, spellingCheck, crossing, leavingLabel, leavingOption}
-use Rattle.gateway.specs.Forward.{forwardChecks, leavingCount, forwardOf, optionOctets, written, outputOf}
+use Rattle.gateway.specs.Forward.{optionOctets, forwardChecks, leavingCount, forwardOf, outputOf}
 use Rattle.gateway.specs.Stages.{forwardingOf}
-use Rattle.arrival.specs.declared.Facts.{Facts}
+use Rattle.decision.specs.declared.Facts.{Facts}
 use Rattle.filetable.specs.declared.Renumbering.{Renumbering}
 use Rattle.filetable.specs.TableFormat.{levelsOf}
 use Rattle.route.specs.declared.Route.{Route}
 use Rattle.route.specs.declared.Chosen.{Chosen}
 use Rattle.route.specs.declared.Chosen.the-variants.{NoRoute, By}
-use Rattle.route.specs.Route.{routesOf, longest, routesSound}
+use Rattle.route.specs.Route.{routesSound}
 use Rattle.route.proofs.Longest.{chosen-leads}
 use Rattle.ports.specs.Ports.{portAt, portsSound, domainsOf}
 use Rattle.ports.proofs.Laws.{sound-at}
 use Rattle.tables.specs.declared.Tables.{Tables}
-use Rattle.tables.specs.Tables.{usedTables, allTablesSound, tablesSound, noTableFrom, firstTable}
+use Rattle.tables.specs.Tables.{usedTables, allTablesSound, tablesSound, noTableFrom}
 use Rattle.tables.specs.Theorems.{NoneFor}
 use Rattle.tables.proofs.Theorems.{first-table}
-use Rattle.routing.specs.Routing.{Routing, arrivingListed, boxSound, chosen, arrivingPort, portBy, leavingPort, tableBetween, between, chosenPair, setCheck, leavingBasicBy, noRoute, routeCheck, routingChecks, routingOf, routedOutput}
+use Rattle.routing.specs.Routing.{Routing, arrivingListed, boxSound, chosen, arrivingPort, leavingPort, tableBetween, between, chosenPair, setCheck, leavingBasicBy, noRoute, routeCheck, routingChecks, routingOf, routedOutput}
 use Rattle.routing.proofs.Lists.{skip, cut, refuses, writes-nothing}
 
 -- the parts of a sound set

@@ -8,10 +8,11 @@ use native.Mathlib.Omega.{arith}
 use lib.Dec.{ltb}
 use Rattle.label.specs.declared.Label.{Label}
 use Rattle.label.specs.Label.{zeroLabel}
-use Rattle.arrival.specs.declared.Facts.{Facts}
-use Rattle.arrival.specs.declared.Decision.{Decision}
-use Rattle.arrival.specs.Checks.{Refusal, silent, when, firstOf, badArea}
-use Rattle.arrival.specs.Decision.{silenced, decided, arrivalChecks}
+use Rattle.decision.specs.declared.Facts.{Facts}
+use Rattle.decision.specs.declared.Decision.{Decision}
+use Rattle.decision.specs.Decision.{Refusal, silenced, decided}
+use Rattle.arrival.specs.Checks.{silent, when, firstOf, badArea}
+use Rattle.arrival.specs.Decision.{arrivalChecks}
 use Rattle.arrival.proofs.First.{orElse, Real, first-append}
 use Rattle.arrival.proofs.Arrival.{arrival-real}
 use Rattle.gateway.specs.Crossing.{sizes}

@@ -2,22 +2,20 @@
 use mathlib.Core.Path.{_≡_, refl, sym, _∙_, ap, subst}
 use mathlib.Core.Bool.{Bool, true, false, cond, not, _&&_, _||_}
 use mathlib.Core.List.{List, [], _∷_, _++_}
-use mathlib.Core.Option.{Option, none, some}
-use Prim.Native.Nat.{ℕ, _≤_}
-use native.Mathlib.Omega.{arith}
+use mathlib.Core.Option.{Option, some}
+use Prim.Native.Nat.{ℕ}
 use lib.Dec.{leb, ltb}
 use lib.ListN.{length, take}
 use borrow.Author.Tests.{le-leb}
 use Rattle.label.specs.Label.{zeroLabel}
 use Rattle.port.specs.declared.Port.{Port}
 use Rattle.port.specs.Port.{portSound}
-use Rattle.arrival.specs.declared.Facts.{Facts}
-use Rattle.arrival.specs.declared.Decision.{Decision}
-use Rattle.arrival.specs.Checks.{Refusal, silent, when, firstOf, badArea}
-use Rattle.arrival.specs.Decision.{silenced, decided, arrivalChecks}
+use Rattle.decision.specs.declared.Facts.{Facts}
+use Rattle.decision.specs.declared.Decision.{Decision}
+use Rattle.decision.specs.Decision.{Refusal, silenced, decided}
+use Rattle.arrival.specs.Checks.{silent, when, firstOf, badArea}
+use Rattle.arrival.specs.Decision.{arrivalChecks}
 use Rattle.gateway.specs.Crossing.{sizes}
-use Rattle.gateway.specs.Forward.{forwardOf, outputOf}
-use Rattle.route.specs.declared.Route.{Route}
 use Rattle.route.specs.declared.Chosen.{Chosen}
 use Rattle.route.specs.declared.Chosen.the-variants.{NoRoute, By}
 use Rattle.route.specs.Route.{routesOf, longest, routesSound}
@@ -27,8 +25,8 @@ use Rattle.ports.proofs.Laws.{few-enough, count-known, domains-known, survey-so
 use Rattle.tables.specs.declared.Tables.{Tables}
 use Rattle.tables.specs.Tables.{tablesSound}
 use Rattle.routing.specs.declared.Course.{Course}
-use Rattle.routing.specs.Routing.{Routing, boxSound, chosen, between, chosenPair, noRoute, routingOf, routedOutput}
-use Rattle.routing.specs.Stages.{routingFor, knownSound, wayBy, wayOf, unroutedChecks, unroutedOf, goneBy, goneOut}
+use Rattle.routing.specs.Routing.{Routing, boxSound, chosen, chosenPair, noRoute, routingOf, routedOutput}
+use Rattle.routing.specs.Stages.{routingFor, knownSound, wayBy, wayOf, unroutedOf, goneBy, goneOut}
 use Rattle.routing.proofs.Lists.{skip, cut}
 use Rattle.routing.proofs.Decides.{arriving-sound, routed-of, output-of, unrouted-of, unwritten-of, unsound-of, untouched-of}
 

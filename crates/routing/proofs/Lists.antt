@@ -5,8 +5,8 @@ use mathlib.Core.List.{List, [], _∷_, _++_}
 use mathlib.Core.Option.{Option, none, some}
 use Prim.Native.Nat.{ℕ}
 use Rattle.label.specs.declared.Label.{Label}
-use Rattle.arrival.specs.Checks.{Refusal, firstOf}
-use Rattle.arrival.specs.Decision.{decided}
+use Rattle.decision.specs.Decision.{Refusal, decided}
+use Rattle.arrival.specs.Checks.{firstOf}
 use Rattle.gateway.specs.Forward.{written}
 
 pub skip : (xs ys : List (Option Refusal)) → firstOf (xs ++ (none ∷ ys)) ≡ firstOf (xs ++ ys)

@@ -3,23 +3,25 @@ use mathlib.Core.Path.{_≡_, refl, sym, _∙_, ap}
 use mathlib.Core.Bool.{Bool, true, false, cond, not, _||_}
 use mathlib.Core.List.{List, [], _∷_, _++_}
 use mathlib.Core.Option.{Option, none, some}
-use Prim.Native.Nat.{ℕ, _≤_}
+use Prim.Native.Nat.{ℕ}
 use native.Mathlib.Omega.{arith}
 use lib.Dec.{ltb, eqb}
 use lib.ListN.{length}
-use borrow.Author.Tests.{eq-eqb, ne-eqb}
+use borrow.Author.Tests.{ne-eqb}
 use Rattle.label.specs.Label.{zeroLabel}
 use Rattle.port.specs.declared.Port.{Port}
 use Rattle.port.specs.Port.{portSound}
-use Rattle.arrival.specs.declared.Facts.{Facts}
-use Rattle.arrival.specs.declared.Decision.{Decision}
-use Rattle.arrival.specs.declared.Verdict.{Verdict}
-use Rattle.arrival.specs.Checks.{Refusal, silent, when, firstOf, badArea, arrivingLabel}
-use Rattle.arrival.specs.Decision.{silenced, refused, decided, arrivalChecks}
-use Rattle.arrival.specs.Verdict.{verdictOf, arrivalOf, Arrives, concluded}
+use Rattle.decision.specs.declared.Facts.{Facts}
+use Rattle.decision.specs.declared.Decision.{Decision}
+use Rattle.decision.specs.declared.Verdict.{Verdict}
+use Rattle.decision.specs.Decision.{Refusal, silenced, refused, decided}
+use Rattle.arrival.specs.Checks.{silent, when, firstOf, badArea, arrivingLabel}
+use Rattle.arrival.specs.Decision.{arrivalChecks}
+use Rattle.decision.specs.Verdict.{verdictOf, concluded}
+use Rattle.arrival.specs.Verdict.{arrivalOf, Arrives}
 use Rattle.arrival.proofs.First.{orElse, first-append, Late}
 use Rattle.arrival.proofs.Arrival.{arrival-late}
-use Rattle.arrival.proofs.Verdicts.{concluded-refused}
+use Rattle.decision.proofs.Concluded.{concluded-refused}
 use Rattle.routing.specs.Routing.{noRoute}
 use Rattle.routing.specs.Stages.{unroutedChecks, unroutedOf, unroutedBy}
 

@@ -3,7 +3,7 @@ use mathlib.Core.Bool.{true}
 use mathlib.Core.List.{List}
 use mathlib.Core.Path.{_≡_}
 use Prim.Native.Nat.{ℕ}
-use Rattle.arrival.specs.declared.Facts.{Facts}
+use Rattle.decision.specs.declared.Facts.{Facts}
 use Rattle.gateway.specs.Crossing.{Forwarding}
 use Rattle.gateway.specs.Forward.{forwardOf}
 use Rattle.route.specs.declared.Route.{Route}

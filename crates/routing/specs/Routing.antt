@@ -7,12 +7,12 @@ use lib.Dec.{ltb}
 use lib.ListN.{length}
 use Rattle.port.specs.declared.Port.{Port}
 use Rattle.leaving.specs.Kept.{keptOf}
-use Rattle.arrival.specs.declared.Facts.{Facts}
-use Rattle.arrival.specs.declared.Decision.{Decision}
-use Rattle.arrival.specs.Checks.{Refusal, silent, barred, when, firstOf, walkCheck, requiredCheck, optionCheck, badBasicCheck, missingBasicCheck, basicRangeCheck, rangeCheck}
-use Rattle.arrival.specs.Decision.{silenced, decided}
+use Rattle.decision.specs.declared.Facts.{Facts}
+use Rattle.decision.specs.declared.Decision.{Decision}
+use Rattle.decision.specs.Decision.{Refusal, silenced, decided}
+use Rattle.arrival.specs.Checks.{silent, barred, when, firstOf, walkCheck, requiredCheck, optionCheck, badBasicCheck, missingBasicCheck, basicRangeCheck, rangeCheck}
 use Rattle.gateway.specs.Crossing.{Forwarding, sizes, leavingBasicCheck, numberCheck, leavingCheck, spellingCheck, crossing, leavingLabel, leavingOption}
-use Rattle.gateway.specs.Forward.{leavingCount, optionOctets, written}
+use Rattle.gateway.specs.Forward.{optionOctets, leavingCount, written}
 use Rattle.filetable.specs.declared.Renumbering.{Renumbering}
 use Rattle.filetable.specs.TableFormat.{levelsOf}
 use Rattle.route.specs.declared.Chosen.{Chosen}

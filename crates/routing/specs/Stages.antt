@@ -8,12 +8,13 @@ use lib.ListN.{take}
 use Rattle.label.specs.Label.{zeroLabel}
 use Rattle.port.specs.declared.Port.{Port}
 use Rattle.port.specs.Port.{portSound}
-use Rattle.arrival.specs.declared.Facts.{Facts}
-use Rattle.arrival.specs.declared.Decision.{Decision}
-use Rattle.arrival.specs.declared.Verdict.{Verdict}
-use Rattle.arrival.specs.Checks.{Refusal, silent, when, firstOf, badArea}
-use Rattle.arrival.specs.Decision.{silenced, decided, arrivalChecks}
-use Rattle.arrival.specs.Verdict.{stopped}
+use Rattle.decision.specs.declared.Facts.{Facts}
+use Rattle.decision.specs.declared.Decision.{Decision}
+use Rattle.decision.specs.declared.Verdict.{Verdict}
+use Rattle.decision.specs.Decision.{Refusal, silenced, decided}
+use Rattle.arrival.specs.Checks.{silent, when, firstOf, badArea}
+use Rattle.arrival.specs.Decision.{arrivalChecks}
+use Rattle.decision.specs.Verdict.{stopped}
 use Rattle.gateway.specs.Forward.{forwardOf, outputOf}
 use Rattle.route.specs.declared.Chosen.{Chosen}
 use Rattle.route.specs.declared.Chosen.the-variants.{NoRoute, By}

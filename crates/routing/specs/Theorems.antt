@@ -1,14 +1,13 @@
 -- What a box of many ports decides, in terms of the two-port decision.
-use mathlib.Core.Bool.{true, false, _||_}
+use mathlib.Core.Bool.{true, false}
 use mathlib.Core.List.{List, [], _∷_, _++_}
 use mathlib.Core.Option.{some}
 use mathlib.Core.Path.{_≡_}
 use Prim.Native.Nat.{ℕ}
-use lib.Dec.{ltb}
 use Rattle.label.specs.Label.{zeroLabel}
-use Rattle.port.specs.declared.Port.{Port}
-use Rattle.arrival.specs.Checks.{silent, barred, when, firstOf}
-use Rattle.arrival.specs.Decision.{silenced, decided, arrivalChecks}
+use Rattle.arrival.specs.Checks.{silent, barred, firstOf}
+use Rattle.decision.specs.Decision.{silenced, decided}
+use Rattle.arrival.specs.Decision.{arrivalChecks}
 use Rattle.gateway.specs.Crossing.{sizes, numberCheck, crossing}
 use Rattle.gateway.specs.Forward.{forwardOf, outputOf}
 use Rattle.route.specs.declared.Route.{Route}

@@ -1,11 +1,11 @@
 // A box of many ports, chosen by destination (document 02, Wish 7): the longest matching route says which port a datagram leaves by, and what is decided then is the
 // two-port decision for that pair, with the first table for its domains.
-use arrival::Decision;
-use arrival::Facts;
-use arrival::Verdict;
 use arrival::arrive;
-use arrival::conclude;
-use arrival::stop;
+use decision::Decision;
+use decision::Facts;
+use decision::Verdict;
+use decision::conclude;
+use decision::stop;
 use fileset::levels_of;
 use gateway::forward;
 use port::Port;

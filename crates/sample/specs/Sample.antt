@@ -4,8 +4,8 @@ use mathlib.Core.Bool.{cond}
 use mathlib.Core.List.{List}
 use lib.ListN.{replicate}
 use lib.Dec.{eqb}
-use Rattle.arrival.specs.declared.Decision.{Decision}
-use Rattle.arrival.specs.Decision.{noFact}
+use Rattle.decision.specs.declared.Decision.{Decision}
+use Rattle.decision.specs.Decision.{noFact}
 use Rattle.port.specs.declared.Port.{Port}
 use Rattle.table.specs.declared.Table.{Table}
 use Rattle.gateway.specs.Crossing.{Forwarding}

@@ -4,7 +4,7 @@ ghost use Prim.Native.Nat.{_+_, _≤_};
 ghost use lib.ListN.{length};
 ghost use Rattle.lines.specs.Theorems.{Whole};
 ghost use Rattle.sample.specs.Sample.{areaLine};
-use arrival::Facts;
+use decision::Facts;
 use file::FileRead;
 use file::read_file;
 use fileset::Set;

@@ -2,7 +2,7 @@
 use Prim.Native.Nat.{ℕ, zero, suc, _+_, _*_, _/_, _%_, _≤_, _<_}
 use mathlib.Core.Path.{_≡_, refl, ap, sym, _∙_}
 use mathlib.Core.Bool.{Bool, true, false, _&&_}
-use mathlib.Core.List.{List, [], _∷_, _++_, map, map-append}
+use mathlib.Core.List.{List, [], _∷_, _++_, map-append}
 use native.Mathlib.Omega.{arith}
 use native.Mathlib.Numerals.{add-one}
 use lib.Bits.{bitOr}
@@ -12,7 +12,7 @@ use lib.Seq.{take-suc, take-take}
 use Rattle.label.specs.declared.Run.{Run}
 use Rattle.label.specs.Runs.{spaced, unused}
 use Rattle.label.specs.Label.{noRun}
-use Rattle.label.specs.Keys.{keyRun, keyRuns}
+use Rattle.keys.specs.Keys.{keyRun, keyRuns}
 use Rattle.label.proofs.Places.{or-step}
 
 -- a store after the first i

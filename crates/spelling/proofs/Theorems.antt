@@ -12,12 +12,13 @@ use native.Mathlib.Decide.{decLe}
 use Rattle.label.specs.declared.Label.{Label}
 use Rattle.label.specs.Label.{used, wellFormed}
 use Rattle.option.specs.declared.Spellings.{Spellings}
-use Rattle.option.specs.Spelling.{padded}
+use Rattle.option.specs.Spelling.{padded, spelledOf}
+use Rattle.forms.specs.Spelled.{lacking}
+use Rattle.forms.proofs.Lengths.{spelled-bounds}
 use Rattle.spelling.specs.declared.Spelling.{Spelling}
-use Rattle.option.specs.Spelling.{spelledOf}
-use Rattle.spelling.specs.Spelling.{lacking, spellingNumber, spellingAnswer, spellingOut}
+use Rattle.spelling.specs.Spelling.{spellingNumber, spellingAnswer, spellingOut}
 use Rattle.spelling.specs.Theorems.{SpellingAlone}
-use Rattle.spelling.proofs.Answers.{spelled-bounds, number-short, number-ill, number-none, number-done, answer-refused, answer-done, out-refused, out-done}
+use Rattle.spelling.proofs.Answers.{number-short, number-ill, number-none, number-done, answer-refused, answer-done, out-refused, out-done}
 
 -- A refusal or the option: the four ways that the checks go.
 pub data Result (p : Spellings) (l : Label) (out : List ℕ) : Type 0 where

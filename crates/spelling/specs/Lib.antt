@@ -1,4 +1,3 @@
 pub mod Spelling
-pub mod Keys
 pub mod Stages
 pub mod Theorems

@@ -1,25 +1,17 @@
 -- Document 01, "Asked alone"; document 02, Wish 5: what spelling one label under a set of permitted spellings answers, and what it leaves in
 -- the output.
-use Prim.Native.Nat.{ℕ, _≤_, _<_}
-use mathlib.Core.Path.{_≡_}
-use mathlib.Core.Bool.{Bool, true, false, cond, not}
-use mathlib.Core.List.{List, _++_}
-use mathlib.Core.Option.{Option, none, some}
-use lib.ListN.{length, drop}
+use Prim.Native.Nat.{ℕ}
+use mathlib.Core.Bool.{cond, not}
+use mathlib.Core.List.{List}
+use lib.ListN.{length}
 use lib.Dec.{ltb, eqb}
 use Rattle.label.specs.declared.Label.{Label}
 use Rattle.label.specs.Label.{wellFormed}
 use Rattle.option.specs.declared.Spellings.{Spellings}
-use Rattle.option.specs.Spelling.{padded, spelledOf}
+use Rattle.option.specs.Spelling.{spelledOf}
+use Rattle.forms.specs.Spelled.{lengthOf, lacking}
+use Rattle.writing.specs.Keys.{laid}
 use Rattle.spelling.specs.declared.Spelling.{Spelling}
-
-abbrev pub lengthOf : Option (List ℕ) → ℕ
-lengthOf none = 0
-lengthOf (some s) = length s
-
-abbrev pub lacking : Option (List ℕ) → Bool
-lacking none = true
-lacking (some s) = false
 
 -- 1 for an output under 40 octets, then 2 for an ill-formed label, then 18 where it has no spelling; 0 is done
 unfoldable pub spellingNumber : Spellings → Label → ℕ → ℕ
@@ -31,11 +23,6 @@ spellingAnswer p l n =
     cond (eqb (spellingNumber p l n) 0) (record { number = 0; count = lengthOf (spelledOf p l) })
     (record { number = spellingNumber p l n; count = 0 })
 
--- the option, zeros from there up to octet 39, and the octets from 40 on as they were
-abbrev pub laid : Option (List ℕ) → List ℕ → List ℕ
-laid none out = out
-laid (some s) out = padded s ++ drop 40 out
-
--- a refusal writes nothing
+-- the option, zeros from there up to octet 39, and the octets from 40 on as they were; a refusal writes nothing
 unfoldable pub spellingOut : Spellings → Label → List ℕ → List ℕ
 spellingOut p l out = cond (eqb (spellingNumber p l (length out)) 0) (laid (spelledOf p l) out) out

@@ -10,7 +10,8 @@ use Rattle.label.specs.declared.Label.{Label}
 use Rattle.label.specs.Label.{wellFormed}
 use Rattle.option.specs.declared.Spellings.{Spellings}
 use Rattle.option.specs.Spelling.{padded, spelledOf}
-use Rattle.spelling.specs.Spelling.{lacking, spellingAnswer, spellingOut}
+use Rattle.forms.specs.Spelled.{lacking}
+use Rattle.spelling.specs.Spelling.{spellingAnswer, spellingOut}
 
 pub record SpellingAlone : Type 0 where
   -- a well-formed label and at least 40 octets of output: done exactly where the label has a spelling

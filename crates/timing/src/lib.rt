@@ -2,8 +2,8 @@
 // records counts. The functions are for measuring alone; those for use are in the crate `exports`. Every answer depends on all results, by
 // fixed places of them. The loops of the bitmap and of the house file are in the crate `timing_parts`: a second caller in one library would keep a
 // function from being put into its first.
-use arrival::Decision;
-use arrival::Facts;
+use decision::Decision;
+use decision::Facts;
 use gateway::forward;
 use label::Label;
 use option::Spellings;
@@ -155,13 +155,14 @@ fn decision_digest(d: Decision) -> usize {
     )
 }
 
-// Level, count and first run: a place that is not fixed would have the label copied.
+// Domain, level, count and first run: a place that is not fixed would have the label copied.
 fn label_digest(label: Label) -> usize {
     let run = label.runs[0];
-    mix(
-        mix(mix(label.level as usize, label.count), run.low as usize),
-        run.high as usize,
-    )
+    let head = mix(
+        mix(label.domain as usize, label.level as usize),
+        label.count,
+    );
+    mix(mix(head, run.low as usize), run.high as usize)
 }
 
 // The labels of the first 8 options of `size` octets, from the first again after the last; all-zero ones where there is none.

@@ -1,9 +1,9 @@
 // What tools/bench times of the parts: the bitmap alone, and the house file. As in the crate `timing`, the functions are for measuring alone, and every
 // answer depends on all results.
 use bitmap::read_bitmap;
-use file::Written;
 use file::read_file;
-use file::write_file;
+use filewrite::Written;
+use filewrite::write_file;
 ghost use Prim.Native.Nat.{_≤_};
 
 // Reads the bitmaps of `size` octets that stand one after the other, `times` in all, from the first again after the last.

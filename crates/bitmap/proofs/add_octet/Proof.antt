@@ -4,10 +4,9 @@ use native.Mathlib.Omega.{arith}
 use Prim.Native.Nat.{ℕ, _+_, _/_, _≤_, _<_}
 use mathlib.Core.Path.{_≡_, sym, _∙_}
 use mathlib.Core.List.{List}
-use lib.ListN.{getD}
 use Rattle.bitmap.specs.declared.Last.{Last}
-use Rattle.bitmap.specs.Entry.{countIn, Right}
-use Rattle.bitmap.proofs.Table.{table, rule}
+use Rattle.entries.specs.Entry.{countIn}
+use Rattle.entries.proofs.Table.{rule}
 use Rattle.bitmap.proofs.Turn.{few-keys, some-runs, some-keys, low-key, ones-keys, ones-low, turn-zero, turn-apart, turn-touch, turn-ones}
 use Rattle.bitmap.proofs.add_octet.Statement.{statement}
 use Rattle.bitmap.proofs.add_octet.Tie as tie

@@ -3,7 +3,7 @@ use borrow.Author.Needs.{needs}
 use native.Mathlib.Omega.{arith}
 use lib.ListN.{length-set}
 use mathlib.Core.Path.{_≡_, refl, sym, _∙_}
-use Rattle.bitmap.specs.Entry.{countIn}
+use Rattle.entries.specs.Entry.{countIn}
 use Rattle.bitmap.proofs.Turn.{key-one, key-two, key-three, key-four, put-one, put-two, put-three, put-four}
 use Rattle.bitmap.proofs.put_runs.Statement.{statement}
 use Rattle.bitmap.proofs.put_runs.Tie as tie

@@ -3,17 +3,17 @@ use borrow.Author.Needs.{needs}
 use borrow.Author.Tests.{le-ltb}
 use native.Mathlib.Omega.{arith}
 use mathlib.Core.Path.{_≡_, sym, _∙_, ap}
-use mathlib.Core.Bool.{Bool, true, false, _||_}
+use mathlib.Core.Bool.{Bool, false, _||_}
 use lib.Dec.{ltb}
 use lib.ListN.{length}
 use Rattle.area.specs.Area.{walkOf}
 use Rattle.area.specs.declared.Walk.the-variants.{Sound, Refused}
 use Rattle.area.proofs.Laws.{area-refused, sound-placed}
 use Rattle.arrival.specs.Checks.{badArea, walkAt}
-use Rattle.arrival.specs.Verdict.{stopped}
+use Rattle.decision.specs.Verdict.{stopped}
 use Rattle.arrival.specs.Stages.{ArrivesAt}
 use Rattle.arrival.proofs.Arrival.{area-short, none-required, port-sized, port-walked, port-off}
-use Rattle.port.proofs.Usual.{usual, usual-sound}
+use Rattle.usual.proofs.Usual.{usual, usual-sound}
 use Rattle.gateway.proofs.arrive_usual.Statement.{statement}
 use Rattle.gateway.proofs.arrive_usual.Tie as tie
 

@@ -3,13 +3,13 @@ use borrow.Author.Needs.{needs}
 use native.Mathlib.Omega.{arith}
 use borrow.Author.Tests.{not-true, not-false, eq-eqb, ne-eqb, le-leb, lt-leb}
 use mathlib.Core.Path.{_≡_, sym, _∙_, ap}
-use mathlib.Core.Bool.{Bool, true, false, _||_}
+use mathlib.Core.Bool.{_||_}
 use Prim.Native.Nat.{ℕ}
-use lib.ListN.{length, take}
+use lib.ListN.{take}
 use lib.Seq.{length-take-le}
-use Rattle.spelling.specs.Spelling.{lengthOf}
-use Rattle.spelling.specs.Keys.{keysSpelled}
-use Rattle.arrival.specs.declared.Verdict.{Verdict}
+use Rattle.forms.specs.Spelled.{lengthOf}
+use Rattle.forms.specs.Keys.{keysSpelled}
+use Rattle.decision.specs.declared.Verdict.{Verdict}
 use Rattle.gateway.specs.Stages.{hasRoomFor, fittedBy}
 use Rattle.gateway.proofs.fit.Statement.{statement}
 use Rattle.gateway.proofs.fit.Tie as tie

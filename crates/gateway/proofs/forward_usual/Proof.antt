@@ -1,11 +1,10 @@
 -- `gateway::forward_usual` meets its contract.
 use borrow.Author.Needs.{needs}
 use native.Mathlib.Omega.{arith}
-use mathlib.Core.Path.{_≡_, refl, sym, _∙_, ap}
+use mathlib.Core.Path.{refl, sym, _∙_, ap}
 use lib.ListN.{length}
-use Rattle.gateway.specs.Crossing.{Forwarding}
 use Rattle.gateway.specs.Stages.{forwardingOf, recordedBy}
-use Rattle.port.proofs.Usual.{usual, usual-sound}
+use Rattle.usual.proofs.Usual.{usual, usual-sound}
 use Rattle.gateway.proofs.Stages.{forwarded}
 use Rattle.gateway.proofs.Usual.{sent-off, writes-labelled}
 use Rattle.gateway.proofs.forward_usual.Statement.{statement}

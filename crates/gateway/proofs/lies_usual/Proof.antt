@@ -1,8 +1,7 @@
 -- `gateway::lies_usual` meets its contract.
 use borrow.Author.Needs.{needs}
 use mathlib.Core.Path.{sym, _∙_}
-use mathlib.Core.Bool.{false}
-use Rattle.label.specs.Keys.{keyRuns}
+use Rattle.keys.specs.Keys.{keyRuns}
 use lib.ListN.{take}
 use Rattle.gateway.proofs.Usual.{look-last}
 use Rattle.gateway.proofs.lies_usual.Statement.{statement}

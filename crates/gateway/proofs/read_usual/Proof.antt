@@ -9,11 +9,11 @@ use Prim.Native.Nat.{ℕ, _+_, _≤_, _<_}
 use lib.ListN.{getD}
 use Rattle.area.specs.declared.Place.the-variants.{At}
 use Rattle.port.specs.declared.Port.{Port}
-use Rattle.arrival.specs.declared.Verdict.{Verdict}
-use Rattle.arrival.specs.Verdict.{going, stopped}
+use Rattle.decision.specs.declared.Verdict.{Verdict}
+use Rattle.decision.specs.Verdict.{going, stopped}
 use Rattle.arrival.specs.Stages.{ArrivesAt, heldBetween}
 use Rattle.arrival.proofs.Arrival.{Framed, placed-framed, octets-part, keys-refused, keys-point, keys-held}
-use Rattle.port.proofs.Usual.{usual, usual-sound}
+use Rattle.usual.proofs.Usual.{usual, usual-sound}
 use Rattle.gateway.proofs.read_usual.Statement.{statement}
 use Rattle.gateway.proofs.read_usual.Tie as tie
 

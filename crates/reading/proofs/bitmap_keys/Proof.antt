@@ -1,6 +1,5 @@
 -- `reading::bitmap_keys` meets its contract.
 use borrow.Author.Needs.{needs}
-use native.Mathlib.Omega.{arith}
 use Rattle.reading.proofs.Loops.{pass-none, pass-bitmap}
 use Rattle.reading.proofs.bitmap_keys.Statement.{statement}
 use Rattle.reading.proofs.bitmap_keys.Tie as tie
@@ -17,7 +16,7 @@ same-length c = search needs
 returns-2 : tie.Need-returns-2
 returns-2 c =
     let s = c .before .before .before .before .before .before .before in
-    pass-bitmap (s .args .octets .now) (s .args .keys .now) _ _ (s .pre .0) (s .pre .1 (omega (arith, c .before .before .before .before .if1 .left))) (c .before .before .read-bitmap .ensures)
+    pass-bitmap (s .args .octets .now) (s .args .keys .now) _ _ (s .pre .0) (s .pre .1) (c .before .before .read-bitmap .ensures)
 
 pub bitmap-keys-spec : {M : Type 1} → statement M
 bitmap-keys-spec = tie.close (tie.spec returns read-bitmap-requires same-length returns-2)

@@ -1,14 +1,14 @@
 -- `reading::category_keys` meets its contract.
 use borrow.Author.Needs.{needs}
+use native.Mathlib.Omega.{arith}
 use Rattle.reading.proofs.Keys.{pass-five}
-use borrow.Author.Needs.{needs}
 use Rattle.reading.proofs.category_keys.Statement.{statement}
 use Rattle.reading.proofs.category_keys.Tie as tie
 
 bitmap-keys-requires : tie.Need-bitmap-keys-requires
 bitmap-keys-requires c κs =
     let s = c .before .before .before .before in
-    (s .pre .0, s .pre .3 (c .before .if1 .taken))
+    (s .pre .0, s .pre .2)
 
 same-length : tie.Need-same-length
 same-length c = search needs
@@ -30,7 +30,7 @@ returns-2 c =
 pair-keys-requires : tie.Need-pair-keys-requires
 pair-keys-requires c κs =
     let s = c .before .before .before .before .before in
-    (s .pre .0, s .pre .1 (c .before .before .if1 .left), s .pre .2)
+    (s .pre .0, s .pre .1 (c .before .before .if1 .left), omega (arith, s .pre .2))
 
 same-length-3 : tie.Need-same-length-3
 same-length-3 c = search needs

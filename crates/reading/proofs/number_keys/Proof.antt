@@ -4,62 +4,33 @@ use native.Mathlib.Omega.{arith}
 use borrow.Author.Count.{below-none, below-more}
 use Prim.Native.Nat.{ℕ, _-_, _*_, _/_, _≤_, _<_}
 use mathlib.Core.Bool.{false}
-use mathlib.Core.List.{List}
 use mathlib.Core.Path.{_≡_, refl, sym, _∙_, ap}
-use lib.ListN.{length, length-set}
+use lib.ListN.{length}
 use lib.Dec.{eqb}
-use Rattle.label.specs.declared.Run.{Run}
 use Rattle.label.specs.Runs.{pushRun}
-use Rattle.reading.specs.Stages.{afterPiece}
 use Rattle.option.specs.Index.{rangeRuns, numberAt, badNumber, firstTrue}
 use Rattle.option.proofs.Bad.{first-is}
-use Rattle.reading.proofs.Building.{Stands, stands-nil, stands-count, stands-next, stands-push, piece-count, piece-some}
+use Rattle.reading.proofs.Building.{Numbered, numbered-nil, stands-count, stands-next, last-key-most, number-push, number-length}
 use Rattle.reading.proofs.Loops.{range-most, range-next, range-none, range-room, bad-number-is, pass-of}
 use Rattle.reading.proofs.number_keys.Statement.{statement}
 use Rattle.reading.proofs.number_keys.Tie as tie
 
 abbrev Inv-loop : tie.InvT-loop
-Inv-loop octets keys₀ n last₀ k₀ keys last k =
-    (k ≤ n) × (n ≡ length octets / 2) × (length keys ≡ length keys₀) × ((j : ℕ) → j < k → badNumber octets j ≡ false) × Stands keys₀ (rangeRuns (numberAt octets) (numberAt octets) k) keys last
+Inv-loop octets keys₀ n count₀ next₀ k₀ keys count next k =
+    (k ≤ n) × (n ≡ length octets / 2) × (length keys ≡ length keys₀) × ((j : ℕ) → j < k → badNumber octets j ≡ false) × Numbered keys₀ (rangeRuns (numberAt octets) (numberAt octets) k) keys count next
 
 abbrev μ-loop : tie.MeasureT-loop
-μ-loop octets keys₀ n last₀ k₀ keys last k = n - k
-
--- the turn's number, and what it adds
-module _ (c : tie.After-add-piece Inv-loop μ-loop) where
-  abbrev b : List ℕ
-  b = c .before .before .before .before .before .before .before .before .args .octets .now
-
-  abbrev k : ℕ
-  k = c .before .before .before .before .before .loop .k
-
-  abbrev rs : List Run
-  rs = rangeRuns (numberAt b) (numberAt b) k
-
-  stands : Stands (c .before .before .before .before .before .before .before .before .args .keys .now) rs (c .before .before .before .before .before .loop .keys) (c .before .before .before .before .before .loop .last)
-  stands = c .before .before .before .before .before .loop .inv .4
-
-  few : k < 15
-  few = omega (arith, c .before .before .before .before .before .before .before .before .pre .0)
-
-  added : c .add-piece .result ≡ afterPiece (c .before .before .before .before .before .loop .last) (numberAt b k) (numberAt b k)
-  added = rw (c .before .before .before .number-at .ensures .0) at (c .add-piece .ensures)
-
-  room : length (pushRun rs (numberAt b k) (numberAt b k)) ≤ 15
-  room = omega (arith, range-room (numberAt b) (numberAt b) k, few)
-
-  stored : (0 < c .add-piece .result .count) × (c .add-piece .result .count ≤ 15)
-  stored = (piece-some stands (numberAt b k) (numberAt b k) _ added, omega (arith, piece-count stands (numberAt b k) (numberAt b k) _ added, room))
+μ-loop octets keys₀ n count₀ next₀ k₀ keys count next k = n - k
 
 -- whether the turn's number is bad
 bad-is : (c : tie.After-bad-after Inv-loop μ-loop) → c .bad-after .result ≡ badNumber (c .before .before .before .before .before .before .args .octets .now) (c .before .before .before .loop .k)
 bad-is c =
     let l = c .before .before .before .loop in
     let b′ = c .before .before .before .before .before .before .args .octets .now in
-    rw (c .before .number-at .ensures .0) at (c .bad-after .ensures) ∙ bad-number-is b′ (l .k) (l .last .next) (stands-next (l .inv .4))
+    rw (c .before .number-at .ensures .0) at (c .bad-after .ensures) ∙ bad-number-is b′ (l .k) (l .next) (stands-next (l .inv .4 .stands))
 
 loop-holds : tie.Need-loop-holds Inv-loop μ-loop
-loop-holds c = (omega arith, refl, refl, below-none _, stands-nil _)
+loop-holds c = (omega arith, refl, refl, below-none _, numbered-nil _)
 
 number-at-requires : tie.Need-number-at-requires Inv-loop μ-loop
 number-at-requires c κs = search needs
@@ -80,25 +51,24 @@ returns c =
     let s = d .before .before .before .before .before .before in
     let b′ = s .args .octets .now in
     let e : firstTrue (badNumber b′) (length b′ / 2) ≡ l .k = first-is (badNumber b′) (length b′ / 2) (l .k) (omega arith) (l .inv .3) (λ h. sym (bad-is d) ∙ c .if1 .taken) in
-    pass-of 2 b′ (l .inv .4) (ap (rangeRuns (numberAt b′) (numberAt b′)) (sym e)) (omega (arith, range-most (numberAt b′) (numberAt b′) (l .k), s .pre .0)) (2 * l .k) (ap (λ (z : ℕ). 2 * z) (sym e))
+    pass-of 2 b′ (l .inv .4 .stands) (ap (rangeRuns (numberAt b′) (numberAt b′)) (sym e)) (omega (arith, range-most (numberAt b′) (numberAt b′) (l .k), s .pre .0)) (2 * l .k) (ap (λ (z : ℕ). 2 * z) (sym e))
 
-add-piece-requires : tie.Need-add-piece-requires Inv-loop μ-loop
-add-piece-requires c κs =
-    let l = c .before .before .before .before .loop in
-    let b′ = c .before .before .before .before .before .before .before .args .octets .now in
-    (omega (arith, stands-count (l .inv .4), range-most (numberAt b′) (numberAt b′) (l .k), c .before .before .before .before .before .before .before .pre .0), range-none (numberAt b′) (numberAt b′) (l .k) ∙ ap (λ (z : ℕ). eqb z 0) (sym (stands-count (l .inv .4))))
+add-number-requires : tie.Need-add-number-requires Inv-loop μ-loop
+add-number-requires c κs =
+    let d = c .before .before in
+    let l = d .before .before .before .loop in
+    let s = d .before .before .before .before .before .before in
+    let b′ = s .args .octets .now in (
+      omega (arith, stands-count (l .inv .4 .stands), range-most (numberAt b′) (numberAt b′) (l .k), s .pre .0, s .pre .1, l .inv .2),
+      range-none (numberAt b′) (numberAt b′) (l .k) ∙ ap (λ (z : ℕ). eqb z 0) (sym (stands-count (l .inv .4 .stands))),
+      λ h e. last-key-most (l .inv .4) h (omega (arith, d .before .number-at .ensures .1)),
+    )
 
-sub-at : tie.Need-sub-at Inv-loop μ-loop
-sub-at c = omega (arith, stored (c .before))
+cast-next : tie.Need-cast-next Inv-loop μ-loop
+cast-next c = search needs
 
-key-of-requires : tie.Need-key-of-requires Inv-loop μ-loop
-key-of-requires c κs = search needs
-
-mul-keys : tie.Need-mul-keys Inv-loop μ-loop
-mul-keys c = omega (arith, stored (c .before .before))
-
-slice-write-keys : tie.Need-slice-write-keys Inv-loop μ-loop
-slice-write-keys c = omega (arith, stored (c .before .before))
+add-next : tie.Need-add-next Inv-loop μ-loop
+add-next c = search needs
 
 add-k : tie.Need-add-k Inv-loop μ-loop
 add-k c = search needs
@@ -108,14 +78,18 @@ loop-less c = search needs
 
 loop-again : tie.Need-loop-again Inv-loop μ-loop
 loop-again c =
-    let d = c .before .before in
-    let l = d .before .before .before .before .before .loop in (
+    let d = c .before .before .before .before .before in
+    let l = d .before .before .before .loop in
+    let s = d .before .before .before .before .before .before in
+    let b′ = s .args .octets .now in
+    let a = c .before .before .add-number in
+    let x : d .before .number-at .result ≡ numberAt b′ (l .k) = d .before .number-at .ensures .0 in
+    let few : length (pushRun (rangeRuns (numberAt b′) (numberAt b′) (l .k)) (numberAt b′ (l .k)) (numberAt b′ (l .k))) ≤ length (s .args .keys .now) = omega (arith, range-room (numberAt b′) (numberAt b′) (l .k), s .pre .0, s .pre .1, d .before .before .loop-test .taken) in (
       omega arith,
       l .inv .1,
-      simp length-set (l .inv .2),
-      below-more _ _ (l .inv .3) (sym (bad-is (d .before .before)) ∙ d .before .if1 .left),
-      rw (← range-next (numberAt (b d)) (numberAt (b d)) (k d))
-          (stands-push (stands d) (numberAt (b d) (k d)) (numberAt (b d) (k d)) _ (added d) (omega (arith, room d, d .before .before .before .before .before .before .before .before .pre .1)) (omega (arith, d .before .before .before .number-at .ensures)) _ (rw (d .before .before .before .number-at .ensures .0) at (c .key-of .ensures))),
+      number-length (l .keys) _ (l .count) (l .next) (d .before .number-at .result) (a .ensures .1) ∙ l .inv .2,
+      below-more _ _ (l .inv .3) (sym (bad-is d) ∙ c .before .before .before .before .if1 .left),
+      rw (← range-next (numberAt b′) (numberAt b′) (l .k), x) (number-push (l .inv .4) (numberAt b′ (l .k)) few (omega (arith, d .before .number-at .ensures)) _ (rw x at (a .ensures .0)) _ (rw x at (a .ensures .1))),
     )
 
 mul-t8 : tie.Need-mul-t8 Inv-loop μ-loop
@@ -130,7 +104,7 @@ returns-2 c =
     let s = c .before .before .before .before in
     let b′ = s .args .octets .now in
     let e : firstTrue (badNumber b′) (length b′ / 2) ≡ l .k = first-is (badNumber b′) (length b′ / 2) (l .k) (omega arith) (l .inv .3) (λ h. absurd (omega arith)) in
-    pass-of 2 b′ (l .inv .4) (ap (rangeRuns (numberAt b′) (numberAt b′)) (sym e)) (omega (arith, range-most (numberAt b′) (numberAt b′) (l .k), s .pre .0)) (2 * l .k) (ap (λ (z : ℕ). 2 * z) (sym e))
+    pass-of 2 b′ (l .inv .4 .stands) (ap (rangeRuns (numberAt b′) (numberAt b′)) (sym e)) (omega (arith, range-most (numberAt b′) (numberAt b′) (l .k), s .pre .0)) (2 * l .k) (ap (λ (z : ℕ). 2 * z) (sym e))
 
 pub number-keys-spec : {M : Type 1} → statement M
 number-keys-spec =
@@ -144,11 +118,9 @@ number-keys-spec =
     mul-t11
     same-length
     returns
-    add-piece-requires
-    sub-at
-    key-of-requires
-    mul-keys
-    slice-write-keys
+    add-number-requires
+    cast-next
+    add-next
     add-k
     loop-less
     loop-again

@@ -9,7 +9,7 @@ use lib.Dec.{ltb, eqb}
 use mathlib.Core.Bool.{_||_}
 use Rattle.label.specs.declared.Run.{Run}
 use Rattle.label.specs.Runs.{run, pushRun}
-use Rattle.label.specs.Keys.{runKey}
+use Rattle.keys.specs.Keys.{runKey}
 use Rattle.reading.specs.Stages.{afterPiece, limitAt}
 use Rattle.option.specs.Index.{rangeRuns, pairsOf, lowPair, highPair, badPair, topAt, bottomAt}
 use Rattle.reading.proofs.Building.{Stands, stands-nil, stands-count, stands-push, piece-count, piece-some}

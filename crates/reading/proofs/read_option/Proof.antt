@@ -1,23 +1,38 @@
--- `reading::read_option` meets its contract: both ways read the option.
-use mathlib.Core.Path.{_∙_, sym}
+-- `reading::read_option` meets its contract.
 use borrow.Author.Needs.{needs}
+use native.Mathlib.Omega.{arith}
+use Rattle.reading.proofs.Keys.{checked-alone}
 use Rattle.reading.proofs.read_option.Statement.{statement}
 use Rattle.reading.proofs.read_option.Tie as tie
 
-has-bitmap-requires : tie.Need-has-bitmap-requires
-has-bitmap-requires c κs = search needs
+slice-aggregate-read-checked : tie.Need-slice-aggregate-read-checked
+slice-aggregate-read-checked c = search needs
 
-read-long-requires : tie.Need-read-long-requires
-read-long-requires c κs = search needs
+read-checked-requires : tie.Need-read-checked-requires
+read-checked-requires c κs = search needs
+
+owner-of-requires : tie.Need-owner-of-requires
+owner-of-requires c κs = search needs
+
+slice-aggregate-to-label : tie.Need-slice-aggregate-to-label
+slice-aggregate-to-label c = search needs
+
+to-label-requires : tie.Need-to-label-requires
+to-label-requires c κs = search needs
 
 returns : tie.Need-returns
-returns c = c .read-long .ensures
-
-read-short-requires : tie.Need-read-short-requires
-read-short-requires c κs = sym (c .before .has-bitmap .ensures) ∙ c .if1 .left
-
-returns-2 : tie.Need-returns-2
-returns-2 c = c .read-short .ensures
+returns c =
+    let w = c .before .before in
+    let t = w .before .before .read-checked in
+    checked-alone (w .before .before .before .before .before .args .octets .now) _ (t .ensures) (omega (arith, t .ensures .held)) _ (w .owner-of .ensures) _ (c .to-label .ensures)
 
 pub read-option-spec : {M : Type 1} → statement M
-read-option-spec = tie.close (tie.spec has-bitmap-requires read-long-requires returns read-short-requires returns-2)
+read-option-spec =
+    tie.close
+    (tie.spec
+    slice-aggregate-read-checked
+    read-checked-requires
+    owner-of-requires
+    slice-aggregate-to-label
+    to-label-requires
+    returns)

@@ -2,7 +2,7 @@
 use borrow.Author.Needs.{needs}
 use borrow.Author.Tests.{not-true, not-false}
 use native.Mathlib.Omega.{arith}
-use Prim.Native.Nat.{ℕ, _+_, _-_, _≤_, _<_}
+use Prim.Native.Nat.{ℕ, _+_, _-_, _≤_}
 use mathlib.Core.Path.{_≡_, refl, sym, _∙_, ap}
 use mathlib.Core.Bool.{true, _&&_}
 use mathlib.Core.List.{List}
@@ -117,7 +117,7 @@ part-categories-end c = omega (arith, size-is c, len c .inside)
 category-keys-requires : tie.Need-category-keys-requires
 category-keys-requires c κs =
     let d = c .before .before in
-    (omega (arith, part-length d, len d .most), λ n. omega (arith, part-length d, len d .least, len d .even n), d .before .before .before .before .before .before .before .before .before .before .before .pre .1, λ t h. d .before .before .before .before .before .before .before .before .before .before .before .pre .2 t (omega (arith, part-length d, len d .inside, h)))
+    (omega (arith, part-length d, len d .most), λ n. omega (arith, part-length d, len d .least, len d .even n), d .before .before .before .before .before .before .before .before .before .before .before .pre .1)
 
 -- the pass over the tag's categories
 module _ (c : tie.After-category-keys) where

@@ -5,7 +5,7 @@ use mathlib.Core.Path.{_≡_, sym, _∙_, ap}
 use mathlib.Core.Bool.{true}
 use lib.ListN.{length}
 use Rattle.table.specs.Table.{tableSound}
-use Rattle.renumber.proofs.Answers.{order-sized}
+use Rattle.carry.proofs.Ready.{order-sized}
 use Rattle.reverse.proofs.Answers.{in-order, reversed-unsound, reversed-sound}
 use Rattle.reverse.proofs.reverse.Statement.{statement}
 use Rattle.reverse.proofs.reverse.Tie as tie

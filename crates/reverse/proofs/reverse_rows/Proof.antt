@@ -7,7 +7,7 @@ use mathlib.Core.Path.{_≡_, sym, _∙_, ap}
 use mathlib.Core.Bool.{true}
 use lib.ListN.{length}
 use Rattle.table.specs.Table.{tableSound}
-use Rattle.renumber.proofs.Answers.{order-sized}
+use Rattle.carry.proofs.Ready.{order-sized}
 use Rattle.reverse.proofs.Answers.{in-order, head-unsound, rows-unsound, head-short, rows-short, head-done, rows-done}
 use Rattle.reverse.proofs.reverse_rows.Statement.{statement}
 use Rattle.reverse.proofs.reverse_rows.Tie as tie

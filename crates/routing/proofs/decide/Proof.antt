@@ -23,7 +23,7 @@ use types.Kit.{Given, Item, Sq, runs, atRet, rewrite, mean, ‵, raw, _⊛_, ⋆
 use types.Part.{agg, whole, sub, look-in}
 use types.Run.{look, init, forget, stop, hop, fld, from, load, addr, no-more, and-then, assigns, land, returns, enter, alloc1, alloc0, params1, pass1, pass0, free1, free0}
 use sound.WpLaws.{FmC, fmOf, WpFn-mono}
-use denote.RattleType.{RattleType, owns}
+use denote.RattleType.{owns}
 use denote.Laws.{Is, shows}
 use denote.Plain.{uint-vals, uint-tells, uint-makes}
 use denote.Memory.{pointee}
@@ -46,12 +46,12 @@ use Rattle.port.proofs.Port.Laws as T′
 use Rattle.tables.specs.declared.Tables.{Tables}
 use Rattle.tables.proofs.Tables as B
 use Rattle.tables.proofs.Tables.Laws as B′
-use Rattle.arrival.specs.declared.Facts.{Facts}
-use Rattle.arrival.proofs.Facts as F
-use Rattle.arrival.proofs.Facts.Laws as F′
-use Rattle.arrival.specs.declared.Decision.{Decision}
-use Rattle.arrival.proofs.Decision as D
-use Rattle.arrival.proofs.Decision.Laws as D′
+use Rattle.decision.specs.declared.Facts.{Facts}
+use Rattle.decision.proofs.Facts as F
+use Rattle.decision.proofs.Facts.Laws as F′
+use Rattle.decision.specs.declared.Decision.{Decision}
+use Rattle.decision.proofs.Decision as D
+use Rattle.decision.proofs.Decision.Laws as D′
 use Rattle.ports.specs.declared.Survey.{Survey}
 use Rattle.ports.specs.Ports.{portAt, surveyOf}
 use Rattle.ports.proofs.Survey as S

@@ -7,12 +7,12 @@ use mathlib.Core.Path.{_≡_, sym, _∙_, ap}
 use mathlib.Core.Bool.{_&&_, and-true}
 use mathlib.Core.List.{[], _∷_}
 use lib.Dec.{eqb, leb}
-use lib.ListN.{drop, getD, take, length, drop-of-length-le}
+use lib.ListN.{drop, getD, take, drop-of-length-le}
 use Rattle.label.specs.Runs.{spaced, unused}
-use Rattle.label.specs.Keys.{keyRun, keyRuns}
+use Rattle.keys.specs.Keys.{keyRun, keyRuns}
 use Rattle.label.proofs.Bools.{and-chain}
 use Rattle.label.proofs.Steps.{next}
-use Rattle.label.proofs.Keys.{next-run, runs-up}
+use Rattle.keys.proofs.Keys.{next-run, runs-up}
 use Rattle.label.proofs.Places.{rises, rises-spaced}
 use Rattle.spelling.proofs.Few.{key-or-step}
 use Rattle.spelling.proofs.few_formed.Statement.{statement}

@@ -6,7 +6,7 @@ use Prim.Native.Nat.{ℕ, _≤_, _-_}
 use mathlib.Core.Path.{_≡_, refl, sym, ap, _∙_}
 use lib.ListN.{take, length, length-set}
 use lib.Seq.{take-all}
-use Rattle.label.specs.Keys.{keyRuns}
+use Rattle.keys.specs.Keys.{keyRuns}
 use Rattle.label.proofs.Steps.{length-mapped}
 use Rattle.spelling.proofs.Few.{front-next}
 use Rattle.spelling.proofs.front_keys.Statement.{statement}

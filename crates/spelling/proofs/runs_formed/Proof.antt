@@ -12,10 +12,10 @@ use lib.ListN.{take, drop, getD, length, length-set, drop-of-length-le}
 use lib.Seq.{length-take-le, take-all, getD-take}
 use Rattle.label.specs.Runs.{spaced, unused}
 use Rattle.label.specs.Label.{used, noRun}
-use Rattle.label.specs.Keys.{runKey}
+use Rattle.keys.specs.Keys.{runKey}
 use Rattle.label.proofs.Bools.{and-chain}
 use Rattle.label.proofs.Steps.{next, next-used, used-up, length-mapped}
-use Rattle.label.proofs.Keys.{keys-next}
+use Rattle.keys.proofs.Keys.{keys-next}
 use Rattle.label.proofs.Places.{or-step, rises, rises-spaced}
 use Rattle.spelling.proofs.runs_formed.Statement.{statement}
 use Rattle.spelling.proofs.runs_formed.Tie as tie

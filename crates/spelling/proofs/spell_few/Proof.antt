@@ -66,24 +66,24 @@ slice-aggregate-spell-keys : tie.Need-slice-aggregate-spell-keys
 slice-aggregate-spell-keys c = sym (length-take-le _ _ (held (c .before)))
 
 spell-keys-requires : tie.Need-spell-keys-requires
-spell-keys-requires c κs =
-    let d = c .before .before in
-    let s = d .before .before .before .before .before .before .before .before in
-    (omega (arith, length-take-le (s .args .label .count) (d .before .before .before .before .before .front-keys .last .1 .0) (held d), s .pre .1), search needs)
+spell-keys-requires c κs = search needs
+
+answer-requires : tie.Need-answer-requires
+answer-requires c κs = search needs
 
 same-length : tie.Need-same-length
 same-length c = search needs
 
 returns-2 : tie.Need-returns-2
 returns-2 c =
-    let d = c .before .before .before .before .before in
+    let d = c .before .before .before .before .before .before in
     let k = d .before .before .before .before .before in
     let s = k .before .before .before in
     let l = s .args .label in
     let well : wellFormed l ≡ true = sym (form (d .before)) ∙ not-false _ (d .if1 .left) in
-    keys-spell (s .args .permitted) l (s .args .out .now) _ _ well (s .pre .2) _
+    keys-spell (s .args .permitted) l (s .args .out .now) _ _ _ well (s .pre .2) _
     (few-used (l .runs) (k .front-keys .last .1 .0) 16 (l .count) (k .front-keys .ensures .0) (s .pre .1))
-    (c .before .before .spell-keys .ensures)
+    (c .before .before .before .spell-keys .ensures) (c .answer .ensures)
 
 pub spell-few-spec : {M : Type 1} → statement M
 spell-few-spec =
@@ -98,5 +98,6 @@ spell-few-spec =
     array-share-prefix-keys
     slice-aggregate-spell-keys
     spell-keys-requires
+    answer-requires
     same-length
     returns-2)

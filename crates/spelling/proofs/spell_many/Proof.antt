@@ -52,22 +52,22 @@ slice-aggregate-spell-keys : tie.Need-slice-aggregate-spell-keys
 slice-aggregate-spell-keys c = sym (length-take-le _ _ (held (c .before)))
 
 spell-keys-requires : tie.Need-spell-keys-requires
-spell-keys-requires c κs =
-    let d = c .before .before in
-    let s = d .before .before .before .before .before in
-    (omega (arith, length-take-le (s .args .label .count) (d .before .before .runs-formed .last .1 .0) (held d), s .pre .1), search needs)
+spell-keys-requires c κs = search needs
+
+answer-requires : tie.Need-answer-requires
+answer-requires c κs = search needs
 
 same-length : tie.Need-same-length
 same-length c = search needs
 
 returns-2 : tie.Need-returns-2
 returns-2 c =
-    let d = c .before .before .before .before .before in
+    let d = c .before .before .before .before .before .before in
     let r = d .before .before in
     let s = r .before .before .before in
     let l = s .args .label in
     let well : wellFormed l ≡ true = sym (form r) ∙ not-false _ (d .if1 .left) in
-    keys-spell (s .args .permitted) l (s .args .out .now) _ _ well (s .pre .2) _ (keys-front l well _ _ (r .runs-formed .ensures .1)) (c .before .before .spell-keys .ensures)
+    keys-spell (s .args .permitted) l (s .args .out .now) _ _ _ well (s .pre .2) _ (keys-front l well _ _ (r .runs-formed .ensures .1)) (c .before .before .before .spell-keys .ensures) (c .answer .ensures)
 
 pub spell-many-spec : {M : Type 1} → statement M
 spell-many-spec =
@@ -79,5 +79,6 @@ spell-many-spec =
     array-share-prefix-keys
     slice-aggregate-spell-keys
     spell-keys-requires
+    answer-requires
     same-length
     returns-2)

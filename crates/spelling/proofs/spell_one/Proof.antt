@@ -5,7 +5,6 @@ use borrow.Author.Tests.{not-true, not-false}
 use native.Mathlib.Omega.{arith}
 use mathlib.Core.Path.{_≡_, sym, _∙_}
 use mathlib.Core.Bool.{true}
-use mathlib.Core.List.{[], _∷_}
 use lib.ListN.{length}
 use lib.Seq.{length-take-le}
 use Rattle.label.specs.Label.{wellFormed}
@@ -40,22 +39,23 @@ slice-aggregate-spell-keys : tie.Need-slice-aggregate-spell-keys
 slice-aggregate-spell-keys c = sym (length-take-le _ _ (c .before .before .before .before .before .before .pre .0))
 
 spell-keys-requires : tie.Need-spell-keys-requires
-spell-keys-requires c κs =
-    let s = c .before .before .before .before .before .before .before in
-    (omega (arith, length-take-le (s .args .t1 .count) (c .before .before .before .before .key-of .result ∷ []) (s .pre .0), s .pre .0), search needs)
+spell-keys-requires c κs = search needs
+
+answer-requires : tie.Need-answer-requires
+answer-requires c κs = search needs
 
 same-length : tie.Need-same-length
 same-length c = search needs
 
 returns-2 : tie.Need-returns-2
 returns-2 c =
-    let d = c .before .before .before .before .before in
+    let d = c .before .before .before .before .before .before in
     let s = d .before .before .before .before .before in
     let l = s .args .t1 in
     let well : wellFormed l ≡ true = sym (d .before .well-formed .ensures) ∙ not-false _ (d .if1 .left) in
-    keys-spell (s .args .permitted) l (s .args .out .now) _ _ well (s .pre .1) _
+    keys-spell (s .args .permitted) l (s .args .out .now) _ _ _ well (s .pre .1) _
     (keys-one l well _ (d .before .before .key-of .ensures .0) (s .pre .0) (omega (arith, sized s)))
-    (c .before .before .spell-keys .ensures)
+    (c .before .before .before .spell-keys .ensures) (c .answer .ensures)
 
 pub spell-one-spec : {M : Type 1} → statement M
 spell-one-spec =
@@ -68,5 +68,6 @@ spell-one-spec =
     array-share-prefix-keys
     slice-aggregate-spell-keys
     spell-keys-requires
+    answer-requires
     same-length
     returns-2)

@@ -4,7 +4,7 @@ use native.Mathlib.Omega.{arith}
 use borrow.Author.Tests.{leb-true, not-true, not-false}
 use Prim.Native.Nat.{ℕ, _≤_, _<_, _-_, _+_, _*_}
 use mathlib.Core.Path.{_≡_, refl, sym, _∙_, ap}
-use mathlib.Core.Bool.{true, false, _&&_, and-assoc, and-true}
+use mathlib.Core.Bool.{true, _&&_, and-assoc, and-true}
 use mathlib.Core.List.{List, [], _∷_, _++_}
 use lib.Dec.{leb, eqb}
 use lib.ListN.{take, drop, getD, set, length, replicate, length-set, drop-of-length-le}
@@ -15,6 +15,7 @@ use Rattle.table.specs.Table.{usedRows, rising, unusedRows, noRow, targe
 use Rattle.table.specs.Order.{orderKeys}
 use Rattle.table.specs.Stages.{chain}
 use Rattle.table.proofs.Order.{order-step, ends-step, rise-parts, unused-next, unused-eight, refused}
+use Rattle.table.proofs.Places.{place-under, eight-under, last-under, first-under, in-rows, in-list, place-fits, next-fits, four-fits, six-fits, word-fits, eight-fits, turn-less, eight-less, next-up, eight-up}
 use Rattle.table.proofs.rows_rise.Statement.{statement}
 use Rattle.table.proofs.rows_rise.Tie as tie
 
@@ -70,6 +71,16 @@ good : (c : tie.Else1 Inv-loop μ-loop Inv-loop2 μ-loop2 Inv-loop3 μ-loop3) �
     (leb (d .before .loop .floor) (r .low) && (leb (r .low) (r .high) && (leb (r .high) 65534 && leb (targetEnd r) 65534))) ≡ true
 good c = sym (c .before .row-rises .ensures) ∙ not-false _ (c .if1 .left)
 
+-- the places that a turn reads are among the 64
+place : (d : tie.In-loop Inv-loop μ-loop Inv-loop2 μ-loop2 Inv-loop3 μ-loop3) → d .before .loop .i ≤ 63
+place d = place-under (d .before .loop .i) (start (d .before) .args .t1 .count) (d .loop-test .taken) (start (d .before) .pre .0)
+
+eighth : (d : tie.In-loop2 Inv-loop μ-loop Inv-loop2 μ-loop2 Inv-loop3 μ-loop3) (k : ℕ) → leb k 7 ≡ true → d .before .loop2 .i + k ≤ 63
+eighth d k h = eight-under (d .before .loop2 .i) k (d .loop2-test .taken) h
+
+rest-place : (d : tie.In-loop3 Inv-loop μ-loop Inv-loop2 μ-loop2 Inv-loop3 μ-loop3) → d .before .loop3 .i ≤ 63
+rest-place d = last-under (d .before .loop3 .i) (d .loop3-test .taken)
+
 clear-requires : tie.Need-clear-requires Inv-loop μ-loop Inv-loop2 μ-loop2 Inv-loop3 μ-loop3
 clear-requires c κs = search needs
 
@@ -79,11 +90,11 @@ loop-holds c = let s = c .before .before .before .before .before .before in
     (omega arith, ap length k, s .pre .2, refl, refl, k, λ j h. absurd (omega arith))
 
 mul-row : tie.Need-mul-row Inv-loop μ-loop Inv-loop2 μ-loop2 Inv-loop3 μ-loop3
-mul-row c = search needs
+mul-row c = six-fits _ (place c)
 
 element-copy-out-row :
     tie.Need-element-copy-out-row Inv-loop μ-loop Inv-loop2 μ-loop2 Inv-loop3 μ-loop3
-element-copy-out-row c = search needs
+element-copy-out-row c = in-rows _ (place c)
 
 row-rises-requires :
     tie.Need-row-rises-requires Inv-loop μ-loop Inv-loop2 μ-loop2 Inv-loop3 μ-loop3
@@ -123,22 +134,22 @@ mul-order : tie.Need-mul-order Inv-loop μ-loop Inv-loop2 μ-loop2 Inv-loop3 μ-
 mul-order c = search needs
 
 cast-order : tie.Need-cast-order Inv-loop μ-loop Inv-loop2 μ-loop2 Inv-loop3 μ-loop3
-cast-order c = search needs
+cast-order c = word-fits _ (place (c .before .before .before .before .before))
 
 add-order : tie.Need-add-order Inv-loop μ-loop Inv-loop2 μ-loop2 Inv-loop3 μ-loop3
 add-order c = search needs
 
 mul-order-2 : tie.Need-mul-order-2 Inv-loop μ-loop Inv-loop2 μ-loop2 Inv-loop3 μ-loop3
-mul-order-2 c = search needs
+mul-order-2 c = four-fits _ (place (c .before .before .before .before .before))
 
 slice-write-order : tie.Need-slice-write-order Inv-loop μ-loop Inv-loop2 μ-loop2 Inv-loop3 μ-loop3
-slice-write-order c = search needs
+slice-write-order c = in-list _ _ (c .before .before .before .before .before .before .loop .inv .1) (place (c .before .before .before .before .before))
 
 mul-ends : tie.Need-mul-ends Inv-loop μ-loop Inv-loop2 μ-loop2 Inv-loop3 μ-loop3
-mul-ends c = search needs
+mul-ends c = four-fits _ (place (c .before .before .before .before .before))
 
 slice-write-ends : tie.Need-slice-write-ends Inv-loop μ-loop Inv-loop2 μ-loop2 Inv-loop3 μ-loop3
-slice-write-ends c = search needs
+slice-write-ends c = in-list _ _ (c .before .before .before .before .before .before .loop .inv .2) (place (c .before .before .before .before .before))
 
 cast-floor : tie.Need-cast-floor Inv-loop μ-loop Inv-loop2 μ-loop2 Inv-loop3 μ-loop3
 cast-floor c = search needs
@@ -147,10 +158,10 @@ add-floor : tie.Need-add-floor Inv-loop μ-loop Inv-loop2 μ-loop2 Inv-loop3 μ-
 add-floor c = search needs
 
 add-i : tie.Need-add-i Inv-loop μ-loop Inv-loop2 μ-loop2 Inv-loop3 μ-loop3
-add-i c = search needs
+add-i c = next-fits _ (place (c .before .before .before .before .before .before))
 
 loop-less : tie.Need-loop-less Inv-loop μ-loop Inv-loop2 μ-loop2 Inv-loop3 μ-loop3
-loop-less c = search needs
+loop-less c = turn-less (c .before .before .before .before .before .before .before .loop .i) (c .before .before .before .before .before .before .before .before .before .before .before .before .before .before .args .t1 .count) (c .before .before .before .before .before .before .loop-test .taken)
 
 loop-again : tie.Need-loop-again Inv-loop μ-loop Inv-loop2 μ-loop2 Inv-loop3 μ-loop3
 loop-again c =
@@ -163,9 +174,9 @@ loop-again c =
     let r = getD (l .rows) (v .i) noRow in
     let x = a .after-targets .ensures in
     let z : length (replicate {A = ℕ} 64 0) ≡ 64 = refl in (
-      omega arith,
-      simp length-set (v .inv .1),
-      simp length-set (v .inv .2),
+      next-up (v .i) (l .count) (d .loop-test .taken),
+      length-set (v .order) (v .i) (r .target * 65536 + v .i) ∙ v .inv .1,
+      length-set (v .ends) (v .i) (a .after-targets .result) ∙ v .inv .2,
       v .inv .3 ∙ rw (seen d) (rise-parts (v .floor) r (drop (v .i + 1) (usedRows l)) ∙ rw (good e)),
       rw x (v .inv .4 ∙ rw (seen d) (sym (and-assoc (v .targets) (leb (v .past) (r .target)) (chain (targetEnd r + 1) (drop (v .i + 1) (usedRows l)))))),
       ap (λ (z : List ℕ). set z (v .i) (r .target * 65536 + v .i)) (v .inv .5)
@@ -181,99 +192,99 @@ loop2-holds c =
     (omega (arith, s .pre .0), ap (λ x. unusedRows (drop x (s .args .t1 .rows))) (sym n))
 
 mul-or-two : tie.Need-mul-or-two Inv-loop μ-loop Inv-loop2 μ-loop2 Inv-loop3 μ-loop3
-mul-or-two c = search needs
+mul-or-two c = six-fits _ (first-under _ (eighth c 0 refl))
 
 element-copy-out-or-two :
     tie.Need-element-copy-out-or-two Inv-loop μ-loop Inv-loop2 μ-loop2 Inv-loop3 μ-loop3
-element-copy-out-or-two c = search needs
+element-copy-out-or-two c = in-rows _ (first-under _ (eighth c 0 refl))
 
 add-or-two : tie.Need-add-or-two Inv-loop μ-loop Inv-loop2 μ-loop2 Inv-loop3 μ-loop3
-add-or-two c = search needs
+add-or-two c = place-fits _ (eighth (c .before) 1 refl)
 
 mul-or-two-2 : tie.Need-mul-or-two-2 Inv-loop μ-loop Inv-loop2 μ-loop2 Inv-loop3 μ-loop3
-mul-or-two-2 c = search needs
+mul-or-two-2 c = six-fits _ (eighth (c .before) 1 refl)
 
 element-copy-out-or-two-2 :
     tie.Need-element-copy-out-or-two-2 Inv-loop μ-loop Inv-loop2 μ-loop2 Inv-loop3 μ-loop3
-element-copy-out-or-two-2 c = search needs
+element-copy-out-or-two-2 c = in-rows _ (eighth (c .before) 1 refl)
 
 or-two-requires : tie.Need-or-two-requires Inv-loop μ-loop Inv-loop2 μ-loop2 Inv-loop3 μ-loop3
 or-two-requires c κs = search needs
 
 add-or-two-2 : tie.Need-add-or-two-2 Inv-loop μ-loop Inv-loop2 μ-loop2 Inv-loop3 μ-loop3
-add-or-two-2 c = search needs
+add-or-two-2 c = place-fits _ (eighth (c .before .before .before) 2 refl)
 
 mul-or-two-3 : tie.Need-mul-or-two-3 Inv-loop μ-loop Inv-loop2 μ-loop2 Inv-loop3 μ-loop3
-mul-or-two-3 c = search needs
+mul-or-two-3 c = six-fits _ (eighth (c .before .before .before) 2 refl)
 
 element-copy-out-or-two-3 :
     tie.Need-element-copy-out-or-two-3 Inv-loop μ-loop Inv-loop2 μ-loop2 Inv-loop3 μ-loop3
-element-copy-out-or-two-3 c = search needs
+element-copy-out-or-two-3 c = in-rows _ (eighth (c .before .before .before) 2 refl)
 
 add-or-two-3 : tie.Need-add-or-two-3 Inv-loop μ-loop Inv-loop2 μ-loop2 Inv-loop3 μ-loop3
-add-or-two-3 c = search needs
+add-or-two-3 c = place-fits _ (eighth (c .before .before .before .before) 3 refl)
 
 mul-or-two-4 : tie.Need-mul-or-two-4 Inv-loop μ-loop Inv-loop2 μ-loop2 Inv-loop3 μ-loop3
-mul-or-two-4 c = search needs
+mul-or-two-4 c = six-fits _ (eighth (c .before .before .before .before) 3 refl)
 
 element-copy-out-or-two-4 :
     tie.Need-element-copy-out-or-two-4 Inv-loop μ-loop Inv-loop2 μ-loop2 Inv-loop3 μ-loop3
-element-copy-out-or-two-4 c = search needs
+element-copy-out-or-two-4 c = in-rows _ (eighth (c .before .before .before .before) 3 refl)
 
 or-two-requires-2 : tie.Need-or-two-requires-2 Inv-loop μ-loop Inv-loop2 μ-loop2 Inv-loop3 μ-loop3
 or-two-requires-2 c κs = search needs
 
 add-or-two-4 : tie.Need-add-or-two-4 Inv-loop μ-loop Inv-loop2 μ-loop2 Inv-loop3 μ-loop3
-add-or-two-4 c = search needs
+add-or-two-4 c = place-fits _ (eighth (c .before .before .before .before .before .before) 4 refl)
 
 mul-or-two-5 : tie.Need-mul-or-two-5 Inv-loop μ-loop Inv-loop2 μ-loop2 Inv-loop3 μ-loop3
-mul-or-two-5 c = search needs
+mul-or-two-5 c = six-fits _ (eighth (c .before .before .before .before .before .before) 4 refl)
 
 element-copy-out-or-two-5 :
     tie.Need-element-copy-out-or-two-5 Inv-loop μ-loop Inv-loop2 μ-loop2 Inv-loop3 μ-loop3
-element-copy-out-or-two-5 c = search needs
+element-copy-out-or-two-5 c = in-rows _ (eighth (c .before .before .before .before .before .before) 4 refl)
 
 add-or-two-5 : tie.Need-add-or-two-5 Inv-loop μ-loop Inv-loop2 μ-loop2 Inv-loop3 μ-loop3
-add-or-two-5 c = search needs
+add-or-two-5 c = place-fits _ (eighth (c .before .before .before .before .before .before .before) 5 refl)
 
 mul-or-two-6 : tie.Need-mul-or-two-6 Inv-loop μ-loop Inv-loop2 μ-loop2 Inv-loop3 μ-loop3
-mul-or-two-6 c = search needs
+mul-or-two-6 c = six-fits _ (eighth (c .before .before .before .before .before .before .before) 5 refl)
 
 element-copy-out-or-two-6 :
     tie.Need-element-copy-out-or-two-6 Inv-loop μ-loop Inv-loop2 μ-loop2 Inv-loop3 μ-loop3
-element-copy-out-or-two-6 c = search needs
+element-copy-out-or-two-6 c = in-rows _ (eighth (c .before .before .before .before .before .before .before) 5 refl)
 
 or-two-requires-3 : tie.Need-or-two-requires-3 Inv-loop μ-loop Inv-loop2 μ-loop2 Inv-loop3 μ-loop3
 or-two-requires-3 c κs = search needs
 
 add-or-two-6 : tie.Need-add-or-two-6 Inv-loop μ-loop Inv-loop2 μ-loop2 Inv-loop3 μ-loop3
-add-or-two-6 c = search needs
+add-or-two-6 c = place-fits _ (eighth (c .before .before .before .before .before .before .before .before .before) 6 refl)
 
 mul-or-two-7 : tie.Need-mul-or-two-7 Inv-loop μ-loop Inv-loop2 μ-loop2 Inv-loop3 μ-loop3
-mul-or-two-7 c = search needs
+mul-or-two-7 c = six-fits _ (eighth (c .before .before .before .before .before .before .before .before .before) 6 refl)
 
 element-copy-out-or-two-7 :
     tie.Need-element-copy-out-or-two-7 Inv-loop μ-loop Inv-loop2 μ-loop2 Inv-loop3 μ-loop3
-element-copy-out-or-two-7 c = search needs
+element-copy-out-or-two-7 c = in-rows _ (eighth (c .before .before .before .before .before .before .before .before .before) 6 refl)
 
 add-or-two-7 : tie.Need-add-or-two-7 Inv-loop μ-loop Inv-loop2 μ-loop2 Inv-loop3 μ-loop3
-add-or-two-7 c = search needs
+add-or-two-7 c = place-fits _ (eighth (c .before .before .before .before .before .before .before .before .before .before) 7 refl)
 
 mul-or-two-8 : tie.Need-mul-or-two-8 Inv-loop μ-loop Inv-loop2 μ-loop2 Inv-loop3 μ-loop3
-mul-or-two-8 c = search needs
+mul-or-two-8 c = six-fits _ (eighth (c .before .before .before .before .before .before .before .before .before .before) 7 refl)
 
 element-copy-out-or-two-8 :
     tie.Need-element-copy-out-or-two-8 Inv-loop μ-loop Inv-loop2 μ-loop2 Inv-loop3 μ-loop3
-element-copy-out-or-two-8 c = search needs
+element-copy-out-or-two-8 c = in-rows _ (eighth (c .before .before .before .before .before .before .before .before .before .before) 7 refl)
 
 or-two-requires-4 : tie.Need-or-two-requires-4 Inv-loop μ-loop Inv-loop2 μ-loop2 Inv-loop3 μ-loop3
 or-two-requires-4 c κs = search needs
 
 add-i-2 : tie.Need-add-i-2 Inv-loop μ-loop Inv-loop2 μ-loop2 Inv-loop3 μ-loop3
-add-i-2 c = search needs
+add-i-2 c = eight-fits _ (c .before .before .before .before .before .before .before .before .before .before .before .before .loop2-test .taken)
 
 loop2-less : tie.Need-loop2-less Inv-loop μ-loop Inv-loop2 μ-loop2 Inv-loop3 μ-loop3
-loop2-less c = search needs
+loop2-less c = eight-less (c .before .before .before .before .before .before .before .before .before .before .before .before .before .loop2 .i) (c .before .before .before .before .before .before .before .before .before .before .before .before .loop2-test .taken)
 
 loop2-again : tie.Need-loop2-again Inv-loop μ-loop Inv-loop2 μ-loop2 Inv-loop3 μ-loop3
 loop2-again c =
@@ -283,7 +294,7 @@ loop2-again c =
     let d = o1 .before .before .before in
     let v = d .before .loop2 in
     let s = start (d .before .before .before) in (
-      omega arith,
+      eight-up (v .i) (d .loop2-test .taken),
       v .inv .1
           ∙ unused-eight (s .args .t1 .rows) (v .rest) _ _ _ _ (v .i) (o1 .or-two .ensures) (o2 .or-two2 .ensures) (o3 .or-two3 .ensures) (c .or-two4 .ensures) (omega (arith, sized s)),
     )
@@ -292,27 +303,27 @@ loop3-holds : tie.Need-loop3-holds Inv-loop μ-loop Inv-loop2 μ-loop2 Inv-loop3
 loop3-holds c = (c .before .loop2 .inv .0, c .before .loop2 .inv .1)
 
 mul-or-row : tie.Need-mul-or-row Inv-loop μ-loop Inv-loop2 μ-loop2 Inv-loop3 μ-loop3
-mul-or-row c = search needs
+mul-or-row c = six-fits _ (rest-place c)
 
 element-copy-out-or-row :
     tie.Need-element-copy-out-or-row Inv-loop μ-loop Inv-loop2 μ-loop2 Inv-loop3 μ-loop3
-element-copy-out-or-row c = search needs
+element-copy-out-or-row c = in-rows _ (rest-place c)
 
 or-row-requires : tie.Need-or-row-requires Inv-loop μ-loop Inv-loop2 μ-loop2 Inv-loop3 μ-loop3
 or-row-requires c κs = search needs
 
 add-i-3 : tie.Need-add-i-3 Inv-loop μ-loop Inv-loop2 μ-loop2 Inv-loop3 μ-loop3
-add-i-3 c = search needs
+add-i-3 c = next-fits _ (rest-place (c .before .before))
 
 loop3-less : tie.Need-loop3-less Inv-loop μ-loop Inv-loop2 μ-loop2 Inv-loop3 μ-loop3
-loop3-less c = search needs
+loop3-less c = turn-less (c .before .before .before .loop3 .i) 64 (c .before .before .loop3-test .taken)
 
 loop3-again : tie.Need-loop3-again Inv-loop μ-loop Inv-loop2 μ-loop2 Inv-loop3 μ-loop3
 loop3-again c =
     let d = c .before .before in
     let v = d .before .loop3 in
     let s = start (d .before .before .before .before .before) in
-    (omega arith, v .inv .1 ∙ rw (c .or-row .ensures) (unused-next (s .args .t1 .rows) (v .rest) (v .i) (v .i + 1) refl (omega (arith, sized s))))
+    (next-up (v .i) 64 (d .loop3-test .taken), v .inv .1 ∙ rw (c .or-row .ensures) (unused-next (s .args .t1 .rows) (v .rest) (v .i) (v .i + 1) refl (omega (arith, sized s))))
 
 to-rise-requires-2 :
     tie.Need-to-rise-requires-2 Inv-loop μ-loop Inv-loop2 μ-loop2 Inv-loop3 μ-loop3

@@ -1,0 +1,10 @@
+pub mod Sets
+pub mod Image
+pub mod Join
+pub mod Pass
+pub mod Pieces
+pub mod Cutting
+pub mod Turns
+pub mod Held
+pub mod Carrying
+pub mod Ready

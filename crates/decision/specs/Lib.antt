@@ -1,0 +1,3 @@
+pub mod Decision
+pub mod Verdict
+pub mod Stages

@@ -1,0 +1,4 @@
+pub mod Numbers
+pub mod Bodies
+pub mod Writing
+pub mod Keys
