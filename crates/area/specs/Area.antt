@@ -2,34 +2,19 @@
 use Prim.Native.Nat.{ℕ, zero, suc, pred, _+_}
 use mathlib.Core.List.{List, [], _∷_, _++_}
 use mathlib.Core.Path.{_≡_}
-use mathlib.Core.Bool.{Bool, true, false, cond}
+use mathlib.Core.Bool.{Bool}
 use mathlib.Core.Option.{Option, none, some}
-use lib.ListN.{length, getD, take, drop}
-use lib.Dec.{ltb, leb, eqb}
-use Rattle.area.specs.declared.Kind.{Kind}
-use Rattle.area.specs.declared.Kind.the-variants.{End, NoOperation, Basic, Extended, Cipso, Other}
-use Rattle.area.specs.declared.Size.{Size}
-use Rattle.area.specs.declared.Size.the-variants.{Whole, Bad}
-use Rattle.area.specs.declared.Place.{Place}
-use Rattle.area.specs.declared.Place.the-variants.{Nowhere, At}
-use Rattle.area.specs.declared.Walk.{Walk}
-use Rattle.area.specs.declared.Walk.the-variants.{Sound, Refused}
-
--- the walk matches on the option type
-abbrev pub kindOf : ℕ → Kind
-kindOf t =
-    cond (eqb t 0) End
-    (cond (eqb t 1) NoOperation
-    (cond (eqb t 130) Basic
-    (cond (eqb t 133) Extended
-    (cond (eqb t 134) Cipso Other))))
-
--- the length of the option that the list starts with: bad where its length octet is missing, under 2, or runs past the area
-abbrev pub sizeOf : List ℕ → Size
-sizeOf l =
-    cond (ltb (length l) 2) Bad
-    (cond (ltb (getD l 1 0) 2) Bad
-    (cond (leb (getD l 1 0) (length l)) (Whole (getD l 1 0)) Bad))
+use lib.ListN.{getD, take, drop}
+use Rattle.kinds.specs.declared.Kind.{Kind}
+use Rattle.kinds.specs.declared.Kind.the-variants.{End, NoOperation, Basic, Extended, Cipso, Other}
+use Rattle.kinds.specs.declared.Size.{Size}
+use Rattle.kinds.specs.declared.Size.the-variants.{Whole, Bad}
+use Rattle.turn.specs.declared.Place.{Place}
+use Rattle.turn.specs.declared.Place.the-variants.{Nowhere, At}
+use Rattle.turn.specs.declared.Walk.{Walk}
+use Rattle.turn.specs.declared.Walk.the-variants.{Sound, Refused}
+use Rattle.kinds.specs.Kinds.{kindOf, sizeOf}
+use Rattle.turn.specs.Turn.{judge}
 
 -- an option that the walk meets: its type, the octet at which it begins, and its length, bad where its length octet is
 pub record Met : Type 0 where
@@ -66,27 +51,6 @@ metFrom (t ∷ r) zero at =
 -- the options that the walk meets, in order; the kept options (`leaving`) are among them
 unfoldable pub metOf : List ℕ → List Met
 metOf area = metFrom area 0 0
-
--- a second option 134 is refused
-abbrev pub judgeLabel : ℕ → Place → Place → Walk
-judgeLabel at Nowhere basic = Sound (At at) basic
-judgeLabel at (At p) basic = Refused 5 at
-
--- an option 130 is refused where the arriving port does not read it; where it does, a second one is
-abbrev pub judgeBasic : Bool → ℕ → Place → Place → Walk
-judgeBasic false at label basic = Refused 4 at
-judgeBasic true at label Nowhere = Sound label (At at)
-judgeBasic true at label (At p) = Refused 5 at
-
--- one option at an octet, with the places of the options 134 and 130 that were met before: 3, then 4, then 5
-abbrev pub judge : Bool → Kind → Size → ℕ → Place → Place → Walk
-judge on k Bad at label basic = Refused 3 at
-judge on End (Whole n) at label basic = Sound label basic
-judge on NoOperation (Whole n) at label basic = Sound label basic
-judge on Basic (Whole n) at label basic = judgeBasic on at label basic
-judge on Extended (Whole n) at label basic = Refused 4 at
-judge on Cipso (Whole n) at label basic = judgeLabel at label basic
-judge on Other (Whole n) at label basic = Sound label basic
 
 -- the earliest option decides
 abbrev pub judged : Bool → List Met → Place → Place → Walk

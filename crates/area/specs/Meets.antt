@@ -3,7 +3,8 @@ use Prim.Native.Nat.{ℕ, _<_}
 use mathlib.Core.List.{List, [], _∷_}
 use mathlib.Core.Path.{_≡_}
 use lib.ListN.{length, getD, drop}
-use Rattle.area.specs.Area.{kindOf, sizeOf, Met, spanOf, metOf}
+use Rattle.kinds.specs.Kinds.{kindOf, sizeOf}
+use Rattle.area.specs.Area.{Met, spanOf, metOf}
 
 -- and its type and length are those of the octets there
 abbrev pub StandIn : List ℕ → List Met → Type 0

@@ -22,17 +22,18 @@ use Rattle.reading.specs.declared.KeyReading.{KeyReading}
 use Rattle.reading.specs.Reading.{framed, readingFor}
 use Rattle.reading.specs.Keys.{keyed, labelled, keyReadingFor, keysAfter, ReadsKeys}
 use Rattle.reading.proofs.Theorems.{reads}
-use Rattle.area.specs.declared.Place.{Place}
-use Rattle.area.specs.declared.Place.the-variants.{Nowhere, At}
-use Rattle.area.specs.declared.Walk.{Walk}
-use Rattle.area.specs.declared.Walk.the-variants.{Sound, Refused}
-use Rattle.area.specs.declared.Kind.{Kind}
-use Rattle.area.specs.declared.Kind.the-variants.{Cipso}
+use Rattle.turn.specs.declared.Place.{Place}
+use Rattle.turn.specs.declared.Place.the-variants.{Nowhere, At}
+use Rattle.turn.specs.declared.Walk.{Walk}
+use Rattle.turn.specs.declared.Walk.the-variants.{Sound, Refused}
+use Rattle.kinds.specs.declared.Kind.{Kind}
+use Rattle.kinds.specs.declared.Kind.the-variants.{Cipso}
 use Rattle.area.specs.Area.{walkOf, octetsAt, WholeAt}
-use Rattle.area.proofs.Laws.{area-refused, off-nowhere, whole-in, whole-size, cipso-octet}
+use Rattle.kinds.proofs.Laws.{whole-size, cipso-octet}
+use Rattle.area.proofs.Laws.{area-refused, off-nowhere, whole-in}
 use Rattle.basic.specs.declared.Way.{Way}
-use Rattle.basic.specs.declared.BasicReading.{BasicReading}
-use Rattle.basic.specs.Alone.{basicReading}
+use Rattle.basic_option.specs.declared.BasicReading.{BasicReading}
+use Rattle.basic_option.specs.Alone.{basicReading}
 use Rattle.basic.specs.Settings.{passesWay}
 use Rattle.port.specs.declared.Port.{Port}
 use Rattle.port.specs.Port.{portSound}

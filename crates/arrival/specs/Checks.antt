@@ -9,13 +9,13 @@ use lib.ListN.{length, getD, take, drop}
 use Rattle.label.specs.declared.Label.{Label}
 use Rattle.label.specs.Label.{inRange}
 use Rattle.reading.specs.Reading.{readingFor}
-use Rattle.area.specs.declared.Place.{Place}
-use Rattle.area.specs.declared.Place.the-variants.{Nowhere, At}
-use Rattle.area.specs.declared.Walk.{Walk}
-use Rattle.area.specs.declared.Walk.the-variants.{Sound, Refused}
+use Rattle.turn.specs.declared.Place.{Place}
+use Rattle.turn.specs.declared.Place.the-variants.{Nowhere, At}
+use Rattle.turn.specs.declared.Walk.{Walk}
+use Rattle.turn.specs.declared.Walk.the-variants.{Sound, Refused}
 use Rattle.area.specs.Area.{walkOf, octetsAt}
 use Rattle.basic.specs.declared.Way.{Way}
-use Rattle.basic.specs.Alone.{basicReading}
+use Rattle.basic_option.specs.Alone.{basicReading}
 use Rattle.basic.specs.Settings.{passesWay}
 use Rattle.port.specs.declared.Port.{Port}
 use Rattle.port.specs.declared.Host.{Host}

@@ -10,11 +10,11 @@ use Rattle.label.specs.declared.Label.{Label}
 use Rattle.label.specs.Label.{used, inRange}
 use Rattle.keys.specs.Keys.{keyRuns}
 use Rattle.keys.specs.Range.{answered, lookOf, runsBetween}
-use Rattle.area.specs.declared.Place.{Place}
+use Rattle.turn.specs.declared.Place.{Place}
 use Rattle.area.specs.Area.{octetsAt}
-use Rattle.basic.specs.declared.BasicReading.{BasicReading}
+use Rattle.basic_option.specs.declared.BasicReading.{BasicReading}
 use Rattle.basic.specs.declared.Way.{Way}
-use Rattle.basic.specs.Alone.{basicBad, basicReading}
+use Rattle.basic_option.specs.Alone.{basicBad, basicReading}
 use Rattle.port.specs.declared.Port.{Port}
 use Rattle.port.specs.declared.Host.{Host}
 use Rattle.port.specs.Port.{hostSound}

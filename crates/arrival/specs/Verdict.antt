@@ -9,10 +9,10 @@ use lib.ListN.{length, take}
 use Rattle.label.specs.Label.{used}
 use Rattle.keys.specs.Keys.{keyRuns, withKeys}
 use Rattle.reading.specs.Keys.{keysAfter}
-use Rattle.area.specs.declared.Place.{Place}
-use Rattle.area.specs.declared.Place.the-variants.{Nowhere, At}
-use Rattle.area.specs.declared.Walk.{Walk}
-use Rattle.area.specs.declared.Walk.the-variants.{Sound, Refused}
+use Rattle.turn.specs.declared.Place.{Place}
+use Rattle.turn.specs.declared.Place.the-variants.{Nowhere, At}
+use Rattle.turn.specs.declared.Walk.{Walk}
+use Rattle.turn.specs.declared.Walk.the-variants.{Sound, Refused}
 use Rattle.port.specs.declared.Port.{Port}
 use Rattle.port.specs.Port.{portSound}
 use Rattle.decision.specs.declared.Verdict.{Verdict}

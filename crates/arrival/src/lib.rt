@@ -1,12 +1,10 @@
 // What both jobs share, checks 1 to 14 and 19 to 21 of a datagram that arrives at a port, and deliver (document 01, "The order of checks"; document
 // 02, Wish 3).
-use area::Place;
-use area::Walk;
 use area::walk_area;
-use basic::BasicReading;
 use basic::Way;
 use basic::passes_way;
-use basic::read_basic;
+use basic_option::BasicReading;
+use basic_option::read_basic;
 use decision::Decision;
 use decision::Facts;
 use decision::Verdict;
@@ -23,15 +21,17 @@ use port::Port;
 use port::host_sound;
 use port::port_sound;
 use reading::read_keys;
+use turn::Place;
+use turn::Walk;
 ghost use mathlib.Core.Path.{_≡_};
 ghost use mathlib.Core.Bool.{true, cond, _||_, not};
 ghost use Prim.Native.Nat.{_%_, _≤_};
 ghost use lib.ListN.{length};
 ghost use lib.Dec.{ltb, eqb};
 ghost use Rattle.area.specs.Area.{walkOf, octetsAt, placedIn, WholeAt};
-ghost use Rattle.area.specs.declared.Kind.the-variants.{Basic, Cipso};
-ghost use Rattle.area.specs.declared.Place.the-variants.{At};
-ghost use Rattle.basic.specs.Alone.{basicReading};
+ghost use Rattle.kinds.specs.declared.Kind.the-variants.{Basic, Cipso};
+ghost use Rattle.turn.specs.declared.Place.the-variants.{At};
+ghost use Rattle.basic_option.specs.Alone.{basicReading};
 ghost use Rattle.port.specs.Port.{portSound};
 ghost use Rattle.arrival.specs.Decision.{deliverOf};
 ghost use Rattle.arrival.specs.Verdict.{Arrives};

@@ -1,22 +1,20 @@
 -- Laws of the settings: one more place of a set, as a loop meets it.
-use Prim.Native.Nat.{ℕ, zero, suc, _+_, _≤_, _<_}
+use Prim.Native.Nat.{ℕ, zero, suc, _+_, _<_}
 use mathlib.Core.Path.{_≡_, refl, sym, _∙_, ap}
 use mathlib.Core.Bool.{Bool, true, false, not, _&&_, _||_}
 use mathlib.Core.List.{List, [], _∷_}
 use mathlib.Core.Logic.{⊎-elim}
 use native.Mathlib.Omega.{arith}
-use lib.Dec.{leb, ltb, eqb}
+use lib.Dec.{eqb}
 use lib.Bits.{bitOr, or-add-and, and-le-l, and-le-r}
 use lib.ListN.{length, getD, take, drop, replicate, length-take}
-use borrow.Author.Tests.{ltb-true, leb-true, le-leb, eqb-true, eq-eqb, lt-ltb, not-true}
+use borrow.Author.Tests.{eqb-true, eq-eqb, not-true}
 use lib.Seq.{getD-take}
 use Rattle.label.proofs.Bools.{never, and-left, and-right, and-both, or-cases, or-true-right, same-yes}
 use Rattle.label.proofs.Steps.{next}
-use Rattle.basic.specs.Levels.{isLevel, rankOf}
 use Rattle.basic.specs.declared.Way.{Way}
 use Rattle.basic.specs.declared.Basic.{Basic}
-use Rattle.basic.specs.Settings.{noWay, basicOff, atMost, unused, waySound, wayZero, basicSound, isOff, among}
-use Rattle.basic.proofs.Levels.{level-is}
+use Rattle.basic.specs.Settings.{noWay, basicOff, unused, waySound, wayZero, basicSound, isOff, among}
 
 -- x | y is 0 exactly when both are
 or-zero : (x y : ℕ) → eqb (bitOr x y) 0 ≡ (eqb x 0 && eqb y 0)
@@ -64,19 +62,6 @@ pub among-said : (fs : List ℕ) (f k : ℕ) → k < length fs → getD fs k 0 �
 among-said [] f k h e = absurd (omega arith)
 among-said (x ∷ xs) f zero h e = rw (eq-eqb x f e)
 among-said (x ∷ xs) f (suc k) h e = or-true-right (eqb x f) (among-said xs f k (omega arith) e)
-
--- the code's comparing of ranks
-pub at-most-is : (a b : ℕ) → atMost a b ≡ (leb (rankOf a) (rankOf b) && ltb (rankOf b) 4)
-unfolding atMost
-at-most-is a b =
-    same-yes (isLevel a && (isLevel b && leb (rankOf a) (rankOf b))) (leb (rankOf a) (rankOf b) && ltb (rankOf b) 4)
-    (λ e.
-    let r = and-right (isLevel a) _ e in
-    and-both (and-right (isLevel b) _ r) (sym (level-is b) ∙ and-left (isLevel b) _ r))
-    (λ e.
-    let l : rankOf a ≤ rankOf b = leb-true _ _ (and-left (leb (rankOf a) (rankOf b)) _ e) in
-    let m : rankOf b < 4 = ltb-true _ _ (and-right (leb (rankOf a) (rankOf b)) _ e) in
-    and-both (level-is a ∙ lt-ltb (rankOf a) 4 (omega arith)) (and-both (level-is b ∙ lt-ltb (rankOf b) 4 m) (le-leb _ _ l)))
 
 -- settings that are switched off and all 0 are one value
 unused-zeros : (fs : List ℕ) → unused fs ≡ true → fs ≡ replicate (length fs) 0

@@ -4,9 +4,9 @@ use mathlib.Core.Bool.{Bool, true, false, cond, not, _&&_, _||_}
 use mathlib.Core.List.{List, [], _∷_}
 use lib.ListN.{take, drop, replicate}
 use lib.Dec.{leb, eqb}
+use Rattle.classification.specs.Levels.{atMost}
 use Rattle.basic.specs.declared.Way.{Way}
 use Rattle.basic.specs.declared.Basic.{Basic}
-use Rattle.basic.specs.Levels.{isLevel, rankOf}
 
 -- switched off, as document 01 had the ports: every field is 0
 abbrev pub noWay : Way
@@ -14,10 +14,6 @@ noWay = record { lowest = 0; highest = 0; count = 0; flags = replicate 256 0 }
 
 abbrev pub basicOff : Basic
 basicOff = record { on = false; receiving = noWay; sending = noWay }
-
--- both are of the four, and the first has no higher rank
-unfoldable pub atMost : ℕ → ℕ → Bool
-atMost a b = isLevel a && (isLevel b && leb (rankOf a) (rankOf b))
 
 -- every place is 0
 abbrev pub unused : List ℕ → Bool

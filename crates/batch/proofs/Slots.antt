@@ -11,9 +11,9 @@ use borrow.Author.Tests.{leb-true, leb-false}
 use lib.ListN.{length, getD, take, drop, length-drop, length-append, take-append-drop, drop-of-length-le}
 use lib.Seq.{take-all, take-at, drop-at, drop-drop, drop-cons, length-take-le}
 use Rattle.decision.specs.declared.Decision.{Decision}
-use Rattle.gateway.specs.Crossing.{Forwarding}
-use Rattle.gateway.specs.Forward.{forwardOf, outputOf}
-use Rattle.gateway.specs.Stages.{forwardingOf}
+use Rattle.forwarding.specs.Crossing.{Forwarding}
+use Rattle.forwarding.specs.Forward.{forwardOf, outputOf}
+use Rattle.forwarding.specs.Forward.{forwardingOf}
 use Rattle.port.specs.declared.Port.{Port}
 use Rattle.filetable.specs.declared.Renumbering.{Renumbering}
 use Rattle.filetable.specs.TableFormat.{levelsOf}

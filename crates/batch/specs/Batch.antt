@@ -12,9 +12,9 @@ use Rattle.fileset.specs.declared.Set.{Set}
 use Rattle.fileset.specs.Set.{noPort}
 use Rattle.decision.specs.declared.Decision.{Decision}
 use Rattle.decision.specs.declared.Facts.{Facts}
-use Rattle.gateway.specs.Crossing.{Forwarding}
-use Rattle.gateway.specs.Stages.{forwardingOf}
-use Rattle.gateway.specs.Forward.{forwardOf, outputOf}
+use Rattle.forwarding.specs.Crossing.{Forwarding}
+use Rattle.forwarding.specs.Forward.{forwardingOf}
+use Rattle.forwarding.specs.Forward.{forwardOf, outputOf}
 
 -- 1. The records that decide.
 

@@ -5,7 +5,7 @@ use Prim.Native.Nat.{ℕ}
 use Rattle.fileset.specs.declared.Set.{Set}
 use Rattle.fileset.specs.Set.{noPort}
 use Rattle.file.specs.File.{fileReading}
-use Rattle.gateway.specs.Forward.{forwardOf}
+use Rattle.forwarding.specs.Forward.{forwardOf}
 use Rattle.batch.specs.Batch.{portAt, gatewayOf, forwardingIn}
 
 -- a refused file has no port of any number

@@ -18,17 +18,19 @@ use Rattle.label.proofs.Labels.{formed, used-length}
 use Rattle.keys.proofs.Keys.{keys-runs}
 use Rattle.table.specs.declared.Row.{Row}
 use Rattle.table.specs.declared.Table.{Table}
-use Rattle.table.specs.declared.Partner.{Partner}
-use Rattle.table.specs.declared.Partner.the-variants.{Level, Missing}
+use Rattle.levels.specs.declared.Partner.{Partner}
+use Rattle.levels.specs.declared.Partner.the-variants.{Level, Missing}
 use Rattle.table.specs.Table.{noRow, usedRows, tableSound, rising, targetsApart}
-use Rattle.table.specs.Numbers.{partnerOf, known, levelOr0, numbered, inImage}
+use Rattle.levels.specs.Levels.{partnerOf, known, levelOr0}
+use Rattle.table.specs.Numbers.{numbered, inImage}
 use Rattle.table.specs.Order.{rowOrder, rowAt, inOrder}
 use Rattle.table.proofs.Order.{order-turn, order-length}
 use Rattle.table.proofs.Sound.{sound, sound-rows}
 use Rattle.carry.specs.declared.Carried.{Carried}
 use Rattle.carry.specs.Sets.{runsOf}
 use Rattle.carry.specs.Carry.{imageOf, labelRuns, notCarried, carriedTo, carriedKeys, carryOf}
-use Rattle.carry.specs.Stages.{joinFrom, joinAll, joinOnto, stretched, rowPieces, pieces, Cut, partsOf, Inside, Joined}
+use Rattle.carry.specs.Stages.{joinFrom, joinAll, joinOnto, rowPieces, pieces, Cut, partsOf, Inside, Joined}
+use Rattle.ranges.specs.Ranges.{stretched}
 use Rattle.carry.proofs.Sets.{set-spaced}
 use Rattle.carry.proofs.Pass.{numbered-yes}
 use Rattle.carry.proofs.Join.{onto-all}

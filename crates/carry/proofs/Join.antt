@@ -13,7 +13,8 @@ use Rattle.label.proofs.Bools.{and-left, and-right}
 use Rattle.order.specs.Order.{Sorted, all}
 use Rattle.order.proofs.Merge.{sorted-lower}
 use Rattle.keys.specs.Keys.{keyRun, keyRuns}
-use Rattle.carry.specs.Stages.{stretched, joinFrom, joinAll, pushKey, joinOnto, Key}
+use Rattle.ranges.specs.Ranges.{stretched}
+use Rattle.carry.specs.Stages.{joinFrom, joinAll, pushKey, joinOnto, Key}
 
 pub record IsKey (k : ℕ) : Type 0 where
   pub ordered : k / 65536 ≤ k % 65536

@@ -7,7 +7,8 @@ use lib.ListN.{length, take, drop, getD, set}
 use lib.Seq.{take-suc, drop-drop}
 use borrow.Author.Tests.{le-leb, lt-leb}
 use Rattle.order.proofs.Merge.{put}
-use Rattle.carry.specs.Stages.{stretched, pushKey}
+use Rattle.ranges.specs.Ranges.{stretched}
+use Rattle.carry.specs.Stages.{pushKey}
 use Rattle.carry.proofs.Join.{push-last}
 
 -- A range is put behind the others, or joined to the last.

@@ -9,9 +9,10 @@ use Rattle.label.specs.declared.Run.{Run}
 use Rattle.label.specs.Runs.{spaced}
 use Rattle.keys.specs.Keys.{runKey}
 use Rattle.table.specs.declared.Table.{Table}
-use Rattle.table.specs.declared.Partner.{Partner}
+use Rattle.levels.specs.declared.Partner.{Partner}
 use Rattle.table.specs.Table.{usedRows, tableSound}
-use Rattle.table.specs.Numbers.{partnerOf, known, levelOr0, numbered, inImage}
+use Rattle.levels.specs.Levels.{partnerOf, known, levelOr0}
+use Rattle.table.specs.Numbers.{numbered, inImage}
 use Rattle.carry.specs.declared.Carried.{Carried}
 use Rattle.carry.specs.Sets.{runsOf}
 

@@ -1,19 +1,23 @@
 // A level and the runs of a label carried to the far domain: the level's partner, and the numbers that the rows of a table give to the categories.
 ghost use mathlib.Core.Path.{_≡_};
 ghost use mathlib.Core.Bool.{true};
-ghost use Prim.Native.Nat.{_+_, _≤_, _<_, min, max};
+ghost use Prim.Native.Nat.{_+_, _≤_, _<_, max};
 ghost use lib.ListN.{length, take, drop};
 ghost use Rattle.label.specs.Runs.{spaced};
 ghost use Rattle.keys.specs.Keys.{keyRuns};
 ghost use Rattle.table.specs.Table.{usedRows, targetEnd, rising};
-ghost use Rattle.table.specs.Numbers.{partnerOf, numbered};
+ghost use Rattle.levels.specs.Levels.{partnerOf};
+ghost use Rattle.table.specs.Numbers.{numbered};
 ghost use Rattle.carry.specs.Carry.{imageOf, labelRuns, notCarried, carriedTo, carriedKeys, carryOf};
-ghost use Rattle.carry.specs.Stages.{stretched, pushKey, joinOnto, pieceKey, Ready, Cut, partsOf, Inside, Joined};
+ghost use Rattle.carry.specs.Stages.{pushKey, joinOnto, pieceKey, Ready, Cut, partsOf, Inside, Joined};
 use label::Label;
-use table::Partner;
+use levels::Partner;
+use levels::partner_of;
+use lists::lesser;
+use ranges::reaches;
+use ranges::stretch;
 use table::Row;
 use table::Table;
-use table::partner_of;
 use table::table_order;
 
 // A refusal's number, or 0 with the level's partner and how many runs were written down.
@@ -45,7 +49,7 @@ pub fn carry(
     if !(sound & formed & (MOST_RUNS <= far.len())) {
         return not_carried(2);
     }
-    let m = fewer(n, keys.len());
+    let m = lesser(n, keys.len());
     carry_checked(keys, m, level, table, levels, &order, far)
 }
 
@@ -64,7 +68,7 @@ fn not_carried(number: u8) -> Carried
 fn keys_formed(keys: &[u32], n: usize) -> bool
     ensures { λ r. ⌜ r ≡ labelRuns (keyRuns (take n (now (keys .entry)))) ⌝ }
 {
-    let m = fewer(n, keys.len());
+    let m = lesser(n, keys.len());
     if Label::MAX_RUNS < m {
         return false;
     }
@@ -80,15 +84,6 @@ fn keys_formed(keys: &[u32], n: usize) -> bool
         i += 1;
     }
     good & (floor <= 65536)
-}
-
-fn fewer(a: usize, b: usize) -> usize
-    ensures { λ r. ⌜ r ≡ min a b ⌝ }
-{
-    if b < a {
-        return b;
-    }
-    a
 }
 
 // The same for what was checked, with the rows in order: gathered row by row in the order of their targets, nothing is sorted.
@@ -249,22 +244,10 @@ fn push_key(keys: &mut [u32], w: usize, x: u32) -> usize
         return 1;
     }
     let last = keys[w - 1];
-    if x / 65536 <= last % 65536 + 1 {
+    if reaches(last, x) {
         keys[w - 1] = stretch(last, x);
         return w;
     }
     keys[w] = x;
     w + 1
-}
-
-// The key's range goes on to the end of the other, where that is higher.
-fn stretch(k: u32, x: u32) -> u32
-    ensures { λ r. ⌜ r ≡ stretched k x ⌝ }
-{
-    let hi = k % 65536;
-    let end = x % 65536;
-    if hi < end {
-        return k - hi + end;
-    }
-    k
 }

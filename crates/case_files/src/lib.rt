@@ -10,10 +10,10 @@ use case_fields::take_wide_port;
 use case_fields::take_wide_table;
 use case_lines::put_broken;
 use case_lines::put_part;
+use case_routes::pairs_of;
 use file::read_file;
 use fileset::Set;
 use fileset::empty_set;
-use filetable::LevelPair;
 use filetable::Renumbering;
 use filewrite::Written;
 use filewrite::write_file;
@@ -158,18 +158,6 @@ fn take_tables(case: &[u8], taken: TakenSet) -> TakenSet {
         set: set,
         next: next,
     }
-}
-
-// Level pairs as a file's set holds them.
-pub fn pairs_of(levels: [[u8; 2]; 16]) -> [LevelPair; 16] {
-    let mut pairs = [LevelPair { levels: [0u8; 2] }; 16];
-    let mut i: usize = 0;
-    while i < 16 {
-        let pair = levels[i];
-        pairs[i] = LevelPair { levels: pair };
-        i += 1;
-    }
-    pairs
 }
 
 pub fn ask_write(case: &[u8], at: usize, out: &mut [u8], n: usize) -> usize {

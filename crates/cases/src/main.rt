@@ -5,7 +5,6 @@
 ghost use Prim.Native.Nat.{_≤_};
 ghost use lib.ListN.{length};
 
-mod decision_entries;
 mod entry;
 mod routing_entries;
 

@@ -19,10 +19,11 @@ use Rattle.forms.specs.Spelled.{lacking}
 use Rattle.spelling.specs.Spelling.{spellingNumber, spellingAnswer, spellingOut}
 use Rattle.spelling.proofs.Answers.{answer-refused, out-refused}
 use Rattle.table.specs.declared.Table.{Table}
-use Rattle.table.specs.declared.Partner.{Partner}
-use Rattle.table.specs.declared.Partner.the-variants.{Level, Missing}
+use Rattle.levels.specs.declared.Partner.{Partner}
+use Rattle.levels.specs.declared.Partner.the-variants.{Level, Missing}
 use Rattle.table.specs.Table.{usedRows, tableSound}
-use Rattle.table.specs.Numbers.{partnerOf, known, numbered}
+use Rattle.levels.specs.Levels.{partnerOf, known}
+use Rattle.table.specs.Numbers.{numbered}
 use Rattle.renumber.specs.Renumber as renumbers
 use Rattle.renumber.specs.Renumber.{imageRuns, whenNumbered, renumberedOf}
 use Rattle.demands.specs.First.{NoneOf}

@@ -7,8 +7,8 @@ use Rattle.arrival.specs.Checks.{firstOf}
 use Rattle.arrival.specs.Decision.{deliverChecks}
 use Rattle.arrival.proofs.First.{first-append, none-first}
 use Rattle.arrival.proofs.Deliveries.{deliver-refused}
-use Rattle.gateway.specs.Forward.{forwardChecks}
-use Rattle.gateway.proofs.Forwards.{forward-refused}
+use Rattle.forwarding.specs.Forward.{forwardChecks}
+use Rattle.forwarding.proofs.Forwards.{forward-refused}
 use Rattle.demands.specs.Demands.{FirstIs, Demand1}
 
 pub first-is : (cs : List (Option Refusal)) (x : Refusal) → FirstIs cs x → firstOf cs ≡ some x

@@ -16,14 +16,14 @@ use Rattle.option.specs.Option.{domainOf, tagOf}
 use Rattle.reading.specs.Reading.{Check, check, notRead, categoriesIn, badPlace, tagChecks, labelIn, readingBy, readingFor}
 use Rattle.reading.specs.Reading as reading
 use Rattle.reading.proofs.Checks.{for-port, stops7}
-use Rattle.area.specs.declared.Place.{Place}
-use Rattle.area.specs.declared.Place.the-variants.{Nowhere, At}
-use Rattle.area.specs.declared.Walk.{Walk}
-use Rattle.area.specs.declared.Walk.the-variants.{Sound, Refused}
+use Rattle.turn.specs.declared.Place.{Place}
+use Rattle.turn.specs.declared.Place.the-variants.{Nowhere, At}
+use Rattle.turn.specs.declared.Walk.{Walk}
+use Rattle.turn.specs.declared.Walk.the-variants.{Sound, Refused}
 use Rattle.area.specs.Area.{walkOf}
-use Rattle.area.specs.declared.Kind.the-variants.{Basic}
+use Rattle.kinds.specs.declared.Kind.the-variants.{Basic}
 use Rattle.area.proofs.Laws.{area-refused, sound-placed}
-use Rattle.basic.specs.Alone.{basicReading}
+use Rattle.basic_option.specs.Alone.{basicReading}
 use Rattle.leaving.specs.Kept.{keptOf}
 use Rattle.port.specs.declared.Port.{Port}
 use Rattle.port.specs.Port.{portSound, hostSound, lowestOut, highestOut}
@@ -32,9 +32,9 @@ use Rattle.decision.specs.Decision.{Refusal, silenced, decided}
 use Rattle.arrival.specs.Checks.{silent, faulty, barred, when, firstOf, badArea, walkAt, walkRefusal, walkCheck, placeIn, basicIn, optionAt, requiredBy, requiredCheck, optionBy, optionCheck, badBasicBy, badBasicCheck, arrivingBasic, missingBasicBy, missingBasicCheck, basicPasses, basicRangeCheck, arrivingLabel, rangeCheck, Delivery, deliverySizes, deliveryRecords, hostCheck}
 use Rattle.arrival.specs.Decision.{deliverChecks, deliverOf}
 use Rattle.arrival.proofs.Arrival.{placed-framed, whole-inside}
-use Rattle.gateway.specs.Crossing.{noRoom, Forwarding, sizes, records, leavingBasicCheck, crossing, stays, hasNumbers, numberCheck, leavingLevel, leavingRuns, leavingCheck, leavingOption, spellingCheck}
-use Rattle.gateway.specs.Forward.{forwardChecks, forwardOf}
-use Rattle.gateway.proofs.Forwards.{recordsTest}
+use Rattle.forwarding.specs.Crossing.{noRoom, Forwarding, sizes, records, leavingBasicCheck, crossing, stays, hasNumbers, numberCheck, leavingLevel, leavingRuns, leavingCheck, leavingOption, spellingCheck}
+use Rattle.forwarding.specs.Forward.{forwardChecks, forwardOf}
+use Rattle.forwarding.proofs.Forwards.{recordsTest}
 use Rattle.demands.specs.Guards.{PointsInto}
 
 -- Reading points into its option.

@@ -22,16 +22,17 @@ use Rattle.reading.proofs.Theorems.{reads}
 use Rattle.area.specs.Area.{metFrom, metOf, walkOf}
 use Rattle.leaving.specs.Kept.{keptOf}
 use Rattle.basic.specs.Settings.{wayZero, basicSound}
-use Rattle.area.specs.declared.Place.the-variants.{Nowhere}
+use Rattle.turn.specs.declared.Place.the-variants.{Nowhere}
 use Rattle.port.specs.Port.{rangeSound, assignedSound, defaultSound, portSound}
 use Rattle.table.specs.Table as tables
-use Rattle.table.specs.Table.{usedRows, rowsSound, levelsSound, tableSound}
+use Rattle.table.specs.Table.{usedRows, rowsSound, tableSound}
+use Rattle.levels.specs.Levels.{levelsSound}
 use Rattle.table.specs.Numbers.{sends, hasNumber}
 use Rattle.renumber.specs.Theorems.{Far}
 use Rattle.arrival.specs.Checks.{walkCheck, requiredCheck, optionCheck, badBasicCheck, arrivingBasic, missingBasicCheck, basicRangeCheck, arrivingLabel, rangeCheck}
-use Rattle.gateway.specs.Crossing.{sizes, records, leavingBasicCheck, numberCheck}
+use Rattle.forwarding.specs.Crossing.{sizes, records, leavingBasicCheck, numberCheck}
 use Rattle.decision.specs.Decision.{silenced}
-use Rattle.gateway.specs.Forward.{forwardOf}
+use Rattle.forwarding.specs.Forward.{forwardOf}
 use Rattle.demands.specs.Demands.{own, Forwards, neither}
 use Rattle.sample_records.specs.Sample.{arriving, leaving, table, levels}
 use Rattle.demands.specs.Sample.{sample, first, SampleLines}

@@ -19,10 +19,10 @@ use Rattle.option.proofs.OneSpelling.{one-spelling}
 use Rattle.reading.specs.declared.Reading.{Reading}
 use Rattle.reading.specs.Reading.{found, readingFor}
 use Rattle.reading.proofs.Theorems.{reads}
-use Rattle.area.specs.declared.Place.{Place}
-use Rattle.area.specs.declared.Place.the-variants.{Nowhere, At}
-use Rattle.area.specs.declared.Walk.{Walk}
-use Rattle.area.specs.declared.Walk.the-variants.{Sound, Refused}
+use Rattle.turn.specs.declared.Place.{Place}
+use Rattle.turn.specs.declared.Place.the-variants.{Nowhere, At}
+use Rattle.turn.specs.declared.Walk.{Walk}
+use Rattle.turn.specs.declared.Walk.the-variants.{Sound, Refused}
 use Rattle.area.proofs.Laws.{sound-placed}
 use Rattle.leaving.specs.Kept.{keptOf, roundUp, leavingOf}
 use Rattle.port.specs.declared.Port.{Port}
@@ -41,11 +41,11 @@ use Rattle.arrival.specs.Decision.{arrivalChecks, deliverChecks, deliverOf}
 use Rattle.arrival.proofs.First.{Real, real-first, real-when, first-none, none-first, when-none, first-append, not-false-yes, real-else}
 use Rattle.arrival.proofs.Arrival.{placed-framed, octets-part, Held, arrival-held, arrival-real, in-range-held}
 use Rattle.arrival.proofs.Deliveries.{deliver-done}
-use Rattle.gateway.specs.Crossing.{noRoom, Forwarding, sameDomain, Crossing, crossing, stays, leavingLabel, leavingOption, sizes, records, numberCheck, leavingCheck, leavingLevel, leavingRuns}
-use Rattle.gateway.specs.Forward.{forwardChecks, forwardOf, outputOf}
-use Rattle.gateway.specs.Stages.{crossingChecks}
-use Rattle.gateway.proofs.Crossings.{label-stays, stays-inside, stays-outside, Crossed, crossed, crossed-carried, crosses-passed, default-is}
-use Rattle.gateway.proofs.Forwards.{reachChecks, recordsTest, Passed, forward-passed, passed-formed, forward-real, forward-fits, forward-done, forward-range, forward-none, kept-fits, leaving-spelled, leaving-none, reach-arrival, forward-refused}
+use Rattle.forwarding.specs.Crossing.{noRoom, Forwarding, sameDomain, Crossing, crossing, stays, leavingLabel, leavingOption, sizes, records, numberCheck, leavingCheck, leavingLevel, leavingRuns}
+use Rattle.forwarding.specs.Forward.{forwardChecks, forwardOf, outputOf}
+use Rattle.forwarding.specs.Crossing.{crossingChecks}
+use Rattle.forwarding.proofs.Crossings.{label-stays, stays-inside, stays-outside, Crossed, crossed, crossed-carried, crosses-passed, default-is}
+use Rattle.forwarding.proofs.Forwards.{reachChecks, recordsTest, Passed, forward-passed, passed-formed, forward-real, forward-fits, forward-done, forward-range, forward-none, kept-fits, leaving-spelled, leaving-none, reach-arrival, forward-refused}
 use Rattle.demands.proofs.Basic.{octets-at, basic-arrives, basic-passes, Unbarred, arrives-unbarred, passes-unbarred, passes-sent}
 use Rattle.demands.specs.Demands.{AreaSound, LabelOf, own, assigned, Forwards, Delivers, Demand2, earlierChecks}
 

@@ -20,7 +20,7 @@ use Rattle.reading.proofs.Theorems.{reads}
 use Rattle.forms.specs.Spelled.{lacking, lengthOf}
 use Rattle.spelling.specs.Spelling.{spellingAnswer, spellingOut}
 use Rattle.spelling.proofs.Theorems.{spelling-alone}
-use Rattle.area.specs.declared.Place.the-variants.{At}
+use Rattle.turn.specs.declared.Place.the-variants.{At}
 use Rattle.leaving.specs.Kept.{keptOf, roundUp, leavingOf}
 use Rattle.port.specs.declared.Port.{Port}
 use Rattle.port.specs.declared.Host.{Host}
@@ -28,9 +28,9 @@ use Rattle.decision.specs.declared.Decision.{Decision}
 use Rattle.decision.specs.Decision.{Refusal, silenced, decided}
 use Rattle.arrival.specs.Checks.{barred, when, firstOf, badBasicCheck, arrivingBasic, missingBasicBy, missingBasicCheck, basicPasses, basicRangeCheck, arrivingLabel, rangeCheck, Delivery, deliverySizes, deliveryRecords, hostCheck}
 use Rattle.arrival.specs.Decision.{deliverOf}
-use Rattle.gateway.specs.Crossing.{Forwarding, sizes, records, leavingBasicCheck, Crossing, crossing, numberCheck, leavingCheck, spellingCheck, leavingLabel, leavingOption}
-use Rattle.gateway.specs.Forward.{forwardChecks, forwardOf, written, outputOf}
-use Rattle.gateway.proofs.Forwards.{forward-passed}
+use Rattle.forwarding.specs.Crossing.{Forwarding, sizes, records, leavingBasicCheck, Crossing, crossing, numberCheck, leavingCheck, spellingCheck, leavingLabel, leavingOption}
+use Rattle.forwarding.specs.Forward.{forwardChecks, forwardOf, written, outputOf}
+use Rattle.forwarding.proofs.Forwards.{forward-passed}
 use Rattle.demands.specs.Demands.{own, MeansAt, Alike, AlikeDelivered, Demand3}
 use Rattle.leaving.proofs.Again.{basicFrom}
 use Rattle.demands.proofs.Basic.{basic-kept}

@@ -7,20 +7,20 @@ use Rattle.option.specs.Spelling.{leastForm, formFor, bodyFor, spelledBy, spell
 use Rattle.reading.specs.Reading.{readingFor, readingBy, tagChecks, labelIn}
 use Rattle.area.specs.Area.{metFrom, metOf, walkOf}
 use Rattle.leaving.specs.Kept.{keptOf}
-use Rattle.basic.specs.Levels.{isLevel, rankOf}
-use Rattle.basic.specs.Option.{basicValid}
-use Rattle.basic.specs.Alone.{basicReading}
-use Rattle.basic.specs.Settings as settings
+use Rattle.classification.specs.Levels.{isLevel, rankOf}
+use Rattle.basic_option.specs.Option.{basicValid}
+use Rattle.basic_option.specs.Alone.{basicReading}
+use Rattle.classification.specs.Levels as levels
 use Rattle.basic.specs.Settings.{waySound, wayZero, basicSound, passesWay}
 use Rattle.port.specs.Port.{rangeSound, assignedSound, defaultSound, portSound, hostSound}
 use Rattle.keys.specs.Range.{setInRange}
 use Rattle.arrival.specs.Checks.{walkCheck, requiredCheck, optionCheck, badBasicCheck, arrivingBasic, missingBasicCheck, basicRangeCheck, arrivingLabel, rangeCheck, deliverySizes, deliveryRecords, hostCheck}
 use Rattle.decision.specs.Decision.{silenced}
 use Rattle.arrival.specs.Decision.{deliverOf}
-use Rattle.gateway.specs.Crossing.{sizes, records, leavingBasicCheck, numberCheck, leavingLevel, leavingRuns, leavingCheck, spellingCheck}
-use Rattle.gateway.specs.Forward.{forwardOf, outputOf}
+use Rattle.forwarding.specs.Crossing.{sizes, records, leavingBasicCheck, numberCheck, leavingLevel, leavingRuns, leavingCheck, spellingCheck}
+use Rattle.forwarding.specs.Forward.{forwardOf, outputOf}
 use Rattle.demands.specs.Worked.{WorkedDecisions}
 
 pub worked-decisions : WorkedDecisions
-unfolding subset allBelow wellFormed labelTyped atMost leq inRange isZero pieces leastForm formFor bodyFor spelledBy spellingOf readingFor readingBy tagChecks labelIn metFrom metOf walkOf keptOf isLevel rankOf basicValid basicReading settings.atMost waySound wayZero basicSound passesWay rangeSound assignedSound defaultSound portSound hostSound setInRange walkCheck requiredCheck optionCheck badBasicCheck arrivingBasic missingBasicCheck basicRangeCheck leavingBasicCheck arrivingLabel rangeCheck deliverySizes deliveryRecords hostCheck silenced deliverOf sizes records numberCheck leavingLevel leavingRuns leavingCheck spellingCheck forwardOf outputOf
+unfolding subset allBelow wellFormed labelTyped atMost leq inRange isZero pieces leastForm formFor bodyFor spelledBy spellingOf readingFor readingBy tagChecks labelIn metFrom metOf walkOf keptOf isLevel rankOf basicValid basicReading levels.atMost waySound wayZero basicSound passesWay rangeSound assignedSound defaultSound portSound hostSound setInRange walkCheck requiredCheck optionCheck badBasicCheck arrivingBasic missingBasicCheck basicRangeCheck leavingBasicCheck arrivingLabel rangeCheck deliverySizes deliveryRecords hostCheck silenced deliverOf sizes records numberCheck leavingLevel leavingRuns leavingCheck spellingCheck forwardOf outputOf
 worked-decisions = (refl, refl, refl)

@@ -17,9 +17,10 @@ use Rattle.reading.specs.Reading.{Check, check, framed, tagChecks, readingOf}
 use Rattle.forms.specs.Spelled.{lacking}
 use Rattle.spelling.specs.Spelling.{spellingAnswer, spellingOut}
 use Rattle.table.specs.declared.Table.{Table}
-use Rattle.table.specs.declared.Partner.the-variants.{Level}
+use Rattle.levels.specs.declared.Partner.the-variants.{Level}
 use Rattle.table.specs.Table.{usedRows, tableSound}
-use Rattle.table.specs.Numbers.{partnerOf, known, hasNumber, numbered}
+use Rattle.levels.specs.Levels.{partnerOf, known}
+use Rattle.table.specs.Numbers.{hasNumber, numbered}
 use Rattle.renumber.specs.Renumber.{imageRuns, renumberedOf}
 use Rattle.renumber.specs.Theorems.{Far}
 

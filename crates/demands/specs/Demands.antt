@@ -17,10 +17,10 @@ use Rattle.option.specs.Spelling.{padded}
 use Rattle.option.specs.Theorems.{Spells, Shortest}
 use Rattle.reading.specs.Reading.{found, readingOf}
 use Rattle.spelling.specs.Spelling.{spellingAnswer, spellingOut}
-use Rattle.area.specs.declared.Place.{Place}
-use Rattle.area.specs.declared.Place.the-variants.{Nowhere, At}
-use Rattle.area.specs.declared.Walk.the-variants.{Sound}
-use Rattle.basic.specs.Option.{BasicMeans}
+use Rattle.turn.specs.declared.Place.{Place}
+use Rattle.turn.specs.declared.Place.the-variants.{Nowhere, At}
+use Rattle.turn.specs.declared.Walk.the-variants.{Sound}
+use Rattle.basic_option.specs.Option.{BasicMeans}
 use Rattle.basic.specs.Theorems.{BasicPermitted}
 use Rattle.leaving.specs.Kept.{keptOf, roundUp, leavingOf}
 use Rattle.port.specs.declared.Port.{Port}
@@ -30,8 +30,8 @@ use Rattle.renumber.specs.Theorems.{Far}
 use Rattle.decision.specs.Decision.{Refusal, silenced, refused, done}
 use Rattle.arrival.specs.Checks.{NoneApplies, walkAt, optionAt, badBasicCheck, Delivery, deliverySizes, deliveryRecords, walkCheck, requiredCheck, optionCheck, missingBasicCheck, basicRangeCheck, rangeCheck}
 use Rattle.arrival.specs.Decision.{deliverChecks, deliverOf}
-use Rattle.gateway.specs.Crossing.{Forwarding, sizes, records, leavingBasicCheck, crossing, numberCheck}
-use Rattle.gateway.specs.Forward.{forwardChecks, forwardOf, outputOf}
+use Rattle.forwarding.specs.Crossing.{Forwarding, sizes, records, leavingBasicCheck, crossing, numberCheck}
+use Rattle.forwarding.specs.Forward.{forwardChecks, forwardOf, outputOf}
 
 -- Demand 1: "Bad input gets the first refusal that applies in document 01's order, with its ICMP type, code and pointer, and the output buffer
 -- is untouched."

@@ -11,15 +11,15 @@ use Rattle.label.specs.Label.{inRange}
 use Rattle.keys.specs.Range.{setInRange}
 use Rattle.option.specs.Option.{domainOf, tagOf, tagLengthOf, isEven}
 use Rattle.reading.specs.Reading.{knownTag, goodLength, categoriesIn, badIn, badPlace}
-use Rattle.area.specs.declared.Kind.{Kind}
-use Rattle.area.specs.declared.Kind.the-variants.{End, NoOperation, Basic, Extended, Cipso, Other}
-use Rattle.area.specs.declared.Size.{Size}
-use Rattle.area.specs.declared.Size.the-variants.{Whole, Bad}
-use Rattle.area.specs.declared.Place.{Place}
-use Rattle.area.specs.declared.Place.the-variants.{Nowhere, At}
-use Rattle.area.specs.declared.Walk.the-variants.{Sound}
+use Rattle.kinds.specs.declared.Kind.{Kind}
+use Rattle.kinds.specs.declared.Kind.the-variants.{End, NoOperation, Basic, Extended, Cipso, Other}
+use Rattle.kinds.specs.declared.Size.{Size}
+use Rattle.kinds.specs.declared.Size.the-variants.{Whole, Bad}
+use Rattle.turn.specs.declared.Place.{Place}
+use Rattle.turn.specs.declared.Place.the-variants.{Nowhere, At}
+use Rattle.turn.specs.declared.Walk.the-variants.{Sound}
 use Rattle.area.specs.Area.{Met, metOf, walkOf}
-use Rattle.basic.specs.Option.{basicValid}
+use Rattle.basic_option.specs.Option.{basicValid}
 use Rattle.leaving.specs.Kept.{keptOf}
 use Rattle.port.specs.declared.Port.{Port}
 use Rattle.port.specs.Port.{portSound, hostSound, lowestOut, highestOut}
@@ -28,8 +28,8 @@ use Rattle.decision.specs.declared.Decision.{Decision}
 use Rattle.decision.specs.Decision.{Refusal, silenced, refused}
 use Rattle.arrival.specs.Checks.{badArea, walkAt, placeIn, basicIn, optionAt, arrivingBasic, basicPasses, arrivingLabel, Delivery}
 use Rattle.arrival.specs.Decision.{deliverOf}
-use Rattle.gateway.specs.Crossing.{noRoom, Forwarding, sameDomain, crossing, stays, hasNumbers, leavingLevel, leavingRuns, leavingOption}
-use Rattle.gateway.specs.Forward.{forwardOf}
+use Rattle.forwarding.specs.Crossing.{noRoom, Forwarding, sameDomain, crossing, stays, hasNumbers, leavingLevel, leavingRuns, leavingOption}
+use Rattle.forwarding.specs.Forward.{forwardOf}
 use Rattle.demands.specs.First.{NoneOf, FirstOf}
 
 -- a line of the table, held against an input

@@ -19,8 +19,8 @@ use Rattle.decision.specs.declared.Facts.{Facts}
 use Rattle.arrival.specs.Checks.{Delivery}
 use Rattle.decision.specs.Decision.{silenced, noFact}
 use Rattle.arrival.specs.Decision.{deliverOf}
-use Rattle.gateway.specs.Crossing.{Forwarding}
-use Rattle.gateway.specs.Forward.{forwardOf, outputOf}
+use Rattle.forwarding.specs.Crossing.{Forwarding}
+use Rattle.forwarding.specs.Forward.{forwardOf, outputOf}
 
 -- A label of domain 5 with at most one run; the all-zero label.
 abbrev pub bare : ℕ → Label

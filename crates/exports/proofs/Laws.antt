@@ -14,9 +14,9 @@ use Rattle.spelling.specs.declared.Spelling.{Spelling}
 use Rattle.spelling.specs.Spelling.{spellingAnswer, spellingOut}
 use Rattle.decision.specs.declared.Decision.{Decision}
 use Rattle.decision.specs.declared.Facts.{Facts}
-use Rattle.gateway.specs.Crossing.{Forwarding}
-use Rattle.gateway.specs.Stages.{forwardingOf}
-use Rattle.gateway.specs.Forward.{forwardOf, outputOf}
+use Rattle.forwarding.specs.Crossing.{Forwarding}
+use Rattle.forwarding.specs.Forward.{forwardingOf}
+use Rattle.forwarding.specs.Forward.{forwardOf, outputOf}
 use Rattle.port.specs.declared.Port.{Port}
 use Rattle.table.specs.declared.Table.{Table}
 use Rattle.sample_records.specs.Sample as sample

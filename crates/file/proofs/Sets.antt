@@ -17,7 +17,8 @@ use Rattle.basic.specs.Settings.{basicOff, isOff, basicSound, wayZero}
 use Rattle.basic.proofs.Settings.{off-is}
 use Rattle.port.specs.declared.Port.{Port}
 use Rattle.port.specs.Port.{isPlain, portSound}
-use Rattle.table.specs.Table.{noRow, unusedRows, unusedPairs}
+use Rattle.table.specs.Table.{noRow, unusedRows}
+use Rattle.levels.specs.Levels.{unusedPairs}
 use Rattle.format.specs.Format.{Sound, Each}
 use Rattle.format.specs.Laws.{flat}
 use Rattle.format.specs.Places.{padded, placesFit, Filled}

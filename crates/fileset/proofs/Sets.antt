@@ -16,7 +16,8 @@ use Rattle.port.specs.declared.Port.{Port}
 use Rattle.port.specs.Port.{portSound}
 use Rattle.table.specs.declared.Row.{Row}
 use Rattle.table.specs.declared.Table.{Table}
-use Rattle.table.specs.Table.{tableSound, typed, levelsSound, rowsSound, unusedRows, unusedPairs}
+use Rattle.table.specs.Table.{tableSound, typed, rowsSound, unusedRows}
+use Rattle.levels.specs.Levels.{levelsSound, unusedPairs}
 use Rattle.format.proofs.Places.{Held, padded-length}
 use Rattle.filetable.specs.declared.LevelPair.{LevelPair}
 use Rattle.filetable.specs.declared.Renumbering.{Renumbering}

@@ -12,7 +12,8 @@ use Rattle.basic.specs.Settings.{basicOff, isOff}
 use Rattle.port.specs.declared.Port.{Port}
 use Rattle.port.specs.Port.{portSound}
 use Rattle.table.specs.declared.Table.{Table}
-use Rattle.table.specs.Table.{unusedRows, unusedPairs}
+use Rattle.table.specs.Table.{unusedRows}
+use Rattle.levels.specs.Levels.{unusedPairs}
 use Rattle.format.specs.Places.{placesFit}
 use Rattle.fileport.specs.Theorems.{typedPort}
 use Rattle.filetable.specs.declared.Renumbering.{Renumbering}

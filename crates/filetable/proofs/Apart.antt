@@ -11,7 +11,8 @@ use borrow.Author.Tests.{le-leb, eq-eqb}
 use Rattle.label.proofs.Bools.{never, and-left, and-right}
 use Rattle.table.specs.declared.Row.{Row}
 use Rattle.table.specs.declared.Table.{Table}
-use Rattle.table.specs.Table.{noRow, targetEnd, rising, apart, apartFrom, targetsApart, unusedRows, rowsSound, levelsSound, typed, tableSound}
+use Rattle.table.specs.Table.{noRow, targetEnd, rising, apart, apartFrom, targetsApart, unusedRows, rowsSound, typed, tableSound}
+use Rattle.levels.specs.Levels.{levelsSound}
 use Rattle.format.specs.Places.{padded}
 use Rattle.format.proofs.Places.{padded-used, padded-length}
 use Rattle.filetable.specs.TableFormat.{floorOf}

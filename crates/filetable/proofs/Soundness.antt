@@ -11,7 +11,8 @@ use borrow.Author.Tests.{le-leb, leb-true, eq-eqb, ne-eqb, eqb-true, eqb-false, 
 use Rattle.label.proofs.Bools.{never, and-left, and-right, and-both}
 use Rattle.table.specs.declared.Row.{Row}
 use Rattle.table.specs.declared.Table.{Table}
-use Rattle.table.specs.Table.{row, noRow, usedRows, targetEnd, rising, apart, apartFrom, targetsApart, unusedRows, rowsSound, levelsRise, unusedPairs, levelsSound, levelNumbers, typed, tableSound}
+use Rattle.table.specs.Table.{row, noRow, usedRows, targetEnd, rising, apart, apartFrom, targetsApart, unusedRows, rowsSound, typed, tableSound}
+use Rattle.levels.specs.Levels.{levelsRise, unusedPairs, levelsSound, levelNumbers}
 use Rattle.format.specs.Format.{Sound, Each}
 use Rattle.format.specs.Places.{padded, Filled}
 use Rattle.format.proofs.Places.{padded-again, padded-length, padded-used}

@@ -1,4 +1,1 @@
-pub mod Crossings
-pub mod Forwards
-pub mod Stages
 pub mod Usual

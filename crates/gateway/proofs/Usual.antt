@@ -1,5 +1,5 @@
 -- Laws of usual ports: what a first look at their range leaves open lies outside, no check of option 130 is asked, and a label is spelled.
-use mathlib.Core.Path.{_≡_, refl, sym, ap, subst}
+use mathlib.Core.Path.{_≡_, refl, sym, _∙_, ap}
 use mathlib.Core.Bool.{Bool, true, false, cond, _&&_, and-false}
 use mathlib.Core.List.{List, [], _∷_}
 use Prim.Native.Nat.{ℕ, zero, suc, _+_, _≤_}
@@ -15,10 +15,11 @@ use Rattle.label.specs.Label.{noRun, used}
 use Rattle.keys.specs.Range.{lookOf, lookUnder, runsBetween, answered}
 use Rattle.option.specs.declared.Spellings.{Spellings}
 use Rattle.basic.specs.declared.Way.{Way}
-use Rattle.basic.specs.declared.BasicReading.{BasicReading}
+use Rattle.basic_option.specs.declared.BasicReading.{BasicReading}
 use Rattle.decision.specs.declared.Verdict.{Verdict}
 use Rattle.arrival.proofs.First.{before-none}
-use Rattle.gateway.specs.Stages.{sentBy, Writes}
+use Rattle.departure.specs.Departure.{sentBy}
+use Rattle.sending.specs.Sending.{areaWritten}
 
 -- a label without categories lets no run pass
 none-under : (lowest highest : Label) (r : Run) (rs : List Run) → highest .count ≡ 0 → runsBetween lowest highest (r ∷ rs) ≡ false
@@ -61,6 +62,6 @@ unfolding sentBy
 sent-off r from on way x e g = sym (rw (e, g) (before-none r))
 
 -- What is written toward labelled hosts.
-pub writes-labelled : (v : Verdict) (unlabelled : Bool) (d : ℕ) (p : Spellings) (kept : ℕ) (area keys out out′ : List ℕ) (n : ℕ) → unlabelled ≡ false
-    → Writes v false d p kept area keys out out′ n → Writes v unlabelled d p kept area keys out out′ n
-writes-labelled v unlabelled d p kept area keys out out′ n e w = subst (λ (b : Bool). Writes v b d p kept area keys out out′ n) (sym e) w
+pub written-labelled : (v : Verdict) (unlabelled : Bool) (p : Spellings) (d kept : ℕ) (area keys out out′ : List ℕ) → unlabelled ≡ false
+    → out′ ≡ areaWritten v false p d kept area keys out → out′ ≡ areaWritten v unlabelled p d kept area keys out
+written-labelled v unlabelled p d kept area keys out out′ e w = w ∙ ap (λ (b : Bool). areaWritten v b p d kept area keys out) (sym e)

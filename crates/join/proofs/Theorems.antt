@@ -17,11 +17,10 @@ use Rattle.label.proofs.Runs.{covers-top}
 use Rattle.label.proofs.Labels.{formed, well-formed, formed-of, used-of, used-length, of-used, member-is, leq-says, leq-said}
 use Rattle.label.proofs.Theorems as label-theorems
 use Rattle.table.specs.declared.Table.{Table}
-use Rattle.table.specs.declared.Partner.the-variants.{Level}
-use Rattle.table.specs.Table.{levelsRise}
-use Rattle.table.specs.Numbers.{partnerOf}
+use Rattle.levels.specs.declared.Partner.the-variants.{Level}
+use Rattle.levels.specs.Levels.{levelsRise, partnerOf}
 use Rattle.table.proofs.Sound.{sound}
-use Rattle.table.proofs.Numbers.{partners-order}
+use Rattle.levels.proofs.Partners.{partners-order}
 use Rattle.renumber.specs.Renumber as far
 use Rattle.renumber.specs.Theorems.{Join}
 use Rattle.carry.proofs.Sets.{set-covers, set-spaced, the-runs}

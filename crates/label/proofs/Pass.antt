@@ -32,6 +32,13 @@ module _ (x y : Run) (xs ys : List Run) where
 pub record Stands (xs ys as′ bs′ : List Run) : Type 0 where
   pub same : passes xs ys ≡ passes as′ bs′
 
+pub stands-start : {xs ys : List Run} → Stands xs ys xs ys
+stands-start = record { same = refl }
+
+-- what is left, said in another way
+pub stands-by : {xs ys as′ bs′ cs′ ds′ : List Run} → as′ ≡ cs′ → bs′ ≡ ds′ → Stands xs ys as′ bs′ → Stands xs ys cs′ ds′
+stands-by a b s = record { same = s .same ∙ (λ i. passes (a i) (b i)) }
+
 pub stands-none : {xs ys : List Run} {x : Run} {as′ : List Run} → Stands xs ys (x ∷ as′) [] → passes xs ys ≡ false
 stands-none s = s .same
 
@@ -109,6 +116,12 @@ module _ (x y : Run) (xs ys : List Run) where
 -- Where a pass that counts its rounds stands: those gone and those left are all.
 pub record Counts (xs ys as′ bs′ : List Run) (k : ℕ) : Type 0 where
   pub all : k + rounds as′ bs′ ≡ rounds xs ys
+
+pub counts-start : {xs ys : List Run} → Counts xs ys xs ys 0
+counts-start = record { all = omega arith }
+
+pub counts-by : {xs ys as′ bs′ cs′ ds′ : List Run} {k : ℕ} → as′ ≡ cs′ → bs′ ≡ ds′ → Counts xs ys as′ bs′ k → Counts xs ys cs′ ds′ k
+counts-by {k = k} a b c = record { all = sym (λ i. k + rounds (a i) (b i)) ∙ c .all }
 
 pub counts-none : {xs ys : List Run} {x : Run} {as′ : List Run} {k : ℕ} → Counts xs ys (x ∷ as′) [] k → k + 1 ≡ rounds xs ys
 counts-none c = c .all

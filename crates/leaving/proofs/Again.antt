@@ -8,18 +8,20 @@ use native.Mathlib.Omega.{arith}
 use borrow.Author.Tests.{le-ltb, le-leb}
 use lib.ListN.{length, getD, take, drop, replicate, length-append, length-drop, List·getD-append}
 use lib.Seq.{take-append-seam, drop-append-seam, drop-drop, getD-take, length-take-le}
-use Rattle.area.specs.declared.Kind.{Kind}
-use Rattle.area.specs.declared.Kind.the-variants.{End, NoOperation, Basic, Extended, Cipso, Other}
-use Rattle.area.specs.declared.Size.{Size}
-use Rattle.area.specs.declared.Size.the-variants.{Whole, Bad}
-use Rattle.area.specs.declared.Place.{Place}
-use Rattle.area.specs.declared.Place.the-variants.{Nowhere, At}
-use Rattle.area.specs.declared.Walk.the-variants.{Sound}
-use Rattle.area.specs.declared.Turn.the-variants.{On}
-use Rattle.area.specs.Area.{kindOf, sizeOf, Met, spanOf, frontOf, metFrom, metOf, judged, walkOf, octetsAt}
-use Rattle.area.specs.Stages.{turnOf}
+use Rattle.kinds.specs.declared.Kind.{Kind}
+use Rattle.kinds.specs.declared.Kind.the-variants.{End, NoOperation, Basic, Extended, Cipso, Other}
+use Rattle.kinds.specs.declared.Size.{Size}
+use Rattle.kinds.specs.declared.Size.the-variants.{Whole, Bad}
+use Rattle.turn.specs.declared.Place.{Place}
+use Rattle.turn.specs.declared.Place.the-variants.{Nowhere, At}
+use Rattle.turn.specs.declared.Walk.the-variants.{Sound}
+use Rattle.turn.specs.declared.Turn.the-variants.{On}
+use Rattle.kinds.specs.Kinds.{kindOf, sizeOf}
+use Rattle.area.specs.Area.{Met, spanOf, frontOf, metFrom, metOf, judged, walkOf, octetsAt}
+use Rattle.turn.specs.Turn.{turnOf}
 use Rattle.area.proofs.Basic.{basicFront, basicAmong, met-once, walk-basic}
-use Rattle.area.proofs.Laws.{size-whole, whole-size, behind, met-turn, walk-turn, afterTurn}
+use Rattle.kinds.proofs.Laws.{size-whole, whole-size}
+use Rattle.area.proofs.Laws.{behind, met-turn, walk-turn, afterTurn}
 use Rattle.area.proofs.Meets.{next-octet}
 use Rattle.area.proofs.Front.{label-first}
 use Rattle.leaving.specs.declared.Next.the-variants.{Over}

@@ -10,11 +10,12 @@ use lib.Dec.{leb}
 use borrow.Author.Tests.{le-leb, lt-leb, leb-true, leb-false}
 use lib.ListN.{length, getD, set, take, drop, replicate, length-drop, length-take, length-append, drop-of-length-le, take-append-drop}
 use lib.Seq.{take-all, take-append-le, take-append-add, take-take, length-take-le, drop-drop, getD-drop}
-use Rattle.area.specs.declared.Kind.{Kind}
-use Rattle.area.specs.declared.Kind.the-variants.{End, NoOperation, Basic, Extended, Cipso, Other}
-use Rattle.area.specs.declared.Size.{Size}
-use Rattle.area.specs.declared.Size.the-variants.{Whole, Bad}
-use Rattle.area.specs.Area.{kindOf, sizeOf, spanOf, frontOf, metFrom, metOf}
+use Rattle.kinds.specs.declared.Kind.{Kind}
+use Rattle.kinds.specs.declared.Kind.the-variants.{End, NoOperation, Basic, Extended, Cipso, Other}
+use Rattle.kinds.specs.declared.Size.{Size}
+use Rattle.kinds.specs.declared.Size.the-variants.{Whole, Bad}
+use Rattle.kinds.specs.Kinds.{kindOf, sizeOf}
+use Rattle.area.specs.Area.{spanOf, frontOf, metFrom, metOf}
 use Rattle.lists.specs.Lists.{paint, copied}
 use Rattle.lists.proofs.Laws.{tail-is, copied-whole, Back, back-written, back-zeroed, paint-two, paint-none, paint-length}
 use Rattle.area.proofs.Laws.{span-on, behind, met-turn, met-end}

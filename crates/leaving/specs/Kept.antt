@@ -4,9 +4,9 @@ use mathlib.Core.List.{List, [], _∷_, _++_}
 use mathlib.Core.Bool.{Bool, cond, _&&_}
 use lib.Dec.{leb}
 use lib.ListN.{length, take, drop, replicate}
-use Rattle.area.specs.declared.Kind.{Kind}
-use Rattle.area.specs.declared.Kind.the-variants.{End, NoOperation, Basic, Extended, Cipso, Other}
-use Rattle.area.specs.declared.Size.the-variants.{Whole, Bad}
+use Rattle.kinds.specs.declared.Kind.{Kind}
+use Rattle.kinds.specs.declared.Kind.the-variants.{End, NoOperation, Basic, Extended, Cipso, Other}
+use Rattle.kinds.specs.declared.Size.the-variants.{Whole, Bad}
 use Rattle.area.specs.Area.{Met, metOf}
 
 -- how many octets are kept of an option of n octets: a kept option is one the walk meets, not 134, 0 or 1

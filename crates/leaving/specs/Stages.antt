@@ -2,10 +2,11 @@
 use Prim.Native.Nat.{ℕ}
 use mathlib.Core.List.{List}
 use lib.ListN.{getD}
-use Rattle.area.specs.declared.Kind.{Kind}
-use Rattle.area.specs.declared.Size.{Size}
-use Rattle.area.specs.declared.Size.the-variants.{Whole, Bad}
-use Rattle.area.specs.Area.{kindOf, sizeOf, spanOf}
+use Rattle.kinds.specs.declared.Kind.{Kind}
+use Rattle.kinds.specs.declared.Size.{Size}
+use Rattle.kinds.specs.declared.Size.the-variants.{Whole, Bad}
+use Rattle.kinds.specs.Kinds.{kindOf, sizeOf}
+use Rattle.area.specs.Area.{spanOf}
 use Rattle.leaving.specs.declared.Next.{Next}
 use Rattle.leaving.specs.declared.Next.the-variants.{Stop, Over}
 use Rattle.leaving.specs.Kept.{keptLen}

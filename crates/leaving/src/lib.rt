@@ -1,6 +1,6 @@
 // The leaving options area (document 01, "The leaving area"): the kept options are written behind the option 134, and zeros pad the area.
-use area::Kind;
-use area::Size;
+use kinds::Kind;
+use kinds::Size;
 use lists::copy_octets;
 use lists::lesser;
 use lists::zero_all;
@@ -51,8 +51,8 @@ fn next_option(rest: &[u8]) -> Next
     requires { ⌜ 0 < length (now rest) ⌝ }
     ensures { λ r. ⌜ r ≡ nextOf (now (rest .entry)) ⌝ }
 {
-    let k = area::read_kind(rest[0]);
-    match step(k, area::read_size(rest)) {
+    let k = kinds::read_kind(rest[0]);
+    match step(k, kinds::read_size(rest)) {
         Size::Bad => Next::Stop,
         Size::Whole(n) => Next::Over {
             n: n,

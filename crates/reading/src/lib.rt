@@ -3,7 +3,7 @@
 ghost use mathlib.Core.Path.{_≡_};
 ghost use Prim.Native.Nat.{_+_, _-_, _*_, _%_, _≤_, _<_};
 ghost use mathlib.Core.Bool.{cond, not, _&&_, _||_};
-ghost use lib.Dec.{leb, ltb, eqb};
+ghost use lib.Dec.{leb, eqb};
 ghost use lib.ListN.{length, getD};
 ghost use Rattle.label.specs.Runs.{run};
 ghost use Rattle.keys.specs.Keys.{runKey};
@@ -15,6 +15,8 @@ ghost use Rattle.reading.specs.Keys.{keyed, ReadsKeys};
 use bitmap::read_bitmap;
 use keys::to_label;
 use label::Label;
+use ranges::bad_pair;
+use ranges::touches;
 
 // The one number of two octets that is no category.
 const NO_CATEGORY: u16 = Label::MAX_CATEGORY + 1;
@@ -129,16 +131,6 @@ fn bad_after(x: u16, next: u32) -> bool
     after <= next
 }
 
-// Whether a number goes on from the last run; the first one does not, by the caller's counter, so that only its first turn asks.
-fn touches(first: bool, next: u32, x: u16) -> bool
-    ensures { λ r. ⌜ r ≡ (not first && eqb next x) ⌝ }
-{
-    if first {
-        return false;
-    }
-    next == x as u32
-}
-
 // Tag 2: a number above all others is added. One that touches the last run becomes its high, which makes its key greater by 1. Two stores, so
 // that this is a branch, which few numbers take: no store waits for the count.
 fn add_number(keys: &mut [u32], count: usize, first: bool, next: u32, x: u16) -> usize
@@ -212,14 +204,6 @@ fn limit_at(octets: &[u8], j: usize) -> u16
         return NO_CATEGORY;
     }
     number_at(octets, 2 * j - 1)
-}
-
-// Tag 5: a top below its bottom, or not below the limit, which 65535 never is; the category after the top may be the limit.
-fn bad_pair(top: u16, bottom: u16, limit: u16) -> bool
-    ensures { λ r. ⌜ r ≡ (ltb top bottom || ltb limit (top + 1)) ⌝ }
-{
-    let next = (top as u32) + 1;
-    (top < bottom) | ((limit as u32) < next)
 }
 
 fn either(first: bool, a: usize, b: usize) -> usize

@@ -13,10 +13,11 @@ use Rattle.label.specs.Label.{used, wellFormed}
 use Rattle.keys.specs.Keys.{keyRuns, labelFrom}
 use Rattle.keys.specs.Range.{setInRange}
 use Rattle.table.specs.declared.Table.{Table}
-use Rattle.table.specs.declared.Partner.{Partner}
-use Rattle.table.specs.declared.Partner.the-variants.{Level, Missing}
+use Rattle.levels.specs.declared.Partner.{Partner}
+use Rattle.levels.specs.declared.Partner.the-variants.{Level, Missing}
 use Rattle.table.specs.Table.{usedRows, tableSound}
-use Rattle.table.specs.Numbers.{partnerOf, numbered}
+use Rattle.levels.specs.Levels.{partnerOf}
+use Rattle.table.specs.Numbers.{numbered}
 use Rattle.carry.specs.declared.Carried.{Carried}
 use Rattle.carry.specs.Carry.{imageOf, carriedTo, carriedKeys, carryOf}
 use Rattle.carry.proofs.Carrying.{label-runs, carry-checked, carry-unsound, carried-runs, image-spaced, image-few}

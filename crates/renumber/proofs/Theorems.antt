@@ -18,12 +18,14 @@ use Rattle.label.proofs.Runs.{one-form}
 use Rattle.label.proofs.Labels.{formed, well-formed, formed-of, used-of, used-length, of-used, member-is, leq-says, leq-said, leq-at-most}
 use Rattle.label.proofs.Theorems as label-theorems
 use Rattle.table.specs.declared.Table.{Table}
-use Rattle.table.specs.declared.Partner.{Partner}
-use Rattle.table.specs.declared.Partner.the-variants.{Level, Missing}
+use Rattle.levels.specs.declared.Partner.{Partner}
+use Rattle.levels.specs.declared.Partner.the-variants.{Level, Missing}
 use Rattle.table.specs.Table.{usedRows, tableSound}
-use Rattle.table.specs.Numbers.{partnerOf, sends, numbered, inImage}
+use Rattle.levels.specs.Levels.{partnerOf}
+use Rattle.table.specs.Numbers.{sends, numbered, inImage}
 use Rattle.table.proofs.Sound.{sound, Rows, sound-rows}
-use Rattle.table.proofs.Numbers.{one-category, one-number, has-number, number-has, partners-order, partner-level, Ordered}
+use Rattle.table.proofs.Numbers.{one-category, one-number, has-number, number-has}
+use Rattle.levels.proofs.Partners.{partners-order, partner-level, Ordered}
 use Rattle.renumber.specs.declared.Renumbered.{Renumbered}
 use Rattle.renumber.specs.Renumber.{notRenumbered, renumberedAs, imageRuns, fitted, whenNumbered, renumberedOf, carriedOf}
 use Rattle.renumber.specs.Theorems.{Far, Renumbering, Agrees, Carried, Carrying, KeepsOrder, KeepsJoins}

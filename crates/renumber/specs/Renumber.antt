@@ -9,10 +9,11 @@ use Rattle.label.specs.declared.Label.{Label}
 use Rattle.label.specs.Label.{used, labelOf, zeroLabel, wellFormed}
 use Rattle.keys.specs.Range.{setInRange}
 use Rattle.table.specs.declared.Table.{Table}
-use Rattle.table.specs.declared.Partner.{Partner}
-use Rattle.table.specs.declared.Partner.the-variants.{Level, Missing}
+use Rattle.levels.specs.declared.Partner.{Partner}
+use Rattle.levels.specs.declared.Partner.the-variants.{Level, Missing}
 use Rattle.table.specs.Table.{usedRows, tableSound}
-use Rattle.table.specs.Numbers.{partnerOf, numbered}
+use Rattle.levels.specs.Levels.{partnerOf}
+use Rattle.table.specs.Numbers.{numbered}
 use Rattle.carry.specs.Carry.{imageOf}
 use Rattle.renumber.specs.declared.Renumbered.{Renumbered}
 

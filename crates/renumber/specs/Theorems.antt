@@ -7,9 +7,10 @@ use lib.ListN.{take}
 use Rattle.label.specs.declared.Label.{Label}
 use Rattle.label.specs.Label.{wellFormed, member, leq, inRange}
 use Rattle.table.specs.declared.Table.{Table}
-use Rattle.table.specs.declared.Partner.the-variants.{Level}
+use Rattle.levels.specs.declared.Partner.the-variants.{Level}
 use Rattle.table.specs.Table.{usedRows, tableSound}
-use Rattle.table.specs.Numbers.{partnerOf, hasNumber, sends}
+use Rattle.levels.specs.Levels.{partnerOf}
+use Rattle.table.specs.Numbers.{hasNumber, sends}
 use Rattle.renumber.specs.Renumber.{notRenumbered, renumberedAs, renumberedOf, carriedOf}
 
 -- m is the label l in the far domain: well formed, of that domain, at the partner of its level, every category of l has a number, and a

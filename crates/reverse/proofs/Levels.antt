@@ -9,10 +9,9 @@ use lib.Dec.{leb, eqb}
 use lib.ListN.{length, take, drop, getD}
 use borrow.Author.Tests.{eqb-true, eq-eqb, ne-eqb}
 use Rattle.label.proofs.Bools.{and-left, and-right}
-use Rattle.table.specs.declared.Partner.the-variants.{Level}
-use Rattle.table.specs.Table.{levelsRise, unusedPairs, levelNumbers}
-use Rattle.table.specs.Numbers.{partnerOf}
-use Rattle.table.proofs.Numbers.{partner-cases, missing-not, partner-from}
+use Rattle.levels.specs.declared.Partner.the-variants.{Level}
+use Rattle.levels.specs.Levels.{levelsRise, unusedPairs, levelNumbers, partnerOf}
+use Rattle.levels.proofs.Partners.{partner-cases, missing-not, partner-from}
 use Rattle.reverse.specs.Reverse.{turnedPair, turnedLevels, inTwos}
 
 and-swap : (a b c : Bool) → (a && (b && c)) ≡ (b && (a && c))

@@ -11,7 +11,8 @@ use borrow.Author.Tests.{le-leb, leb-true, eqb-true, eq-eqb, ne-eqb}
 use Rattle.label.proofs.Bools.{and-left, and-right, and-both}
 use Rattle.table.specs.declared.Row.{Row}
 use Rattle.table.specs.declared.Table.{Table}
-use Rattle.table.specs.Table.{noRow, usedRows, unusedRows, rowsSound, levelsSound, levelNumbers, typed, tableSound}
+use Rattle.table.specs.Table.{noRow, usedRows, unusedRows, rowsSound, typed, tableSound}
+use Rattle.levels.specs.Levels.{levelsSound, levelNumbers}
 use Rattle.table.proofs.Sound.{Sound, sound, Rows, sound-rows}
 use Rattle.reverse.specs.Reverse.{turnedRows, turnedLevels, reverseTable}
 use Rattle.reverse.proofs.Rows.{turned-length, turned-rise, turned-apart, turned-twice}

@@ -7,9 +7,10 @@ use lib.ListN.{take}
 use Rattle.label.specs.declared.Label.{Label}
 use Rattle.table.specs.declared.Row.{Row}
 use Rattle.table.specs.declared.Table.{Table}
-use Rattle.table.specs.declared.Partner.the-variants.{Level}
+use Rattle.levels.specs.declared.Partner.the-variants.{Level}
 use Rattle.table.specs.Table.{usedRows, tableSound}
-use Rattle.table.specs.Numbers.{partnerOf, sends}
+use Rattle.levels.specs.Levels.{partnerOf}
+use Rattle.table.specs.Numbers.{sends}
 use Rattle.table.proofs.Sound.{sound, sound-rows}
 use Rattle.table.proofs.Numbers.{has-number, number-has, one-category}
 use Rattle.renumber.specs.Renumber.{renumberedAs, renumberedOf}

@@ -6,9 +6,10 @@ use Prim.Native.Nat.{ℕ}
 use lib.ListN.{take}
 use Rattle.label.specs.declared.Label.{Label}
 use Rattle.table.specs.declared.Table.{Table}
-use Rattle.table.specs.declared.Partner.the-variants.{Level}
+use Rattle.levels.specs.declared.Partner.the-variants.{Level}
 use Rattle.table.specs.Table.{usedRows, tableSound}
-use Rattle.table.specs.Numbers.{partnerOf, sends}
+use Rattle.levels.specs.Levels.{partnerOf}
+use Rattle.table.specs.Numbers.{sends}
 use Rattle.renumber.specs.Renumber.{renumberedAs, renumberedOf}
 use Rattle.reverse.specs.Reverse.{inTwos, reverseTable, turnedLevels}
 

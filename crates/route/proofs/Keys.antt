@@ -14,7 +14,7 @@ use Rattle.label.proofs.Bools.{never, and-left, and-right, same-yes, less-or}
 use Rattle.order.specs.Order.{Sorted, all, sortKeys}
 use Rattle.order.proofs.Laws.{sort-sorted, sort-length}
 use Rattle.order.proofs.Merge.{put}
-use Rattle.table.proofs.Levels.{next-there}
+use Rattle.levels.proofs.Levels.{next-there}
 use Rattle.table.proofs.Rows.{pairs, sorted-pairs}
 use Rattle.route.specs.declared.Route.{Route}
 use Rattle.route.specs.Route.{routesOf, clearPast, routeSound, every, samePrefix, prefixesDiffer}

@@ -13,7 +13,7 @@ use Rattle.decision.specs.Decision.{Refusal, silenced, decided}
 use Rattle.arrival.specs.Checks.{barred, when, firstOf, badBasicCheck, arrivingBasic, missingBasicBy, missingBasicCheck, basicPasses, basicRangeCheck, rangeCheck}
 use Rattle.arrival.specs.Decision.{arrivalChecks}
 use Rattle.arrival.proofs.First.{orElse, first-append}
-use Rattle.gateway.specs.Crossing.{sizes}
+use Rattle.forwarding.specs.Crossing.{sizes}
 use Rattle.route.specs.declared.Route.{Route}
 use Rattle.route.specs.declared.Chosen.{Chosen}
 use Rattle.route.specs.declared.Chosen.the-variants.{NoRoute, By}

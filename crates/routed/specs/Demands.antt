@@ -11,7 +11,7 @@ use Rattle.option.specs.Option.{Octets}
 use Rattle.leaving.specs.Kept.{keptOf, roundUp, leavingOf}
 use Rattle.arrival.specs.Checks.{badBasicCheck}
 use Rattle.decision.specs.Decision.{done}
-use Rattle.gateway.specs.Crossing.{sizes}
+use Rattle.forwarding.specs.Crossing.{sizes}
 use Rattle.route.specs.declared.Route.{Route}
 use Rattle.route.specs.declared.Chosen.the-variants.{By}
 use Rattle.routing.specs.Routing.{Routing, boxSound, chosen, arrivingPort, chosenPair, routingOf, routedOutput}

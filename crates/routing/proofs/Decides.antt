@@ -16,9 +16,9 @@ use Rattle.decision.specs.Decision.{Refusal, silenced, decided}
 use Rattle.arrival.specs.Checks.{silent, barred, firstOf, walkCheck, requiredCheck, optionCheck, badBasicCheck, missingBasicCheck, basicRangeCheck, rangeCheck}
 use Rattle.arrival.specs.Decision.{arrivalChecks}
 use Rattle.leaving.specs.Kept.{keptOf}
-use Rattle.gateway.specs.Crossing.{Forwarding, sizes, records, sameDomain, leavingBasicCheck, numberCheck, leavingCheck, spellingCheck, crossing, leavingLabel, leavingOption}
-use Rattle.gateway.specs.Forward.{optionOctets, forwardChecks, leavingCount, forwardOf, outputOf}
-use Rattle.gateway.specs.Stages.{forwardingOf}
+use Rattle.forwarding.specs.Crossing.{Forwarding, sizes, records, sameDomain, leavingBasicCheck, numberCheck, leavingCheck, spellingCheck, crossing, leavingLabel, leavingOption}
+use Rattle.forwarding.specs.Forward.{optionOctets, forwardChecks, leavingCount, forwardOf, outputOf}
+use Rattle.forwarding.specs.Forward.{forwardingOf}
 use Rattle.decision.specs.declared.Facts.{Facts}
 use Rattle.filetable.specs.declared.Renumbering.{Renumbering}
 use Rattle.filetable.specs.TableFormat.{levelsOf}

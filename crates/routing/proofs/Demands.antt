@@ -15,8 +15,8 @@ use Rattle.arrival.specs.Checks.{silent, when, firstOf, badArea}
 use Rattle.arrival.specs.Decision.{arrivalChecks}
 use Rattle.arrival.proofs.First.{orElse, Real, first-append}
 use Rattle.arrival.proofs.Arrival.{arrival-real}
-use Rattle.gateway.specs.Crossing.{sizes}
-use Rattle.gateway.specs.Forward.{forwardOf}
+use Rattle.forwarding.specs.Crossing.{sizes}
+use Rattle.forwarding.specs.Forward.{forwardOf}
 use Rattle.route.specs.declared.Route.{Route}
 use Rattle.route.specs.declared.Chosen.{Chosen}
 use Rattle.route.specs.declared.Chosen.the-variants.{NoRoute, By}

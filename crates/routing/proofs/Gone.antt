@@ -15,7 +15,7 @@ use Rattle.decision.specs.declared.Decision.{Decision}
 use Rattle.decision.specs.Decision.{Refusal, silenced, decided}
 use Rattle.arrival.specs.Checks.{silent, when, firstOf, badArea}
 use Rattle.arrival.specs.Decision.{arrivalChecks}
-use Rattle.gateway.specs.Crossing.{sizes}
+use Rattle.forwarding.specs.Crossing.{sizes}
 use Rattle.route.specs.declared.Chosen.{Chosen}
 use Rattle.route.specs.declared.Chosen.the-variants.{NoRoute, By}
 use Rattle.route.specs.Route.{routesOf, longest, routesSound}

@@ -7,7 +7,7 @@ use Prim.Native.Nat.{ℕ}
 use Rattle.label.specs.declared.Label.{Label}
 use Rattle.decision.specs.Decision.{Refusal, decided}
 use Rattle.arrival.specs.Checks.{firstOf}
-use Rattle.gateway.specs.Forward.{written}
+use Rattle.forwarding.specs.Forward.{written}
 
 pub skip : (xs ys : List (Option Refusal)) → firstOf (xs ++ (none ∷ ys)) ≡ firstOf (xs ++ ys)
 skip [] ys = refl

@@ -4,8 +4,8 @@ use mathlib.Core.List.{List}
 use mathlib.Core.Path.{_≡_}
 use Prim.Native.Nat.{ℕ}
 use Rattle.decision.specs.declared.Facts.{Facts}
-use Rattle.gateway.specs.Crossing.{Forwarding}
-use Rattle.gateway.specs.Forward.{forwardOf}
+use Rattle.forwarding.specs.Crossing.{Forwarding}
+use Rattle.forwarding.specs.Forward.{forwardOf}
 use Rattle.route.specs.declared.Route.{Route}
 use Rattle.route.specs.declared.Chosen.the-variants.{By}
 use Rattle.ports.specs.Ports.{portAt}

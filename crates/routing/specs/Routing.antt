@@ -11,8 +11,8 @@ use Rattle.decision.specs.declared.Facts.{Facts}
 use Rattle.decision.specs.declared.Decision.{Decision}
 use Rattle.decision.specs.Decision.{Refusal, silenced, decided}
 use Rattle.arrival.specs.Checks.{silent, barred, when, firstOf, walkCheck, requiredCheck, optionCheck, badBasicCheck, missingBasicCheck, basicRangeCheck, rangeCheck}
-use Rattle.gateway.specs.Crossing.{Forwarding, sizes, leavingBasicCheck, numberCheck, leavingCheck, spellingCheck, crossing, leavingLabel, leavingOption}
-use Rattle.gateway.specs.Forward.{optionOctets, leavingCount, written}
+use Rattle.forwarding.specs.Crossing.{Forwarding, sizes, leavingBasicCheck, numberCheck, leavingCheck, spellingCheck, crossing, leavingLabel, leavingOption}
+use Rattle.forwarding.specs.Forward.{optionOctets, leavingCount, written}
 use Rattle.filetable.specs.declared.Renumbering.{Renumbering}
 use Rattle.filetable.specs.TableFormat.{levelsOf}
 use Rattle.route.specs.declared.Chosen.{Chosen}

@@ -15,7 +15,7 @@ use Rattle.decision.specs.Decision.{Refusal, silenced, decided}
 use Rattle.arrival.specs.Checks.{silent, when, firstOf, badArea}
 use Rattle.arrival.specs.Decision.{arrivalChecks}
 use Rattle.decision.specs.Verdict.{stopped}
-use Rattle.gateway.specs.Forward.{forwardOf, outputOf}
+use Rattle.forwarding.specs.Forward.{forwardOf, outputOf}
 use Rattle.route.specs.declared.Chosen.{Chosen}
 use Rattle.route.specs.declared.Chosen.the-variants.{NoRoute, By}
 use Rattle.route.specs.Route.{routesOf, longest, routesSound}

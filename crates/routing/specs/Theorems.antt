@@ -8,8 +8,8 @@ use Rattle.label.specs.Label.{zeroLabel}
 use Rattle.arrival.specs.Checks.{silent, barred, firstOf}
 use Rattle.decision.specs.Decision.{silenced, decided}
 use Rattle.arrival.specs.Decision.{arrivalChecks}
-use Rattle.gateway.specs.Crossing.{sizes, numberCheck, crossing}
-use Rattle.gateway.specs.Forward.{forwardOf, outputOf}
+use Rattle.forwarding.specs.Crossing.{sizes, numberCheck, crossing}
+use Rattle.forwarding.specs.Forward.{forwardOf, outputOf}
 use Rattle.route.specs.declared.Route.{Route}
 use Rattle.route.specs.declared.Chosen.the-variants.{NoRoute, By}
 use Rattle.ports.specs.Ports.{portAt}

@@ -6,8 +6,8 @@ use native.Mathlib.Omega.{arith}
 use borrow.Author.Tests.{eq-eqb, ne-eqb}
 use lib.ListN.{length, replicate}
 use Rattle.decision.specs.declared.Decision.{Decision}
-use Rattle.gateway.specs.Crossing.{Forwarding}
-use Rattle.gateway.specs.Forward.{forwardOf, outputOf}
+use Rattle.forwarding.specs.Crossing.{Forwarding}
+use Rattle.forwarding.specs.Forward.{forwardOf, outputOf}
 use Rattle.lines.specs.Put.{Puts}
 use Rattle.lines.specs.Line.{forwardLine, dropLine}
 use Rattle.lines.specs.Theorems.{Whole}

@@ -8,9 +8,9 @@ use Rattle.decision.specs.declared.Decision.{Decision}
 use Rattle.decision.specs.Decision.{noFact}
 use Rattle.port.specs.declared.Port.{Port}
 use Rattle.table.specs.declared.Table.{Table}
-use Rattle.gateway.specs.Crossing.{Forwarding}
-use Rattle.gateway.specs.Stages.{forwardingOf}
-use Rattle.gateway.specs.Forward.{forwardOf, outputOf}
+use Rattle.forwarding.specs.Crossing.{Forwarding}
+use Rattle.forwarding.specs.Forward.{forwardingOf}
+use Rattle.forwarding.specs.Forward.{forwardOf, outputOf}
 use Rattle.lines.specs.Line.{forwardLine, dropLine}
 
 -- a decision's line, with the octets of the leaving area where it is forwarded

@@ -1,7 +1,6 @@
 pub mod Places
 pub mod Rows
 pub mod Order
-pub mod Levels
 pub mod Sound
 pub mod Numbers
 pub mod Theorems

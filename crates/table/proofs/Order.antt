@@ -1,27 +1,30 @@
 -- Laws of the loops over rows: one row more is written down, read along the order, or found unused.
 use mathlib.Core.Path.{_≡_, refl, sym, _∙_, ap}
 use mathlib.Core.Bool.{Bool, true, false, true≢false, not, _&&_, and-false}
-use mathlib.Core.List.{List, [], _∷_, _++_, append-assoc}
+use mathlib.Core.List.{List, [], _∷_, _++_, map, append-assoc}
 use Prim.Native.Nat.{ℕ, zero, suc, _+_, _-_, _*_, _/_, _%_, _≤_, _<_}
 use native.Mathlib.Omega.{arith}
 use native.Mathlib.Decide.{decLe}
 use native.Mathlib.Numerals.{add-one}
-use lib.Bits.{bitOr, or-add-and, and-le-l, and-le-r}
+use lib.Bits.{bitOr}
 use lib.Dec.{leb, ltb, eqb}
-use lib.ListN.{length, take, drop, getD, set, replicate, length-drop, length-map, replicate-append-replicate, List·getD-map}
+use lib.ListN.{length, take, drop, getD, set, replicate, length-drop, replicate-append-replicate, length-map, List·getD-map}
 use lib.Seq.{take-suc, set-at, take-at, drop-at, length-take-le, getD-take, getD-set-same, getD-set-other}
 use borrow.Author.Tests.{le-leb, leb-true, ltb-true, lt-ltb, eqb-true, eq-eqb}
-use Rattle.label.proofs.Bools.{and-left, and-right, same-yes, and-both}
+use Rattle.label.proofs.Bools.{and-left, and-right, and-both}
 use Rattle.label.proofs.Steps.{next}
+use Rattle.levels.proofs.Levels.{or-zero}
+use Rattle.rows.specs.Rows.{keysApart}
 use Rattle.order.specs.Order.{all, sortKeys}
 use Rattle.order.proofs.Laws.{sort-length}
 use Rattle.order.proofs.Merge.{put}
 use Rattle.table.specs.declared.Row.{Row}
 use Rattle.table.specs.declared.Table.{Table}
-use Rattle.table.specs.Table.{noRow, usedRows, targetEnd, rising, unusedRows, rowsSound, levelsSound, typed, tableSound}
+use Rattle.table.specs.Table.{targetsApart, noRow, usedRows, targetEnd, rising, unusedRows, rowsSound, typed, tableSound}
+use Rattle.levels.specs.Levels.{levelsSound}
 use Rattle.table.specs.Order.{orderKeys, rowOrder, orderOf, rowAt, inOrder}
-use Rattle.table.specs.Stages.{fieldsSound, orRow, RowsRise}
-use Rattle.table.proofs.Rows.{good, order-all}
+use Rattle.table.specs.Stages.{chain, EndsOf, fieldsSound, orRow, RowsRise}
+use Rattle.table.proofs.Rows.{targets-chain, order-all, good}
 
 -- Zeros written one by one.
 pub cleared : (s : List ℕ) (i : ℕ) → i < length s → take i s ≡ replicate i 0 → take (i + 1) (set s i 0) ≡ replicate (i + 1) 0
@@ -123,16 +126,34 @@ order-turn rs n order i h e w q l =
       next = next (rowAt rs 0) (inOrder rs) i there ∙ ap (λ (z : Row). z ∷ drop (i + 1) (inOrder rs)) (List·getD-map (rowAt rs) (rowOrder rs) i 0);
     })
 
--- One row more is unused.
-or-zero : (a b : ℕ) → eqb (bitOr a b) 0 ≡ (eqb a 0 && eqb b 0)
-or-zero a b =
-    same-yes _ _
-    (λ e. let z : bitOr a b ≡ 0 = eqb-true _ _ e in
-    and-both (eq-eqb a 0 (omega (arith, or-add-and a b, and-le-l a b, and-le-r a b))) (eq-eqb b 0 (omega (arith, or-add-and a b, and-le-l a b, and-le-r a b))))
-    (λ e. let x : a ≡ 0 = eqb-true _ _ (and-left (eqb a 0) _ e) in
-    let y : b ≡ 0 = eqb-true _ _ (and-right (eqb a 0) _ e) in
-    eq-eqb (bitOr a b) 0 (omega (arith, or-add-and a b)))
+-- Along the order, each number names a row that is there and its target.
+keys-chain : (t : Table) (ends ks : List ℕ) (past : ℕ) → t .count ≤ 64 → EndsOf t ends
+    → all (λ k. ltb (k % 65536) (t .count) && eqb (rowAt (usedRows t) k .target) (k / 65536)) ks ≡ true
+    → keysApart past ends ks ≡ chain past (map (rowAt (usedRows t)) ks)
+keys-chain t ends [] past h f e = refl
+keys-chain t ends (k ∷ ks) past h f e =
+    let r : Row = rowAt (usedRows t) k in
+    let a = and-left (ltb (k % 65536) (t .count) && eqb (r .target) (k / 65536)) _ e in
+    let p : k % 65536 < t .count = ltb-true _ _ (and-left (ltb (k % 65536) (t .count)) _ a) in
+    let g : r .target ≡ k / 65536 = eqb-true _ _ (and-right (ltb (k % 65536) (t .count)) _ a) in
+    let z : k % 64 ≡ k % 65536 = omega arith in
+    let w : getD ends (k % 64) 0 ≡ targetEnd r + 1 = ap (λ (j : ℕ). getD ends j 0) z ∙ f (k % 65536) p ∙ ap (λ (x : Row). targetEnd x + 1) (sym (getD-take (t .count) (t .rows) (k % 65536) noRow p)) in
+    ap (λ (x : ℕ). leb past x && keysApart (getD ends (k % 64) 0) ends ks) (sym g)
+    ∙ ap (λ (x : ℕ). leb past (r .target) && keysApart x ends ks) w
+    ∙ ap (λ (b : Bool). leb past (r .target) && b) (keys-chain t ends ks (targetEnd r + 1) h f (and-right (ltb (k % 65536) (t .count) && eqb (r .target) (k / 65536)) _ e))
 
+pub targets-told : (t : Table) (ends order : List ℕ) → t .count ≤ 64 → length (usedRows t) ≡ t .count → length ends ≡ 64 → EndsOf t ends → take (t .count) order ≡ rowOrder (usedRows t)
+    → (leb 64 (length ends) && keysApart 0 ends (take (t .count) order)) ≡ targetsApart (usedRows t)
+targets-told t ends order h n m f w =
+    let rs : List Row = usedRows t in
+    let p : ℕ → Row → Bool = λ k r. ltb (k % 65536) (t .count) && eqb (r .target) (k / 65536) in
+    let g : all (λ k. p k (rowAt rs k)) (rowOrder rs) ≡ true = order-all p rs (omega arith) (λ j r ts b d.
+    let s : length (drop j rs) ≡ suc (length ts) = ap length d in
+    let i : j < t .count = omega (arith, length-drop j rs) in
+    and-both (lt-ltb ((r .target * 65536 + j) % 65536) (t .count) (omega arith)) (eq-eqb (r .target) ((r .target * 65536 + j) / 65536) (omega arith))) in
+    rw (w, le-leb 64 (length ends) (omega arith)) (keys-chain t ends (rowOrder rs) 0 h f g ∙ targets-chain rs (omega arith))
+
+-- One row more is unused.
 pub or-row : (s : ℕ) (r : Row) (u : Bool)
     → (eqb s 0 && (eqb (r .low) 0 && (eqb (r .high) 0 && (eqb (r .target) 0 && u)))) ≡ (eqb (orRow s r) 0 && u)
 or-row s r u = rw (or-zero (bitOr (bitOr s (r .low)) (r .high)) (r .target), or-zero (bitOr s (r .low)) (r .high), or-zero s (r .low)) (go (eqb s 0) (eqb (r .low) 0) (eqb (r .high) 0) (eqb (r .target) 0) u)
@@ -171,23 +192,6 @@ module _ (rows : List Row) (s a b c d i : ℕ) where
       ∙ unused-two rows a b (i + 2) (i + 3) (i + 4) (omega arith) (omega arith) f (omega arith)
       ∙ unused-two rows b c (i + 4) (i + 5) (i + 6) (omega arith) (omega arith) g (omega arith)
       ∙ unused-two rows c d (i + 6) (i + 7) (i + 8) (omega arith) (omega arith) q (omega arith)
-
--- One pair more is unused.
-pair-zero : (a b : ℕ) → eqb (a + b * 256) 0 ≡ (eqb a 0 && eqb b 0)
-pair-zero a b =
-    same-yes _ _
-    (λ e. let z : a + b * 256 ≡ 0 = eqb-true _ _ e in and-both (eq-eqb a 0 (omega arith)) (eq-eqb b 0 (omega arith)))
-    (λ e. let x : a ≡ 0 = eqb-true _ _ (and-left (eqb a 0) _ e) in
-    let y : b ≡ 0 = eqb-true _ _ (and-right (eqb a 0) _ e) in
-    eq-eqb (a + b * 256) 0 (omega arith))
-
-pub pair-step : (s a b : ℕ) (u : Bool) → (eqb s 0 && (eqb a 0 && (eqb b 0 && u))) ≡ (eqb (bitOr s (a + b * 256)) 0 && u)
-pair-step s a b u = rw (or-zero s (a + b * 256), pair-zero a b) (go (eqb s 0) (eqb a 0) (eqb b 0) u)
-  where
-    go : (a b c d : Bool) → (a && (b && (c && d))) ≡ ((a && (b && c)) && d)
-    go false b c d = refl
-    go true false c d = refl
-    go true true c d = refl
 
 -- What fails in the first two parts fails in all three.
 pub rows-apart : (a b c : Bool) → (a && b) ≡ false → (a && (b && c)) ≡ false

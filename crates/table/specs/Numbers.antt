@@ -1,28 +1,11 @@
--- Document 01, "Records": the level that a level goes to, the number that a category has, and the numbers of a set.
-use mathlib.Core.Bool.{Bool, true, false, cond, not, _&&_, _||_}
+-- Document 01, "Records": the number that a category has, and the numbers of a set.
+use mathlib.Core.Bool.{Bool, false, not, _&&_, _||_}
 use mathlib.Core.List.{List, [], _∷_, map}
 use Prim.Native.Nat.{ℕ, zero, suc, _+_, _-_}
 use lib.Dec.{leb, eqb}
-use lib.ListN.{getD}
 use Rattle.label.specs.declared.Run.{Run}
 use Rattle.label.specs.Runs.{run, covers, allBelow}
 use Rattle.table.specs.declared.Row.{Row}
-use Rattle.table.specs.declared.Partner.{Partner}
-use Rattle.table.specs.declared.Partner.the-variants.{Level, Missing}
-
--- the second level of the first pair whose first level it is
-abbrev pub partnerOf : List (List ℕ) → ℕ → Partner
-partnerOf [] v = Missing
-partnerOf (p ∷ ps) v = cond (eqb (getD p 0 0) v) (Level (getD p 1 0)) (partnerOf ps v)
-
--- the level has a partner
-abbrev pub known : Partner → Bool
-known Missing = false
-known (Level v) = true
-
-abbrev pub levelOr0 : Partner → ℕ
-levelOr0 Missing = 0
-levelOr0 (Level v) = v
 
 -- the categories of a row
 abbrev pub source : Row → Run

@@ -8,7 +8,8 @@ use lib.Bits.{bitOr}
 use lib.ListN.{length, drop, getD, replicate}
 use Rattle.table.specs.declared.Row.{Row}
 use Rattle.table.specs.declared.Table.{Table}
-use Rattle.table.specs.Table.{noRow, usedRows, targetEnd, rising, unusedRows, rowsSound, levelsSound, typed}
+use Rattle.table.specs.Table.{noRow, usedRows, targetEnd, rising, unusedRows, rowsSound, typed}
+use Rattle.levels.specs.Levels.{levelsSound}
 use Rattle.table.specs.Order.{orderKeys, rowOrder}
 
 -- each row's targets begin above the end of those before, the first at `f` or above

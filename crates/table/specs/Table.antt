@@ -3,7 +3,8 @@ use mathlib.Core.Bool.{Bool, true, not, _&&_, _||_}
 use mathlib.Core.List.{List, [], _∷_}
 use Prim.Native.Nat.{ℕ, _+_, _-_}
 use lib.Dec.{leb, ltb, eqb}
-use lib.ListN.{length, take, drop, getD}
+use lib.ListN.{length, take, drop}
+use Rattle.levels.specs.Levels.{levelsSound, levelNumbers}
 use Rattle.table.specs.declared.Row.{Row}
 use Rattle.table.specs.declared.Table.{Table}
 
@@ -47,23 +48,6 @@ unusedRows (r ∷ rs) = eqb (r .low) 0 && (eqb (r .high) 0 && (eqb (r .target) 0
 
 unfoldable pub rowsSound : Table → Bool
 rowsSound t = rising 0 (usedRows t) && (unusedRows (drop (t .count) (t .rows)) && targetsApart (usedRows t))
-
--- the level pairs, each an array of two numbers: "strictly rising on both sides", the first at `f` and `g` or above
-abbrev pub levelsRise : ℕ → ℕ → List (List ℕ) → Bool
-levelsRise f g [] = true
-levelsRise f g (p ∷ ps) = leb f (getD p 0 0) && (leb g (getD p 1 0) && levelsRise (getD p 0 0 + 1) (getD p 1 0 + 1) ps)
-
-abbrev pub unusedPairs : List (List ℕ) → Bool
-unusedPairs [] = true
-unusedPairs (p ∷ ps) = eqb (getD p 0 0) 0 && (eqb (getD p 1 0) 0 && unusedPairs ps)
-
-unfoldable pub levelsSound : List (List ℕ) → ℕ → Bool
-levelsSound ls n = levelsRise 0 0 (take n ls) && unusedPairs (drop n ls)
-
--- what the types say of level pairs: each number is at most 255
-abbrev pub levelNumbers : List (List ℕ) → Bool
-levelNumbers [] = true
-levelNumbers (p ∷ ps) = leb (getD p 0 0) 255 && (leb (getD p 1 0) 255 && levelNumbers ps)
 
 -- what the types say of every table: domains of 32 bits, 64 places for rows, levels from 0 to 255
 unfoldable pub typed : Table → List (List ℕ) → Bool

@@ -6,7 +6,7 @@ use Prim.Native.Nat.{ℕ, zero, suc, _+_, _<_, _≤_}
 use native.Mathlib.Omega.{arith}
 use lib.ListN.{length, take, drop, getD, length-take, drop-of-length-le}
 use Rattle.table.specs.Table.{tableSound}
-use Rattle.table.proofs.Levels.{next-there}
+use Rattle.levels.proofs.Levels.{next-there}
 use Rattle.filetable.specs.declared.Renumbering.{Renumbering}
 use Rattle.filetable.specs.TableFormat.{levelsOf}
 use Rattle.fileset.proofs.Sets.{outTable}

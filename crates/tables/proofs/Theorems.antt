@@ -7,7 +7,8 @@ use native.Mathlib.Omega.{arith}
 use lib.Dec.{eqb}
 use borrow.Author.Tests.{eqb-true, eq-eqb}
 use Rattle.label.proofs.Bools.{never, and-left, and-right}
-use Rattle.table.specs.Table.{tableSound, levelsSound, rowsSound, typed}
+use Rattle.table.specs.Table.{tableSound, rowsSound, typed}
+use Rattle.levels.specs.Levels.{levelsSound}
 use Rattle.filetable.specs.declared.Renumbering.{Renumbering}
 use Rattle.filetable.specs.TableFormat.{levelsOf}
 use Rattle.tables.specs.Tables.{allTablesSound, isFor, noTableFrom, firstTable}

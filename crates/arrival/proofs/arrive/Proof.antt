@@ -6,7 +6,7 @@ use mathlib.Core.Path.{_≡_, sym, _∙_}
 use mathlib.Core.Bool.{true, false, _||_}
 use lib.Dec.{ltb}
 use lib.ListN.{length}
-use Rattle.area.specs.declared.Walk.the-variants.{Sound, Refused}
+use Rattle.turn.specs.declared.Walk.the-variants.{Sound, Refused}
 use Rattle.area.proofs.Laws.{area-refused, sound-placed}
 use Rattle.port.specs.Port.{portSound}
 use Rattle.arrival.specs.Checks.{badArea, walkAt}

@@ -4,9 +4,9 @@ use borrow.Author.Tests.{not-true, not-false}
 use native.Mathlib.Omega.{arith}
 use mathlib.Core.Path.{_≡_, sym, _∙_, ap}
 use mathlib.Core.Bool.{true}
-use Rattle.area.specs.declared.Kind.the-variants.{Basic}
+use Rattle.kinds.specs.declared.Kind.the-variants.{Basic}
 use Rattle.area.specs.Area.{WholeAt}
-use Rattle.area.specs.declared.Place.{Place}
+use Rattle.turn.specs.declared.Place.{Place}
 use Rattle.arrival.specs.Checks.{firstOf}
 use Rattle.arrival.specs.Stages.{isOpen, basicChecks, beforeRange}
 use Rattle.arrival.proofs.Arrival.{whole-inside, open-closed, basic-missing, basic-bad, basic-outside, basic-passes}

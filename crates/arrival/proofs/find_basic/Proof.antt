@@ -2,7 +2,7 @@
 use borrow.Author.Needs.{needs}
 use mathlib.Core.Path.{_≡_, sym, _∙_}
 use mathlib.Core.Bool.{true}
-use Rattle.area.specs.declared.Walk.the-variants.{Sound}
+use Rattle.turn.specs.declared.Walk.the-variants.{Sound}
 use Rattle.area.specs.Area.{walkOf}
 use Rattle.area.proofs.Laws.{sound-placed}
 use Rattle.arrival.proofs.find_basic.Statement.{statement}

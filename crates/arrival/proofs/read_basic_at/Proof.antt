@@ -2,8 +2,8 @@
 use borrow.Author.Needs.{needs}
 use native.Mathlib.Omega.{arith}
 use mathlib.Core.Path.{_∙_, ap}
-use Rattle.area.specs.declared.Kind.the-variants.{Basic}
-use Rattle.basic.specs.Alone.{basicReading}
+use Rattle.kinds.specs.declared.Kind.the-variants.{Basic}
+use Rattle.basic_option.specs.Alone.{basicReading}
 use Rattle.arrival.proofs.Arrival.{Inside, whole-inside, slice-is}
 use Rattle.arrival.proofs.read_basic_at.Statement.{statement}
 use Rattle.arrival.proofs.read_basic_at.Tie as tie

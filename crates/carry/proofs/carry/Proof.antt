@@ -47,8 +47,8 @@ returns c =
       refused-same (c .not-carried .result) (imageOf (a .table) runs) (a .far .now) 2 (c .not-carried .ensures) (λ z. omega arith),
     )
 
-fewer-requires : tie.Need-fewer-requires
-fewer-requires c κs = search needs
+lesser-requires : tie.Need-lesser-requires
+lesser-requires c κs = search needs
 
 slice-aggregate-carry-checked : tie.Need-slice-aggregate-carry-checked
 slice-aggregate-carry-checked c =
@@ -63,10 +63,10 @@ carry-checked-requires c κs =
     let e = f .before in
     let o = e .before .before in
     let a = o .before .before .before .before .args in
-    let m = f .fewer .result in
-    let same = first-same (a .keys .now) (a .n) m (f .fewer .ensures) in
+    let m = f .lesser .result in
+    let same = first-same (a .keys .now) (a .n) m (f .lesser .ensures) in
     let q = passed e in
-    (omega (arith, f .fewer .ensures), q .2, ready-of (a .table) (a .levels) _ (keyRuns (take m (a .keys .now))) (q .0) (o .table-order .ensures .1) (ap (λ (z : List ℕ). labelRuns (keyRuns z)) same ∙ q .1))
+    (omega (arith, f .lesser .ensures), q .2, ready-of (a .table) (a .levels) _ (keyRuns (take m (a .keys .now))) (q .0) (o .table-order .ensures .1) (ap (λ (z : List ℕ). labelRuns (keyRuns z)) same ∙ q .1))
 
 same-length : tie.Need-same-length
 same-length c = search needs
@@ -77,7 +77,7 @@ returns-2 c =
     let f = r .before .before .before in
     let e = f .before in
     let a = e .before .before .before .before .before .before .args in
-    let same = first-same (a .keys .now) (a .n) (f .fewer .result) (f .fewer .ensures) in
+    let same = first-same (a .keys .now) (a .n) (f .lesser .result) (f .lesser .ensures) in
     let q = passed e in (
       rw same at (r .carry-checked .ensures .0)
           ∙ sym (carry-checked (keyRuns (take (a .n) (a .keys .now))) (a .level) (a .table) (a .levels) (length (a .far .now)) (q .0) (q .1) (q .2)),
@@ -92,7 +92,7 @@ carry-spec =
     keys-formed-requires
     not-carried-requires
     returns
-    fewer-requires
+    lesser-requires
     slice-aggregate-carry-checked
     carry-checked-requires
     same-length

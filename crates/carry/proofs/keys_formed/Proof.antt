@@ -20,26 +20,26 @@ Inv-loop keys n m good₀ floor₀ i₀ good floor i = (i ≤ m) × (spaced 0 (k
 abbrev μ-loop : tie.MeasureT-loop
 μ-loop keys n m good₀ floor₀ i₀ good floor i = m - i
 
-fewer-requires : tie.Need-fewer-requires Inv-loop μ-loop
-fewer-requires c κs = search needs
+lesser-requires : tie.Need-lesser-requires Inv-loop μ-loop
+lesser-requires c κs = search needs
 
 returns : tie.Need-returns Inv-loop μ-loop
 returns c =
     let f = c .before in
     let a = f .before .before .args in
-    formed-not (a .keys .now) (a .n) (f .fewer .result) (f .fewer .ensures) (c .if1 .taken)
+    formed-not (a .keys .now) (a .n) (f .lesser .result) (f .lesser .ensures) (c .if1 .taken)
 
 loop-holds : tie.Need-loop-holds Inv-loop μ-loop
 loop-holds c =
     let f = c .before in
     let a = f .before .before .args in
-    (omega arith, rises-spaced 0 (keyRuns (take (f .fewer .result) (a .keys .now))) (omega arith))
+    (omega arith, rises-spaced 0 (keyRuns (take (f .lesser .result) (a .keys .now))) (omega arith))
 
 mul-key : tie.Need-mul-key Inv-loop μ-loop
 mul-key c = search needs
 
 shared-slice-read-key : tie.Need-shared-slice-read-key Inv-loop μ-loop
-shared-slice-read-key c = omega (arith, c .before .before .before .before .fewer .ensures)
+shared-slice-read-key c = omega (arith, c .before .before .before .before .lesser .ensures)
 
 add-floor : tie.Need-add-floor Inv-loop μ-loop
 add-floor c = search needs
@@ -56,11 +56,11 @@ loop-again c =
     let v = d .before .loop in
     let f = d .before .before .before in
     let a = f .before .before .args in
-    let m = f .fewer .result in
+    let m = f .lesser .result in
     let x = getD (a .keys .now) (v .i) 0 in (
       omega arith,
       v .inv .1
-          ∙ rw (next-key (a .keys .now) m (v .i) (d .loop-test .taken) (omega (arith, f .fewer .ensures)))
+          ∙ rw (next-key (a .keys .now) m (v .i) (d .loop-test .taken) (omega (arith, f .lesser .ensures)))
           (and-chain (v .good) (leb (v .floor) (x / 65536)) (leb (x / 65536) (x % 65536)) (rises (x % 65536 + 2) (drop (v .i + 1) (keyRuns (take m (a .keys .now)))))),
     )
 
@@ -70,9 +70,9 @@ returns-2 c =
     let e1 = c .before .before in
     let f = e1 .before in
     let a = f .before .before .args in
-    let m = f .fewer .result in
+    let m = f .lesser .result in
     sym (v .inv .1 ∙ rw (keys-up (a .keys .now) m (v .i) (c .loop-test .left)))
-    ∙ formed-is (a .keys .now) (a .n) m (f .fewer .ensures) (e1 .if1 .left)
+    ∙ formed-is (a .keys .now) (a .n) m (f .lesser .ensures) (e1 .if1 .left)
 
 pub keys-formed-spec : {M : Type 1} → statement M
 keys-formed-spec =
@@ -80,7 +80,7 @@ keys-formed-spec =
     (tie.spec
     Inv-loop
     μ-loop
-    fewer-requires
+    lesser-requires
     returns
     loop-holds
     mul-key

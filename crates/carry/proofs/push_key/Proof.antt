@@ -1,8 +1,9 @@
 -- `carry::push_key` meets its contract.
 use borrow.Author.Needs.{needs}
+use borrow.Author.Tests.{leb-true, leb-false}
 use native.Mathlib.Omega.{arith}
 use Prim.Native.Nat.{ℕ, _+_, _-_, _<_}
-use mathlib.Core.Path.{_≡_}
+use mathlib.Core.Path.{_≡_, sym, _∙_}
 use lib.Seq.{drop-set-lt}
 use Rattle.carry.proofs.Turns.{push-first, push-joined, push-behind}
 use Rattle.carry.proofs.push_key.Statement.{statement}
@@ -31,8 +32,8 @@ mul-last c = search needs
 slice-read-last : tie.Need-slice-read-last
 slice-read-last c = search needs
 
-add-if2 : tie.Need-add-if2
-add-if2 c = search needs
+reaches-requires : tie.Need-reaches-requires
+reaches-requires c κs = search needs
 
 stretch-requires : tie.Need-stretch-requires
 stretch-requires c κs = search needs
@@ -51,10 +52,11 @@ same-length-2 c = search needs
 
 returns-2 : tie.Need-returns-2
 returns-2 c =
-    let e1 = c .before .before .before in
+    let t = c .before .before in
+    let e1 = t .before .before in
     let s = e1 .before .before in
     let p : 0 < s .args .w = some (s .args .w) (e1 .if1 .left) in
-    (omega arith, omega arith, drop-set-lt (s .args .w) (s .args .keys .now) (s .args .w - 1) (c .stretch .result) (omega arith), rw (c .stretch .ensures) (push-joined (s .args .keys .now) (s .args .w) (s .args .x) (s .pre) p (c .before .if2 .taken)))
+    (omega arith, omega arith, drop-set-lt (s .args .w) (s .args .keys .now) (s .args .w - 1) (c .stretch .result) (omega arith), rw (c .stretch .ensures) (push-joined (s .args .keys .now) (s .args .w) (s .args .x) (s .pre) p (leb-true _ _ (sym (t .reaches .ensures) ∙ c .before .if2 .taken))))
 
 mul-keys-2 : tie.Need-mul-keys-2
 mul-keys-2 c = search needs
@@ -70,10 +72,11 @@ same-length-3 c = search needs
 
 returns-3 : tie.Need-returns-3
 returns-3 c =
-    let e1 = c .before .before in
+    let t = c .before in
+    let e1 = t .before .before in
     let s = e1 .before .before in
     let p : 0 < s .args .w = some (s .args .w) (e1 .if1 .left) in
-    (omega arith, omega arith, drop-set-lt (s .args .w + 1) (s .args .keys .now) (s .args .w) (s .args .x) (omega arith), push-behind (s .args .keys .now) (s .args .w) (s .args .x) (s .pre) p (c .if2 .left))
+    (omega arith, omega arith, drop-set-lt (s .args .w + 1) (s .args .keys .now) (s .args .w) (s .args .x) (omega arith), push-behind (s .args .keys .now) (s .args .w) (s .args .x) (s .pre) p (leb-false _ _ (sym (t .reaches .ensures) ∙ c .if2 .left)))
 
 pub push-key-spec : {M : Type 1} → statement M
 push-key-spec =
@@ -85,7 +88,7 @@ push-key-spec =
     sub-last
     mul-last
     slice-read-last
-    add-if2
+    reaches-requires
     stretch-requires
     sub-keys
     mul-keys

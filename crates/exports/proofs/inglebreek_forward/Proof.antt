@@ -1,7 +1,7 @@
 -- `exports::inglebreek_forward` meets its contract.
 use borrow.Author.Needs.{needs}
 use lib.ListN.{length}
-use Rattle.gateway.specs.Stages.{forwardingOf}
+use Rattle.forwarding.specs.Forward.{forwardingOf}
 use Rattle.exports.specs.Answers.{factsOf, sampleForwarding}
 use Rattle.exports.proofs.Laws.{short-answer, short-runs, both-roomy, sample-is, forwards-nothing, forwards-whole}
 use Rattle.exports.proofs.inglebreek_forward.Statement.{statement}

@@ -7,7 +7,7 @@ use mathlib.Core.Bool.{Bool, false, _||_}
 use lib.Dec.{ltb}
 use lib.ListN.{length}
 use Rattle.area.specs.Area.{walkOf}
-use Rattle.area.specs.declared.Walk.the-variants.{Sound, Refused}
+use Rattle.turn.specs.declared.Walk.the-variants.{Sound, Refused}
 use Rattle.area.proofs.Laws.{area-refused, sound-placed}
 use Rattle.arrival.specs.Checks.{badArea, walkAt}
 use Rattle.decision.specs.Verdict.{stopped}

@@ -3,10 +3,11 @@ use borrow.Author.Needs.{needs}
 use native.Mathlib.Omega.{arith}
 use mathlib.Core.Path.{refl, sym, _∙_, ap}
 use lib.ListN.{length}
-use Rattle.gateway.specs.Stages.{forwardingOf, recordedBy}
+use Rattle.forwarding.specs.Forward.{forwardingOf}
+use Rattle.departure.specs.Departure.{recordedBy}
 use Rattle.usual.proofs.Usual.{usual, usual-sound}
-use Rattle.gateway.proofs.Stages.{forwarded}
-use Rattle.gateway.proofs.Usual.{sent-off, writes-labelled}
+use Rattle.stages.proofs.Stages.{forwarded}
+use Rattle.gateway.proofs.Usual.{sent-off, written-labelled}
 use Rattle.gateway.proofs.forward_usual.Statement.{statement}
 use Rattle.gateway.proofs.forward_usual.Tie as tie
 
@@ -50,9 +51,7 @@ slice-aggregate-write-area : tie.Need-slice-aggregate-write-area
 slice-aggregate-write-area c = search needs
 
 write-area-requires : tie.Need-write-area-requires
-write-area-requires c κs =
-    let t = c .before .before in
-    λ z. omega (arith, t .fit .ensures .1 z)
+write-area-requires c κs = search needs
 
 slice-aggregate-conclude : tie.Need-slice-aggregate-conclude
 slice-aggregate-conclude c = search needs
@@ -86,11 +85,13 @@ returns c =
       arrives = a .arrive-usual .ensures;
       ready = r .check-leaving .ensures ∙ ap (recordedBy (a .arrive-usual .result) (length (s .args .out .now))) (sym (usual-sound (s .args .leaving) (s .pre .1)));
       sent = sent-off (r .check-leaving .result) (s .args .arriving .basic .on) (s .args .leaving .basic .on) (s .args .leaving .basic .sending) _ (from .off) (to .off);
-      crosses = x .cross .ensures;
+      crosses = x .cross .ensures .0;
+      crossed = x .cross .ensures .1;
       held = rw (to .labelled) (h .hold-usual .ensures);
-      counted = k .kept-by .ensures;
-      fits = rw (to .labelled) (t .fit .ensures .0);
-      writes = writes-labelled _ _ _ _ _ _ _ _ _ _ (to .labelled) (w .write-area .ensures);
+      keeps = k .kept-by .ensures;
+      fits = rw (to .labelled) (t .fit .ensures);
+      counts = rw (to .labelled) (w .write-area .ensures .0);
+      writes = written-labelled _ _ _ _ _ _ _ _ _ (to .labelled) (w .write-area .ensures .1);
     }) in
     (c .conclude .ensures ∙ q .0, q .1)
 

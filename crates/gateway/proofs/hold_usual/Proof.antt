@@ -2,7 +2,7 @@
 use borrow.Author.Needs.{needs}
 use borrow.Author.Tests.{not-true, not-false, eq-eqb, ne-eqb}
 use mathlib.Core.Path.{sym, _∙_}
-use Rattle.gateway.specs.Stages.{heldBy}
+use Rattle.departure.specs.Departure.{heldBy}
 use Rattle.gateway.proofs.hold_usual.Statement.{statement}
 use Rattle.gateway.proofs.hold_usual.Tie as tie
 

@@ -7,7 +7,7 @@ use mathlib.Core.List.{List}
 use native.Mathlib.Omega.{arith}
 use Prim.Native.Nat.{ℕ, _+_, _≤_, _<_}
 use lib.ListN.{getD}
-use Rattle.area.specs.declared.Place.the-variants.{At}
+use Rattle.turn.specs.declared.Place.the-variants.{At}
 use Rattle.port.specs.declared.Port.{Port}
 use Rattle.decision.specs.declared.Verdict.{Verdict}
 use Rattle.decision.specs.Verdict.{going, stopped}

@@ -8,11 +8,11 @@ use mathlib.Core.Path.{_≡_, sym, _∙_, ap}
 use mathlib.Core.Bool.{_&&_, and-true}
 use mathlib.Core.List.{[], _∷_}
 use lib.Dec.{eqb, leb}
-use lib.ListN.{drop, getD, length, length-map, drop-of-length-le}
+use lib.ListN.{drop, getD, length, drop-of-length-le}
 use Rattle.label.specs.Runs.{spaced, unused}
 use Rattle.label.specs.Label.{used, noRun}
 use Rattle.label.proofs.Bools.{and-chain}
-use Rattle.label.proofs.Steps.{next, next-used, used-up}
+use Rattle.label.proofs.Steps.{next, next-used, used-up, length-mapped, place-in, octets-fit, next-fits, next-within, one-fewer, from-zero, all-there, there, past-all, every-place}
 use Rattle.label.proofs.Places.{or-step, rises, rises-spaced}
 use Rattle.label.proofs.runs_formed.Statement.{statement}
 use Rattle.label.proofs.runs_formed.Tie as tie
@@ -33,7 +33,7 @@ abbrev μ-loop2 : tie.MeasureT-loop2
 μ-loop2 label n good floor i₀ rest₀ i rest = 120 - i
 
 sized : (c : tie.Start Inv-loop μ-loop Inv-loop2 μ-loop2) → length (c .args .t1 .runs) ≡ 120
-sized c = simp length-map at (c .good .0 .1 .1 .1 .1 .1 .0 .1 .0 .1)
+sized c = length-mapped _ (c .args .t1 .runs) 120 (c .good .0 .1 .1 .1 .1 .1 .0 .1 .0 .1)
 
 -- the used run that a turn of the first loop reads
 seen-used : (c : tie.In-loop Inv-loop μ-loop Inv-loop2 μ-loop2) →
@@ -42,7 +42,7 @@ seen-used : (c : tie.In-loop Inv-loop μ-loop Inv-loop2 μ-loop2) →
     drop i (used l) ≡ getD (l .runs) i noRun ∷ drop (i + 1) (used l)
 seen-used c =
     let s = c .before .before in
-    next-used noRun (s .args .t1 .runs) (s .args .t1 .count) (c .before .loop .i) (c .loop-test .taken) (omega (arith, sized s))
+    next-used noRun (s .args .t1 .runs) (s .args .t1 .count) (c .before .loop .i) (c .loop-test .taken) (all-there (s .pre) (sized s))
 
 -- the place that a turn of the second loop reads
 seen : (c : tie.In-loop2 Inv-loop μ-loop Inv-loop2 μ-loop2) →
@@ -51,16 +51,16 @@ seen : (c : tie.In-loop2 Inv-loop μ-loop Inv-loop2 μ-loop2) →
     drop i (l .runs) ≡ getD (l .runs) i noRun ∷ drop (i + 1) (l .runs)
 seen c =
     let s = c .before .before .before .before in
-    next noRun (s .args .t1 .runs) (c .before .loop2 .i) (omega (arith, sized s))
+    next noRun (s .args .t1 .runs) (c .before .loop2 .i) (there (c .loop2-test .taken) (sized s))
 
 loop-holds : tie.Need-loop-holds Inv-loop μ-loop Inv-loop2 μ-loop2
-loop-holds c = (omega arith, rises-spaced 0 (used (c .args .t1)) (omega arith))
+loop-holds c = (from-zero, rises-spaced 0 (used (c .args .t1)) from-zero)
 
 mul-run : tie.Need-mul-run Inv-loop μ-loop Inv-loop2 μ-loop2
-mul-run c = omega arith
+mul-run c = octets-fit (c .loop-test .taken) (c .before .before .pre)
 
 element-copy-out-run : tie.Need-element-copy-out-run Inv-loop μ-loop Inv-loop2 μ-loop2
-element-copy-out-run c = omega arith
+element-copy-out-run c = place-in (c .loop-test .taken) (c .before .before .pre)
 
 cast-low : tie.Need-cast-low Inv-loop μ-loop Inv-loop2 μ-loop2
 cast-low c = omega arith
@@ -72,10 +72,12 @@ add-floor : tie.Need-add-floor Inv-loop μ-loop Inv-loop2 μ-loop2
 add-floor c = omega arith
 
 add-i : tie.Need-add-i Inv-loop μ-loop Inv-loop2 μ-loop2
-add-i c = omega arith
+add-i c =
+    let d = c .before .before .before in
+    next-fits (d .loop-test .taken) (d .before .before .pre)
 
 loop-less : tie.Need-loop-less Inv-loop μ-loop Inv-loop2 μ-loop2
-loop-less c = omega arith
+loop-less c = one-fewer (c .before .before .before .loop-test .taken)
 
 loop-again : tie.Need-loop-again Inv-loop μ-loop Inv-loop2 μ-loop2
 loop-again c =
@@ -84,7 +86,7 @@ loop-again c =
     let i = d .before .loop .i in
     let floor = d .before .loop .floor in
     let r = getD (l .runs) i noRun in (
-      omega arith,
+      next-within (d .loop-test .taken),
       d .before .loop .inv .1
           ∙ rw (seen-used d)
           (and-chain (d .before .loop .good) (leb floor (r .low)) (leb (r .low) (r .high)) (rises (r .high + 2) (drop (i + 1) (used l)))),
@@ -101,19 +103,19 @@ loop2-holds c =
     )
 
 mul-run-2 : tie.Need-mul-run-2 Inv-loop μ-loop Inv-loop2 μ-loop2
-mul-run-2 c = omega arith
+mul-run-2 c = octets-fit (c .loop2-test .taken) every-place
 
 element-copy-out-run-2 : tie.Need-element-copy-out-run-2 Inv-loop μ-loop Inv-loop2 μ-loop2
-element-copy-out-run-2 c = omega arith
+element-copy-out-run-2 c = c .loop2-test .taken
 
 word-requires : tie.Need-word-requires Inv-loop μ-loop Inv-loop2 μ-loop2
 word-requires c κs = search needs
 
 add-i-2 : tie.Need-add-i-2 Inv-loop μ-loop Inv-loop2 μ-loop2
-add-i-2 c = omega arith
+add-i-2 c = next-fits (c .before .before .loop2-test .taken) every-place
 
 loop2-less : tie.Need-loop2-less Inv-loop μ-loop Inv-loop2 μ-loop2
-loop2-less c = omega arith
+loop2-less c = one-fewer (c .before .before .loop2-test .taken)
 
 loop2-again : tie.Need-loop2-again Inv-loop μ-loop Inv-loop2 μ-loop2
 loop2-again c =
@@ -121,7 +123,7 @@ loop2-again c =
     let l = d .before .before .before .before .args .t1 in
     let i = d .before .loop2 .i in
     let r = getD (l .runs) i noRun in (
-      omega arith,
+      next-within (d .loop2-test .taken),
       d .before .loop2 .inv .1,
       d .before .loop2 .inv .2
           ∙ rw (seen d, c .word .ensures) (or-step (d .before .loop2 .rest) (r .low) (r .high) (unused (drop (i + 1) (l .runs)))),
@@ -131,7 +133,7 @@ returns : tie.Need-returns Inv-loop μ-loop Inv-loop2 μ-loop2
 returns c =
     let l = c .before .before .before .before .args .t1 in
     let i = c .before .loop2 .i in
-    let none : drop i (l .runs) ≡ [] = drop-of-length-le (l .runs) {i = i} (omega (arith, sized (c .before .before .before .before))) in
+    let none : drop i (l .runs) ≡ [] = drop-of-length-le (l .runs) {i = i} (past-all (c .loop2-test .left) (sized (c .before .before .before .before))) in
     sym (rw (c .before .loop2 .inv .1, c .before .loop2 .inv .2, none, and-true (eqb (c .before .loop2 .rest) 0)))
 
 pub runs-formed-spec : {M : Type 1} → statement M

@@ -4,13 +4,16 @@ use native.Mathlib.Omega.{arith}
 use Prim.Native.Nat.{ℕ, _≤_, _+_}
 use mathlib.Core.Path.{_≡_, refl, sym}
 use mathlib.Core.Bool.{Bool}
-use mathlib.Core.List.{_∷_}
+use mathlib.Core.List.{List, _∷_}
+use mir.Syntax.{w64}
+use mir.Val.{Fits}
+use Rattle.label.specs.declared.Run.{Run}
 use Rattle.label.specs.declared.Label.{Label}
 use Rattle.label.specs.Runs.{passes, rounds}
-use lib.ListN.{drop, getD, length, length-map, length-take}
+use lib.ListN.{drop, getD, length, length-take}
 use Rattle.label.specs.Label.{used, noRun}
-use Rattle.label.proofs.Steps.{next-used, used-up}
-use Rattle.label.proofs.Pass.{Stands, stands-none, stands-done, stands-over, stands-in, stands-before, stands-past, Counts, counts-none, counts-done, counts-over, counts-in, counts-before, counts-past, rounds-most, fewer-over, fewer-in}
+use Rattle.label.proofs.Steps.{next-used, used-up, length-mapped, place-in, octets-fit, next-fits, next-within, from-zero, all-there}
+use Rattle.label.proofs.Pass.{Stands, stands-start, stands-by, stands-none, stands-done, stands-over, stands-in, stands-before, stands-past, Counts, counts-start, counts-by, counts-none, counts-done, counts-over, counts-in, counts-before, counts-past, rounds-most, fewer-over, fewer-in}
 use Rattle.label.proofs.runs_within.Statement.{statement}
 use Rattle.label.proofs.runs_within.Tie as tie
 
@@ -22,14 +25,10 @@ abbrev μ-loop : tie.MeasureT-loop
 μ-loop a b n m i₀ j₀ k₀ i j k = rounds (drop i (used a)) (drop j (used b))
 
 sized-a : (c : tie.Start Inv-loop μ-loop) → c .args .t1 .count ≤ length (c .args .t1 .runs)
-sized-a c =
-    let h : length (c .args .t1 .runs) ≡ 120 = simp length-map at (c .good .0 .1 .1 .1 .1 .1 .0 .1 .0 .1) in
-    omega arith
+sized-a c = all-there (c .pre .0) (length-mapped _ (c .args .t1 .runs) 120 (c .good .0 .1 .1 .1 .1 .1 .0 .1 .0 .1))
 
 sized-b : (c : tie.Start Inv-loop μ-loop) → c .args .t2 .count ≤ length (c .args .t2 .runs)
-sized-b c =
-    let h : length (c .args .t2 .runs) ≡ 120 = simp length-map at (c .good .1 .0 .1 .1 .1 .1 .1 .0 .1 .0 .1) in
-    omega arith
+sized-b c = all-there (c .pre .1) (length-mapped _ (c .args .t2 .runs) 120 (c .good .1 .0 .1 .1 .1 .1 .1 .0 .1 .0 .1))
 
 -- the runs that the turn reads
 run-a : (c : tie.In-loop Inv-loop μ-loop) →
@@ -54,7 +53,7 @@ standing : (c : tie.Else1 Inv-loop μ-loop) →
     let i = c .before .before .loop .i in
     let j = c .before .before .loop .j in
     Stands (used a) (used b) (getD (a .runs) i noRun ∷ drop (i + 1) (used a)) (getD (b .runs) j noRun ∷ drop (j + 1) (used b))
-standing c = rw (run-a (c .before), run-b c) at (c .before .before .loop .inv .2)
+standing c = stands-by (run-a (c .before)) (run-b c) (c .before .before .loop .inv .2)
 
 -- the same of the rounds
 counting : (c : tie.Else1 Inv-loop μ-loop) →
@@ -63,20 +62,25 @@ counting : (c : tie.Else1 Inv-loop μ-loop) →
     let i = c .before .before .loop .i in
     let j = c .before .before .loop .j in
     Counts (used a) (used b) (getD (a .runs) i noRun ∷ drop (i + 1) (used a)) (getD (b .runs) j noRun ∷ drop (j + 1) (used b)) (c .before .before .loop .k)
-counting c = rw (run-a (c .before), run-b c) at (c .before .before .loop .inv .3)
+counting c = counts-by (run-a (c .before)) (run-b c) (c .before .before .loop .inv .3)
 
 -- at most as many rounds as both labels have runs
 bounded : (l r : Label) (k : ℕ) → l .count ≤ 120 → r .count ≤ 120 → k ≡ rounds (used l) (used r) → k ≤ l .count + r .count
 bounded l r k h g e =
     omega (arith, e, rounds-most (used l) (used r), length-take (l .count) (l .runs), length-take (r .count) (r .runs))
 
+-- one more round is a number of 64 bits
+round-fits : {as′ bs′ : List Run} {k : ℕ} (l r : Label) → l .count ≤ 120 → r .count ≤ 120 → Counts (used l) (used r) as′ bs′ k → Fits w64 (k + 1)
+round-fits l r h g c =
+    omega (arith, c .all, rounds-most (used l) (used r), length-take (l .count) (l .runs), length-take (r .count) (r .runs))
+
 loop-holds : tie.Need-loop-holds Inv-loop μ-loop
-loop-holds c = (omega arith, omega arith, record { same = refl }, record { all = omega arith })
+loop-holds c = (from-zero, from-zero, stands-start, counts-start)
 
 add-k : tie.Need-add-k Inv-loop μ-loop
 add-k c =
-    let a = c .before .before .args in
-    omega (arith, c .before .loop .inv .3 .all, rounds-most (used (a .t1)) (used (a .t2)), length-take (a .t1 .count) (a .t1 .runs), length-take (a .t2 .count) (a .t2 .runs))
+    let s = c .before .before in
+    round-fits (s .args .t1) (s .args .t2) (s .pre .0) (s .pre .1) (c .before .loop .inv .3)
 
 -- what the pass says, with the rounds that it took and their bound
 told : {v : Bool} {k : ℕ} (l r : Label) → l .count ≤ 120 → r .count ≤ 120 → passes (used l) (used r) ≡ v → k ≡ rounds (used l) (used r)
@@ -89,20 +93,20 @@ returns c =
     let b = s .args .t2 in
     let up = used-up (b .runs) (b .count) (c .before .before .loop .j) (c .if1 .taken) in
     told (s .args .t1) b (s .pre .0) (s .pre .1)
-    (stands-none (rw (run-a (c .before), up) at (c .before .before .loop .inv .2)))
-    (counts-none (rw (run-a (c .before), up) at (c .before .before .loop .inv .3)))
+    (stands-none (stands-by (run-a (c .before)) up (c .before .before .loop .inv .2)))
+    (counts-none (counts-by (run-a (c .before)) up (c .before .before .loop .inv .3)))
 
 mul-run : tie.Need-mul-run Inv-loop μ-loop
-mul-run c = omega arith
+mul-run c = octets-fit (c .before .loop-test .taken) (c .before .before .before .pre .0)
 
 element-copy-out-run : tie.Need-element-copy-out-run Inv-loop μ-loop
-element-copy-out-run c = omega arith
+element-copy-out-run c = place-in (c .before .loop-test .taken) (c .before .before .before .pre .0)
 
 mul-over : tie.Need-mul-over Inv-loop μ-loop
-mul-over c = omega arith
+mul-over c = octets-fit (c .before .if1 .left) (c .before .before .before .before .pre .1)
 
 element-copy-out-over : tie.Need-element-copy-out-over Inv-loop μ-loop
-element-copy-out-over c = omega arith
+element-copy-out-over c = place-in (c .before .if1 .left) (c .before .before .before .before .pre .1)
 
 add-j : tie.Need-add-j Inv-loop μ-loop
 add-j c = omega arith
@@ -115,10 +119,10 @@ loop-less c =
 loop-again : tie.Need-loop-again Inv-loop μ-loop
 loop-again c =
     let e = c .before .before .before .before .before in (
-      omega arith,
-      omega arith,
-      rw (run-a (e .before)) (stands-over (standing e) (c .if2 .taken)),
-      rw (run-a (e .before)) (counts-over (counting e) (c .if2 .taken)),
+      e .before .before .loop .inv .0,
+      next-within (e .if1 .left),
+      stands-by (sym (run-a (e .before))) refl (stands-over (standing e) (c .if2 .taken)),
+      counts-by (sym (run-a (e .before))) refl (counts-over (counting e) (c .if2 .taken)),
     )
 
 returns-2 : tie.Need-returns-2 Inv-loop μ-loop
@@ -141,7 +145,9 @@ returns-3 c =
     (counts-past (counting e) (e2 .if2 .left) (e3 .if3 .left) (c .if4 .taken))
 
 add-i : tie.Need-add-i Inv-loop μ-loop
-add-i c = omega arith
+add-i c =
+    let i = c .before .before .before .before .before .before .before .before .before .before .before .before in
+    next-fits (i .loop-test .taken) (i .before .before .pre .0)
 
 loop-less-2 : tie.Need-loop-less-2 Inv-loop μ-loop
 loop-less-2 c =
@@ -155,10 +161,10 @@ loop-again-2 c =
     let e3 = c .before .before .before in
     let e2 = e3 .before .before .before in
     let e = e2 .before .before .before .before .before in (
-      omega arith,
-      omega arith,
-      rw (run-b e) (stands-in (standing e) (e2 .if2 .left) (e3 .if3 .left) (c .if4 .left)),
-      rw (run-b e) (counts-in (counting e) (e2 .if2 .left) (e3 .if3 .left) (c .if4 .left)),
+      next-within (e .before .loop-test .taken),
+      e .before .before .loop .inv .1,
+      stands-by refl (sym (run-b e)) (stands-in (standing e) (e2 .if2 .left) (e3 .if3 .left) (c .if4 .left)),
+      counts-by refl (sym (run-b e)) (counts-in (counting e) (e2 .if2 .left) (e3 .if3 .left) (c .if4 .left)),
     )
 
 returns-4 : tie.Need-returns-4 Inv-loop μ-loop
@@ -167,8 +173,8 @@ returns-4 c =
     let a = s .args .t1 in
     let up = used-up (a .runs) (a .count) (c .before .loop .i) (c .loop-test .left) in
     told a (s .args .t2) (s .pre .0) (s .pre .1)
-    (stands-done (rw up at (c .before .loop .inv .2)))
-    (counts-done (rw up at (c .before .loop .inv .3)))
+    (stands-done (stands-by up refl (c .before .loop .inv .2)))
+    (counts-done (counts-by up refl (c .before .loop .inv .3)))
 
 pub runs-within-spec : {M : Type 1} → statement M
 runs-within-spec =

@@ -7,10 +7,10 @@ use mathlib.Core.Path.{_≡_, refl, sym, _∙_}
 use mathlib.Core.Bool.{_&&_, and-true}
 use mathlib.Core.List.{[], _∷_}
 use lib.Dec.{eqb}
-use lib.ListN.{drop, getD, length, length-map, drop-of-length-le}
+use lib.ListN.{drop, getD, length, drop-of-length-le}
 use Rattle.label.specs.Runs.{unused}
 use Rattle.label.specs.Label.{noRun}
-use Rattle.label.proofs.Steps.{next}
+use Rattle.label.proofs.Steps.{next, length-mapped, octets-fit, next-fits, next-within, one-fewer, there, past-all, every-place}
 use Rattle.label.proofs.Places.{or-step}
 use Rattle.label.proofs.unused_after_first.Statement.{statement}
 use Rattle.label.proofs.unused_after_first.Tie as tie
@@ -22,32 +22,32 @@ abbrev μ-loop : tie.MeasureT-loop
 μ-loop label rest₀ i₀ rest i = 120 - i
 
 sized : (c : tie.Start Inv-loop μ-loop) → length (c .args .t1 .runs) ≡ 120
-sized c = simp length-map at (c .good .0 .1 .1 .1 .1 .1 .0 .1 .0 .1)
+sized c = length-mapped _ (c .args .t1 .runs) 120 (c .good .0 .1 .1 .1 .1 .1 .0 .1 .0 .1)
 
 -- the place that the turn reads
 seen : (c : tie.In-loop Inv-loop μ-loop) →
     let l = c .before .before .args .t1 in
     let i = c .before .loop .i in
     drop i (l .runs) ≡ getD (l .runs) i noRun ∷ drop (i + 1) (l .runs)
-seen c = next noRun (c .before .before .args .t1 .runs) (c .before .loop .i) (omega (arith, sized (c .before .before)))
+seen c = next noRun (c .before .before .args .t1 .runs) (c .before .loop .i) (there (c .loop-test .taken) (sized (c .before .before)))
 
 loop-holds : tie.Need-loop-holds Inv-loop μ-loop
 loop-holds c = (omega arith, refl)
 
 mul-run : tie.Need-mul-run Inv-loop μ-loop
-mul-run c = omega arith
+mul-run c = octets-fit (c .loop-test .taken) every-place
 
 element-copy-out-run : tie.Need-element-copy-out-run Inv-loop μ-loop
-element-copy-out-run c = omega arith
+element-copy-out-run c = c .loop-test .taken
 
 word-requires : tie.Need-word-requires Inv-loop μ-loop
 word-requires c κs = search needs
 
 add-i : tie.Need-add-i Inv-loop μ-loop
-add-i c = omega arith
+add-i c = next-fits (c .before .before .loop-test .taken) every-place
 
 loop-less : tie.Need-loop-less Inv-loop μ-loop
-loop-less c = omega arith
+loop-less c = one-fewer (c .before .before .loop-test .taken)
 
 loop-again : tie.Need-loop-again Inv-loop μ-loop
 loop-again c =
@@ -55,13 +55,13 @@ loop-again c =
     let rs = d .before .before .args .t1 .runs in
     let i = d .before .loop .i in
     let r = getD rs i noRun in
-    (omega arith, d .before .loop .inv .1 ∙ rw (seen d, c .word .ensures) (or-step (d .before .loop .rest) (r .low) (r .high) (unused (drop (i + 1) rs))))
+    (next-within (d .loop-test .taken), d .before .loop .inv .1 ∙ rw (seen d, c .word .ensures) (or-step (d .before .loop .rest) (r .low) (r .high) (unused (drop (i + 1) rs))))
 
 returns : tie.Need-returns Inv-loop μ-loop
 returns c =
     let l = c .before .before .args .t1 in
     let i = c .before .loop .i in
-    let none : drop i (l .runs) ≡ [] = drop-of-length-le (l .runs) {i = i} (omega (arith, sized (c .before .before))) in
+    let none : drop i (l .runs) ≡ [] = drop-of-length-le (l .runs) {i = i} (past-all (c .loop-test .left) (sized (c .before .before))) in
     sym (c .before .loop .inv .1 ∙ rw none (and-true _))
 
 pub unused-after-first-spec : {M : Type 1} → statement M

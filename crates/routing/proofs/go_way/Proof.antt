@@ -1,7 +1,7 @@
 -- `routing::go_way` meets its contract.
 use lib.ListN.{length}
-use Rattle.gateway.specs.Crossing.{Forwarding}
-use Rattle.gateway.specs.Forward.{forwardOf, outputOf}
+use Rattle.forwarding.specs.Crossing.{Forwarding}
+use Rattle.forwarding.specs.Forward.{forwardOf, outputOf}
 use Rattle.routing.proofs.Decides.{by-first}
 use borrow.Author.Tests.{not-true, not-false}
 use mathlib.Core.Path.{refl, sym, _∙_, ap}

@@ -2,28 +2,16 @@
 use borrow.Author.Needs.{needs}
 use borrow.Author.Tests.{eq-eqb, ne-eqb, le-leb, lt-leb}
 use Prim.Native.Nat.{_≤_}
-use mathlib.Core.Path.{_≡_, refl, sym, _∙_}
-use mathlib.Core.Bool.{Bool, true, false, _&&_}
-use lib.ListN.{length, take}
+use mathlib.Core.Path.{_≡_, _∙_}
+use lib.ListN.{length}
 use Rattle.label.proofs.Steps.{length-mapped}
-use Rattle.table.specs.Table.{typed, levelNumbers}
+use Rattle.table.specs.Table.{typed}
 use Rattle.table.specs.Stages.{fieldsSound}
 use Rattle.table.proofs.fields_sound.Statement.{statement}
 use Rattle.table.proofs.fields_sound.Tie as tie
 
--- the types of the fields
-fields : (c : tie.Start) → levelNumbers (take (c .args .table .pairs) (c .args .levels)) ≡ true → typed (c .args .table) (c .args .levels) ≡ true
-unfolding typed
-fields c b =
-    let n : length (c .args .table .rows) ≡ 64 = search (length-mapped, needs) in
-    let p : c .args .table .from ≤ 4294967295 = search needs in
-    let q : c .args .table .to ≤ 4294967295 = search needs in
-    simp (le-leb _ _ p, le-leb _ _ q, eq-eqb _ _ n) b
-
--- where the levels are unsound, the types decide nothing
-with-types : (r l y : Bool) → r ≡ l → (r ≡ true → y ≡ true) → r ≡ (l && y)
-with-types true l y e h = sym (rw (← e) (h refl))
-with-types false l y e h = rw (← e)
+rows-held : (c : tie.Start) → length (c .args .table .rows) ≡ 64
+rows-held c = search (length-mapped, needs)
 
 returns : tie.Need-returns
 unfolding fieldsSound
@@ -50,15 +38,17 @@ levels-sound-requires : tie.Need-levels-sound-requires
 levels-sound-requires c κs = search needs
 
 returns-5 : tie.Need-returns-5
-unfolding fieldsSound
+unfolding fieldsSound typed
 returns-5 c =
     let e4 = c .before in
     let e3 = e4 .before .before in
     let e2 = e3 .before in
     let e1 = e2 .before .before in
     let s = e1 .before .before in
-    with-types (c .levels-sound .result) _ (typed (s .args .table) (s .args .levels)) (c .levels-sound .ensures .0) (λ w. fields s (c .levels-sound .ensures .1 w))
-    ∙ simp (ne-eqb _ _ (e1 .if1 .left), ne-eqb _ _ (e2 .if2 .left), le-leb _ _ (e3 .if3 .left), le-leb _ _ (e4 .if4 .left))
+    let p : s .args .table .from ≤ 4294967295 = search needs in
+    let q : s .args .table .to ≤ 4294967295 = search needs in
+    c .levels-sound .ensures
+    ∙ simp (ne-eqb _ _ (e1 .if1 .left), ne-eqb _ _ (e2 .if2 .left), le-leb _ _ (e3 .if3 .left), le-leb _ _ (e4 .if4 .left), le-leb _ _ p, le-leb _ _ q, eq-eqb _ _ (rows-held s))
 
 pub fields-sound-spec : {M : Type 1} → statement M
 fields-sound-spec =

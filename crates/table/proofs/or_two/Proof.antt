@@ -1,6 +1,6 @@
 -- `table::or_two` meets its contract.
 use borrow.Author.Needs.{needs}
-use mathlib.Core.Path.{_≡_, _∙_}
+use mathlib.Core.Path.{_∙_}
 use Rattle.table.proofs.or_two.Statement.{statement}
 use Rattle.table.proofs.or_two.Tie as tie
 

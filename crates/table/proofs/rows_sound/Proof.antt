@@ -10,7 +10,7 @@ use Rattle.label.proofs.Bools.{and-left, and-right}
 use Rattle.label.proofs.Steps.{length-mapped}
 use Rattle.table.specs.Table.{usedRows, rising, unusedRows, rowsSound}
 use Rattle.table.proofs.Rows.{chain-order, chain-apart}
-use Rattle.table.proofs.Order.{rows-placed, rows-sorted, rows-front, rows-apart}
+use Rattle.table.proofs.Order.{rows-placed, rows-sorted, rows-front, rows-apart, targets-told}
 use Rattle.table.proofs.rows_sound.Statement.{statement}
 use Rattle.table.proofs.rows_sound.Tie as tie
 
@@ -78,14 +78,7 @@ slice-aggregate-targets-apart : tie.Need-slice-aggregate-targets-apart
 slice-aggregate-targets-apart c = search needs
 
 targets-apart-requires : tie.Need-targets-apart-requires
-targets-apart-requires c κs =
-    let o = c .before .before .before .before in
-    let e1 = o .before .before .before in
-    let r = pass e1 in
-    let s = start r in
-    let rs = usedRows (s .args .t) in
-    let told = not-false _ (e1 .if1 .left) in
-    (s .pre .0, search needs, search needs, risen e1, rows-front rs (s .args .t .count) (replicate 64 0) (r .rows-rise .last .1 .0) (used-sized s) (r .rows-rise .ensures .written told) (o .sort-keys .last .0) (o .sort-keys .ensures), r .rows-rise .ensures .after told)
+targets-apart-requires c κs = search needs
 
 same-length-3 : tie.Need-same-length-3
 same-length-3 c = search needs
@@ -99,8 +92,10 @@ returns-3 c =
     let s = start r in
     let rs = usedRows (s .args .t) in
     let told = not-false _ (e1 .if1 .left) in
+    let front = rows-front rs (s .args .t .count) (replicate 64 0) (r .rows-rise .last .1 .0) (used-sized s) (r .rows-rise .ensures .written told) (o .sort-keys .last .0) (o .sort-keys .ensures) in
+    let long : length (r .rows-rise .last .1 .1 .0) ≡ 64 = search needs in
     record {
-      sound = c .targets-apart .ensures ∙ simp (risen e1, unused e1);
+      sound = c .targets-apart .ensures ∙ targets-told (s .args .t) (r .rows-rise .last .1 .1 .0) (o .sort-keys .last .0) (s .pre .0) (used-sized s) long (r .rows-rise .ensures .after told) front ∙ simp (risen e1, unused e1);
       written = λ w. rows-sorted rs (s .args .t .count) (replicate 64 0) (r .rows-rise .last .1 .0) (used-sized s) (r .rows-rise .ensures .written told) (o .sort-keys .last .0) (o .sort-keys .ensures);
     }
 

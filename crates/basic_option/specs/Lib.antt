@@ -1,0 +1,5 @@
+pub mod Option
+pub mod Alone
+pub mod Stages
+pub mod Theorems
+pub mod Examples
