@@ -1,20 +1,17 @@
 // Entries 10 to 12 of the program `cases`: the house file.
 use case_fields::Part;
-use case_fields::levels_at;
 use case_fields::octets_of;
 use case_fields::take_octet;
 use case_fields::take_part;
 use case_fields::take_short;
 use case_fields::take_stored;
 use case_fields::take_wide_port;
-use case_fields::take_wide_table;
 use case_lines::put_broken;
 use case_lines::put_part;
-use case_routes::pairs_of;
+use case_routes::take_tables;
 use file::read_file;
 use fileset::Set;
 use fileset::empty_set;
-use filetable::Renumbering;
 use filewrite::Written;
 use filewrite::write_file;
 use lines::put_next;
@@ -135,34 +132,23 @@ fn take_ports(case: &[u8], at: usize) -> TakenSet {
 }
 
 // Table count, and the tables that are stored.
-fn take_tables(case: &[u8], taken: TakenSet) -> TakenSet {
+fn add_tables(case: &[u8], taken: TakenSet) -> TakenSet {
     let count = take_octet(case, taken.next);
-    let stored = take_stored(case, count.next, 8);
+    let stored = take_tables(case, count.next);
+    let tables = stored.tables;
+    let items = tables.items;
     let mut set = taken.set;
     set.tablecount = count.value as usize;
-    let m = stored.value as usize;
-    let mut next = stored.next;
-    let mut i: usize = 0;
-    while i < m {
-        let wide = take_wide_table(case, next);
-        let table = wide.table;
-        let pairs = pairs_of(levels_at(case, wide.levels, wide.stored));
-        set.tables[i] = Renumbering {
-            table: table,
-            levels: pairs,
-        };
-        next = wide.next;
-        i += 1;
-    }
+    set.tables = items;
     TakenSet {
         set: set,
-        next: next,
+        next: stored.next,
     }
 }
 
 pub fn ask_write(case: &[u8], at: usize, out: &mut [u8], n: usize) -> usize {
     let ports = take_ports(case, at);
-    let taken = take_tables(case, ports);
+    let taken = add_tables(case, ports);
     let room = take_short(case, taken.next);
     let fill = take_octet(case, room.next);
     if fill.next != case.len() {

@@ -171,7 +171,7 @@ pub fn take_datagram(case: &[u8], at: usize) -> TakenDatagram
 }
 
 // Level pairs as a file's set holds them.
-pub fn pairs_of(levels: [[u8; 2]; 16]) -> [LevelPair; 16] {
+fn pairs_of(levels: [[u8; 2]; 16]) -> [LevelPair; 16] {
     let mut pairs = [LevelPair { levels: [0u8; 2] }; 16];
     let mut i: usize = 0;
     while i < 16 {
