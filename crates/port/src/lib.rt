@@ -83,15 +83,13 @@ pub fn port_sound(port: Port) -> bool
     if !spellings.some() {
         return false;
     }
-    let lowest = port.lowest;
-    let highest = port.highest;
-    if !range_sound(lowest, highest, port.domain) {
+    if !range_sound(port.lowest, port.highest, port.domain) {
         return false;
     }
     if !basic_sound(port.basic) {
         return false;
     }
-    if !default_sound(port.unlabelled, port.default, lowest, highest) {
+    if !default_sound(port) {
         return false;
     }
     let assigned = port.assigned;
@@ -99,16 +97,22 @@ pub fn port_sound(port: Port) -> bool
         let zero = assigned.is_zero();
         return zero;
     }
+    let lowest = port.lowest;
+    let highest = port.highest;
     lies_within(assigned, lowest, highest)
 }
 
-// Whether the default label lies in the range where the port faces unlabelled hosts, and is all zero where it does not.
-fn default_sound(unlabelled: bool, label: Label, lowest: Label, highest: Label) -> bool
-    requires { ⌜ wellFormed lowest ≡ true ⌝ }
-    requires { ⌜ wellFormed highest ≡ true ⌝ }
-    ensures { λ r. ⌜ r ≡ defaultLies unlabelled lowest highest label ⌝ }
+// Whether the default label lies in the range where the port faces unlabelled hosts, and is all zero where it does not. The range is taken where it
+// is asked, so that it is copied for such ports alone.
+fn default_sound(port: Port) -> bool
+    requires { ⌜ wellFormed (port .lowest) ≡ true ⌝ }
+    requires { ⌜ wellFormed (port .highest) ≡ true ⌝ }
+    ensures { λ r. ⌜ r ≡ defaultLies (port .unlabelled) (port .lowest) (port .highest) (port .default) ⌝ }
 {
-    if unlabelled {
+    let label = port.default;
+    if port.unlabelled {
+        let lowest = port.lowest;
+        let highest = port.highest;
         return lies_within(label, lowest, highest);
     }
     let zero = label.is_zero();

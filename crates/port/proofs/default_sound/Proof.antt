@@ -9,7 +9,7 @@ lies-within-requires : tie.Need-lies-within-requires
 lies-within-requires c κs = search needs
 
 returns : tie.Need-returns
-returns c = c .lies-within .ensures ∙ rw (c .before .if1 .taken)
+returns c = c .lies-within .ensures ∙ rw (c .before .before .before .if1 .taken)
 
 is-zero-requires : tie.Need-is-zero-requires
 is-zero-requires c κs = search needs

@@ -16,7 +16,7 @@ permitted : (c : tie.Else2) → someOf (c .before .before .before .before .befor
 permitted c = sym (c .before .some .ensures) ∙ not-false _ (c .if2 .left)
 
 abbrev port-of : tie.Else3 → Port
-port-of c = c .before .before .before .before .before .before .before .before .before .args .port
+port-of c = c .before .before .before .before .before .before .before .args .port
 
 range : (c : tie.Else3) → rangeSound (port-of c .lowest) (port-of c .highest) (port-of c .domain) ≡ true
 range c = sym (c .before .range-sound .ensures) ∙ not-false _ (c .if3 .left)
@@ -37,7 +37,7 @@ last : (c : tie.Else5) → assignedSound (port-of (c .before .before .before .be
 last c =
     let b = c .before .before in
     let r = b .before .before in
-    let s = r .before .before .before .before in
+    let s = r .before .before in
     assigned-last (port-of r) (s .before .before .before .if1 .left) (range r) (settings b) (permitted s) (default c)
 
 returns : tie.Need-returns
@@ -80,12 +80,13 @@ returns-6 c =
     c .is-zero .ensures ∙ sym (assigned-required (port-of (b .before .before .before .before)) true (c .before .if6 .taken)) ∙ last b
 
 lies-within-requires : tie.Need-lies-within-requires
-lies-within-requires c κs = let r = bounds (c .before .before .before .before .before .before) in (r .low-formed, r .high-formed)
+lies-within-requires c κs = let r = bounds (c .before .before .before .before .before .before .before .before) in (r .low-formed, r .high-formed)
 
 returns-7 : tie.Need-returns-7
 returns-7 c =
-    let b = c .before .before .before in
-    c .lies-within .ensures ∙ sym (assigned-required (port-of (b .before .before .before .before)) false (c .before .if6 .left)) ∙ last b
+    let e = c .before .before .before in
+    let b = e .before .before in
+    c .lies-within .ensures ∙ sym (assigned-required (port-of (b .before .before .before .before)) false (e .if6 .left)) ∙ last b
 
 pub port-sound-spec : {M : Type 1} → statement M
 port-sound-spec =
