@@ -1,12 +1,12 @@
--- `reading::add_number` meets its contract.
+-- `numbers::add_number` meets its contract.
 use borrow.Author.Needs.{needs}
 use native.Mathlib.Omega.{arith}
 use Prim.Native.Nat.{_<_}
 use mathlib.Core.Path.{_≡_, refl, sym, _∙_}
-use Rattle.reading.specs.Stages.{touchesLast}
-use Rattle.reading.proofs.Building.{touch-is, touch-some}
-use Rattle.reading.proofs.add_number.Statement.{statement}
-use Rattle.reading.proofs.add_number.Tie as tie
+use Rattle.numbers.specs.Stages.{touchesLast}
+use Rattle.numbers.proofs.Building.{touch-is, touch-some}
+use Rattle.numbers.proofs.add_number.Statement.{statement}
+use Rattle.numbers.proofs.add_number.Tie as tie
 
 -- whether it touches, and what that says
 touch : (c : tie.After-touches) → c .touches .result ≡ touchesLast (c .before .before .args .count) (c .before .before .args .next) (c .before .before .args .x)

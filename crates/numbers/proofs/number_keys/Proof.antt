@@ -1,4 +1,4 @@
--- `reading::number_keys` meets its contract.
+-- `numbers::number_keys` meets its contract.
 use borrow.Author.Needs.{needs}
 use native.Mathlib.Omega.{arith}
 use borrow.Author.Count.{below-none, below-more}
@@ -10,27 +10,28 @@ use lib.Dec.{eqb}
 use Rattle.label.specs.Runs.{pushRun}
 use Rattle.option.specs.Index.{rangeRuns, numberAt, badNumber, firstTrue}
 use Rattle.option.proofs.Bad.{first-is}
-use Rattle.reading.proofs.Building.{Numbered, numbered-nil, stands-count, stands-next, last-key-most, number-push, number-length}
-use Rattle.reading.proofs.Loops.{range-most, range-next, range-none, range-room, bad-number-is, pass-of}
-use Rattle.reading.proofs.number_keys.Statement.{statement}
-use Rattle.reading.proofs.number_keys.Tie as tie
+use Rattle.numbers.specs.Numbers.{whole, firstBadNumber, numberRuns}
+use Rattle.numbers.proofs.Building.{Numbered, numbered-nil, stands-count, stands-next, last-key-most, number-push, number-length}
+use Rattle.numbers.proofs.Loops.{range-most, range-next, range-none, range-room, bad-number-is, pass-made, whole-half}
+use Rattle.numbers.proofs.number_keys.Statement.{statement}
+use Rattle.numbers.proofs.number_keys.Tie as tie
 
 abbrev Inv-loop : tie.InvT-loop
 Inv-loop octets keys₀ n count₀ next₀ k₀ keys count next k =
-    (k ≤ n) × (n ≡ length octets / 2) × (length keys ≡ length keys₀) × ((j : ℕ) → j < k → badNumber octets j ≡ false) × Numbered keys₀ (rangeRuns (numberAt octets) (numberAt octets) k) keys count next
+    (k ≤ n) × (n ≡ length (whole octets) / 2) × (length keys ≡ length keys₀) × ((j : ℕ) → j < k → badNumber (whole octets) j ≡ false) × Numbered keys₀ (rangeRuns (numberAt (whole octets)) (numberAt (whole octets)) k) keys count next
 
 abbrev μ-loop : tie.MeasureT-loop
 μ-loop octets keys₀ n count₀ next₀ k₀ keys count next k = n - k
 
 -- whether the turn's number is bad
-bad-is : (c : tie.After-bad-after Inv-loop μ-loop) → c .bad-after .result ≡ badNumber (c .before .before .before .before .before .before .args .octets .now) (c .before .before .before .loop .k)
+bad-is : (c : tie.After-bad-after Inv-loop μ-loop) → c .bad-after .result ≡ badNumber (whole (c .before .before .before .before .before .before .args .octets .now)) (c .before .before .before .loop .k)
 bad-is c =
     let l = c .before .before .before .loop in
-    let b′ = c .before .before .before .before .before .before .args .octets .now in
+    let b′ = whole (c .before .before .before .before .before .before .args .octets .now) in
     rw (c .before .number-at .ensures .0) at (c .bad-after .ensures) ∙ bad-number-is b′ (l .k) (l .next) (stands-next (l .inv .4 .stands))
 
 loop-holds : tie.Need-loop-holds Inv-loop μ-loop
-loop-holds c = (omega arith, refl, refl, below-none _, numbered-nil _)
+loop-holds c = (omega arith, whole-half (c .before .before .args .octets .now), refl, below-none _, numbered-nil _)
 
 number-at-requires : tie.Need-number-at-requires Inv-loop μ-loop
 number-at-requires c κs = search needs
@@ -49,16 +50,16 @@ returns c =
     let d = c .before in
     let l = d .before .before .before .loop in
     let s = d .before .before .before .before .before .before in
-    let b′ = s .args .octets .now in
+    let b′ = whole (s .args .octets .now) in
     let e : firstTrue (badNumber b′) (length b′ / 2) ≡ l .k = first-is (badNumber b′) (length b′ / 2) (l .k) (omega arith) (l .inv .3) (λ h. sym (bad-is d) ∙ c .if1 .taken) in
-    pass-of 2 b′ (l .inv .4 .stands) (ap (rangeRuns (numberAt b′) (numberAt b′)) (sym e)) (omega (arith, range-most (numberAt b′) (numberAt b′) (l .k), s .pre .0)) (2 * l .k) (ap (λ (z : ℕ). 2 * z) (sym e))
+    pass-made (l .inv .4 .stands) (numberRuns b′) (ap (rangeRuns (numberAt b′) (numberAt b′)) (sym e)) (omega (arith, range-most (numberAt b′) (numberAt b′) (l .k), s .pre .0)) (2 * l .k) (2 * firstBadNumber b′) (ap (λ (z : ℕ). 2 * z) (sym e))
 
 add-number-requires : tie.Need-add-number-requires Inv-loop μ-loop
 add-number-requires c κs =
     let d = c .before .before in
     let l = d .before .before .before .loop in
     let s = d .before .before .before .before .before .before in
-    let b′ = s .args .octets .now in (
+    let b′ = whole (s .args .octets .now) in (
       omega (arith, stands-count (l .inv .4 .stands), range-most (numberAt b′) (numberAt b′) (l .k), s .pre .0, s .pre .1, l .inv .2),
       range-none (numberAt b′) (numberAt b′) (l .k) ∙ ap (λ (z : ℕ). eqb z 0) (sym (stands-count (l .inv .4 .stands))),
       λ h e. last-key-most (l .inv .4) h (omega (arith, d .before .number-at .ensures .1)),
@@ -81,7 +82,7 @@ loop-again c =
     let d = c .before .before .before .before .before in
     let l = d .before .before .before .loop in
     let s = d .before .before .before .before .before .before in
-    let b′ = s .args .octets .now in
+    let b′ = whole (s .args .octets .now) in
     let a = c .before .before .add-number in
     let x : d .before .number-at .result ≡ numberAt b′ (l .k) = d .before .number-at .ensures .0 in
     let few : length (pushRun (rangeRuns (numberAt b′) (numberAt b′) (l .k)) (numberAt b′ (l .k)) (numberAt b′ (l .k))) ≤ length (s .args .keys .now) = omega (arith, range-room (numberAt b′) (numberAt b′) (l .k), s .pre .0, s .pre .1, d .before .before .loop-test .taken) in (
@@ -102,9 +103,9 @@ returns-2 : tie.Need-returns-2 Inv-loop μ-loop
 returns-2 c =
     let l = c .before .loop in
     let s = c .before .before .before .before in
-    let b′ = s .args .octets .now in
+    let b′ = whole (s .args .octets .now) in
     let e : firstTrue (badNumber b′) (length b′ / 2) ≡ l .k = first-is (badNumber b′) (length b′ / 2) (l .k) (omega arith) (l .inv .3) (λ h. absurd (omega arith)) in
-    pass-of 2 b′ (l .inv .4 .stands) (ap (rangeRuns (numberAt b′) (numberAt b′)) (sym e)) (omega (arith, range-most (numberAt b′) (numberAt b′) (l .k), s .pre .0)) (2 * l .k) (ap (λ (z : ℕ). 2 * z) (sym e))
+    pass-made (l .inv .4 .stands) (numberRuns b′) (ap (rangeRuns (numberAt b′) (numberAt b′)) (sym e)) (omega (arith, range-most (numberAt b′) (numberAt b′) (l .k), s .pre .0)) (2 * l .k) (2 * firstBadNumber b′) (ap (λ (z : ℕ). 2 * z) (sym e))
 
 pub number-keys-spec : {M : Type 1} → statement M
 number-keys-spec =

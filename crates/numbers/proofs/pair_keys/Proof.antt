@@ -1,4 +1,4 @@
--- `reading::pair_keys` meets its contract.
+-- `numbers::pair_keys` meets its contract.
 use borrow.Author.Needs.{needs}
 use native.Mathlib.Omega.{arith}
 use Prim.Native.Nat.{ℕ, _+_, _-_, _*_, _/_, _≤_, _<_}
@@ -10,16 +10,17 @@ use mathlib.Core.Bool.{_||_}
 use Rattle.label.specs.declared.Run.{Run}
 use Rattle.label.specs.Runs.{run, pushRun}
 use Rattle.keys.specs.Keys.{runKey}
-use Rattle.reading.specs.Stages.{afterPiece, limitAt}
+use Rattle.numbers.specs.Numbers.{whole, firstBadPair, pairRuns}
+use Rattle.numbers.specs.Stages.{afterPiece, limitAt}
 use Rattle.option.specs.Index.{rangeRuns, pairsOf, lowPair, highPair, badPair, topAt, bottomAt}
-use Rattle.reading.proofs.Building.{Stands, stands-nil, stands-count, stands-push, piece-count, piece-some}
-use Rattle.reading.proofs.Loops.{range-most, range-next, range-none, range-room, left-none, limit-is, bad-pair-is, FirstFrom, first-start, first-next, first-found, pass-of}
-use Rattle.reading.proofs.pair_keys.Statement.{statement}
-use Rattle.reading.proofs.pair_keys.Tie as tie
+use Rattle.numbers.proofs.Building.{Stands, stands-nil, stands-count, stands-push, piece-count, piece-some}
+use Rattle.numbers.proofs.Loops.{range-most, range-next, range-none, range-room, left-none, limit-is, bad-pair-is, FirstFrom, first-start, first-next, first-found, pass-made, whole-pairs}
+use Rattle.numbers.proofs.pair_keys.Statement.{statement}
+use Rattle.numbers.proofs.pair_keys.Tie as tie
 
 abbrev Inv-loop : tie.InvT-loop
 Inv-loop octets keys₀ n last₀ bad₀ bottom₀ j₀ keys last bad bottom j =
-    (j ≤ n) × (n ≡ pairsOf octets) × (length keys ≡ length keys₀) × FirstFrom (badPair octets) n j bad × Stands keys₀ (rangeRuns (lowPair octets) (highPair octets) (n - j)) keys last × (0 < j → bottom ≡ bottomAt octets (j - 1))
+    (j ≤ n) × (n ≡ pairsOf (whole octets)) × (length keys ≡ length keys₀) × FirstFrom (badPair (whole octets)) n j bad × Stands keys₀ (rangeRuns (lowPair (whole octets)) (highPair (whole octets)) (n - j)) keys last × (0 < j → bottom ≡ bottomAt (whole octets) (j - 1))
 
 abbrev μ-loop : tie.MeasureT-loop
 μ-loop octets keys₀ n last₀ bad₀ bottom₀ j₀ keys last bad bottom j = j
@@ -29,11 +30,14 @@ add-n c = search needs
 
 -- the turn's pair, and what it adds
 module _ (c : tie.After-add-piece Inv-loop μ-loop) where
+  abbrev octets : List ℕ
+  octets = c .before .before .before .before .before .before .before .before .before .before .args .octets .now
+
   abbrev b : List ℕ
-  b = c .before .before .before .before .before .before .before .before .before .before .args .octets .now
+  b = whole octets
 
   abbrev n : ℕ
-  n = (length b + 2) / 4
+  n = (length octets + 2) / 4
 
   abbrev j : ℕ
   j = c .before .before .before .before .before .before .loop .j
@@ -50,8 +54,8 @@ module _ (c : tie.After-add-piece Inv-loop μ-loop) where
   abbrev high : ℕ
   high = highPair b (n - j)
 
-  at-pair : n - 1 - (n - j) ≡ j - 1
-  at-pair = omega (arith, c .before .before .before .before .before .before .loop .inv .0)
+  at-pair : pairsOf b - 1 - (n - j) ≡ j - 1
+  at-pair = omega (arith, whole-pairs octets, c .before .before .before .before .before .before .loop .inv .0)
 
   some : 0 < j
   some = c .before .before .before .before .before .loop-test .taken
@@ -90,7 +94,7 @@ loop-holds : tie.Need-loop-holds Inv-loop μ-loop
 loop-holds c =
     let b′ = c .before .before .before .args .octets .now in
     let z : (length b′ + 2) / 4 - (length b′ + 2) / 4 ≡ 0 = omega arith in
-    (omega arith, refl, refl, first-start _ _, rw z (stands-nil _), c .last-bottom .ensures)
+    (omega arith, whole-pairs b′, refl, first-start _ _, rw z (stands-nil _), c .last-bottom .ensures)
 
 sub-j : tie.Need-sub-j Inv-loop μ-loop
 sub-j c = search needs
@@ -114,8 +118,9 @@ add-piece-requires : tie.Need-add-piece-requires Inv-loop μ-loop
 add-piece-requires c κs =
     let l = c .before .before .before .before .before .loop in
     let s = c .before .before .before .before .before .before .before .before .before in
-    let b′ = s .args .octets .now in
-    (omega (arith, stands-count (l .inv .4), range-most (lowPair b′) (highPair b′) ((length b′ + 2) / 4 - l .j), s .pre .0), left-none (l .j) ((length b′ + 2) / 4) (l .inv .0) ∙ range-none (lowPair b′) (highPair b′) ((length b′ + 2) / 4 - l .j) ∙ ap (λ (z : ℕ). eqb z 0) (sym (stands-count (l .inv .4))))
+    let b′ = whole (s .args .octets .now) in
+    let n′ : ℕ = (length (s .args .octets .now) + 2) / 4 in
+    (omega (arith, stands-count (l .inv .4), range-most (lowPair b′) (highPair b′) (n′ - l .j), s .pre .0), left-none (l .j) n′ (l .inv .0) ∙ range-none (lowPair b′) (highPair b′) (n′ - l .j) ∙ ap (λ (z : ℕ). eqb z 0) (sym (stands-count (l .inv .4))))
 
 sub-at : tie.Need-sub-at Inv-loop μ-loop
 sub-at c = omega (arith, stored (c .before))
@@ -138,11 +143,11 @@ loop-again c =
     let l = d .before .before .before .before .before .before .loop in
     let e : n d - j d + 1 ≡ n d - (j d - 1) = omega (arith, l .inv .0) in (
       omega arith,
-      refl,
+      l .inv .1,
       simp length-set (l .inv .2),
       first-next (l .inv .3) (j d - 1) (omega (arith, some d)) (d .before .before .bad-pair .result) (bad-is d) (d .before .either .result) (d .before .either .ensures),
       rw (← e, ← range-next (lowPair (b d)) (highPair (b d)) (n d - j d))
-          (stands-push (stands d) (low d) (high d) _ (added d) (omega (arith, room d, d .before .before .before .before .before .before .before .before .before .before .pre .2)) (omega (arith, high-is d, d .before .before .before .before .number-at .ensures .1)) _ (c .key-of .ensures ∙ ap (λ (z : ℕ). runKey (run (d .add-piece .result .low) z)) (high-is d))),
+          (stands-push (stands d) (low d) (high d) _ (added d) (omega (arith, room d, d .before .before .before .before .before .before .before .before .before .before .pre .1)) (omega (arith, high-is d, d .before .before .before .before .number-at .ensures .1)) _ (c .key-of .ensures ∙ ap (λ (z : ℕ). runKey (run (d .add-piece .result .low) z)) (high-is d))),
       λ p. limit-at-is d ∙ limit-is (b d) (j d - 1) p,
     )
 
@@ -156,11 +161,11 @@ returns : tie.Need-returns Inv-loop μ-loop
 returns c =
     let l = c .before .loop in
     let s = c .before .before .before .before .before in
-    let b′ = s .args .octets .now in
+    let b′ = whole (s .args .octets .now) in
     let z : l .j ≡ 0 = omega arith in
-    let e : pairsOf b′ - l .j ≡ pairsOf b′ = omega arith in
-    let f : FirstFrom (badPair b′) (pairsOf b′) 0 (l .bad) = rw z at (l .inv .3) in
-    pass-of 5 b′ (l .inv .4) (ap (rangeRuns (lowPair b′) (highPair b′)) e) (omega (arith, range-most (lowPair b′) (highPair b′) (pairsOf b′ - l .j), s .pre .0)) (4 * l .bad) (ap (λ (x : ℕ). 4 * x) (first-found f))
+    let e : (length (s .args .octets .now) + 2) / 4 - l .j ≡ pairsOf b′ = omega (arith, whole-pairs (s .args .octets .now)) in
+    let f : FirstFrom (badPair b′) (pairsOf b′) 0 (l .bad) = rw (z, whole-pairs (s .args .octets .now)) at (l .inv .3) in
+    pass-made (l .inv .4) (pairRuns b′) (ap (rangeRuns (lowPair b′) (highPair b′)) e) (omega (arith, range-most (lowPair b′) (highPair b′) ((length (s .args .octets .now) + 2) / 4 - l .j), s .pre .0)) (4 * l .bad) (4 * firstBadPair b′) (ap (λ (x : ℕ). 4 * x) (first-found f))
 
 pub pair-keys-spec : {M : Type 1} → statement M
 pair-keys-spec =

@@ -1,11 +1,11 @@
--- `reading::add_piece` meets its contract.
+-- `numbers::add_piece` meets its contract.
 use borrow.Author.Needs.{needs}
 use borrow.Author.Tests.{eq-eqb, ne-eqb, eqb-true, eqb-false, lt-ltb}
 use native.Mathlib.Omega.{arith}
 use Prim.Native.Nat.{_≤_, _<_}
 use mathlib.Core.Path.{_≡_, sym, _∙_}
-use Rattle.reading.proofs.add_piece.Statement.{statement}
-use Rattle.reading.proofs.add_piece.Tie as tie
+use Rattle.numbers.proofs.add_piece.Statement.{statement}
+use Rattle.numbers.proofs.add_piece.Tie as tie
 
 add-next : tie.Need-add-next
 add-next c = search needs

@@ -1,11 +1,12 @@
--- `reading::bottom_at` meets its contract.
+-- `numbers::bottom_at` meets its contract.
 use borrow.Author.Needs.{needs}
 use native.Mathlib.Omega.{arith}
 use Prim.Native.Nat.{_+_, _*_}
 use lib.ListN.{List·getD-eq-default}
-use borrow.Author.Needs.{needs}
-use Rattle.reading.proofs.bottom_at.Statement.{statement}
-use Rattle.reading.proofs.bottom_at.Tie as tie
+use Rattle.numbers.specs.Numbers.{whole}
+use Rattle.numbers.proofs.Loops.{whole-length}
+use Rattle.numbers.proofs.bottom_at.Statement.{statement}
+use Rattle.numbers.proofs.bottom_at.Tie as tie
 
 mul-if1 : tie.Need-mul-if1
 mul-if1 c = search needs
@@ -28,7 +29,9 @@ returns c = search needs
 returns-2 : tie.Need-returns-2
 returns-2 c =
     let a = c .before .before .args in
-    rw (List·getD-eq-default (a .octets .now) 0 {n = 2 * (2 * a .j + 1)} (omega arith), List·getD-eq-default (a .octets .now) 0 {n = 2 * (2 * a .j + 1) + 1} (omega arith))
+    let b = whole (a .octets .now) in
+    let w = whole-length (a .octets .now) in
+    rw (List·getD-eq-default b 0 {n = 2 * (2 * a .j + 1)} (omega (arith, w)), List·getD-eq-default b 0 {n = 2 * (2 * a .j + 1) + 1} (omega (arith, w)))
 
 pub bottom-at-spec : {M : Type 1} → statement M
 bottom-at-spec =

@@ -16,9 +16,9 @@ use Rattle.label.proofs.Bools.{less-or, and-left, and-right, not-yes}
 use Rattle.label.proofs.Canon.{Below}
 use Rattle.keys.proofs.Keys.{front-store}
 use Rattle.label.proofs.Push.{push-some}
-use Rattle.reading.specs.declared.Last.{Last}
-use Rattle.reading.specs.Stages.{lastLow, lastOf, afterPiece, touchesLast, countAfter, keysAfterNumber}
-use Rattle.reading.specs.Keys.{atFront}
+use Rattle.numbers.specs.declared.Last.{Last}
+use Rattle.numbers.specs.Stages.{lastLow, lastOf, afterPiece, touchesLast, countAfter, keysAfterNumber}
+use Rattle.numbers.specs.Numbers.{atFront}
 
 -- The last run of a list.
 

@@ -1,9 +1,9 @@
--- `reading::bad_after` meets its contract.
+-- `numbers::bad_after` meets its contract.
 use borrow.Author.Needs.{needs}
 use borrow.Author.Tests.{eq-eqb, ne-eqb}
 use borrow.Author.Needs.{needs}
-use Rattle.reading.proofs.bad_after.Statement.{statement}
-use Rattle.reading.proofs.bad_after.Tie as tie
+use Rattle.numbers.proofs.bad_after.Statement.{statement}
+use Rattle.numbers.proofs.bad_after.Tie as tie
 
 returns : tie.Need-returns
 returns c = rw (eq-eqb _ 65535 (c .if1 .taken))
