@@ -1,11 +1,11 @@
--- `arrival::deliver` meets its contract.
+-- `delivery::deliver` meets its contract.
 use borrow.Author.Needs.{needs}
 use native.Mathlib.Omega.{arith}
 use mathlib.Core.Path.{_∙_}
-use Rattle.arrival.specs.Stages.{deliveryOf}
-use Rattle.arrival.proofs.Deliveries.{delivered}
-use Rattle.arrival.proofs.deliver.Statement.{statement}
-use Rattle.arrival.proofs.deliver.Tie as tie
+use Rattle.delivery.proofs.Deliveries.{delivered}
+use Rattle.delivery.proofs.deliver.Statement.{statement}
+use Rattle.delivery.proofs.deliver.Tie as tie
+use Rattle.delivery.specs.Delivery.{deliveryOf}
 
 slice-aggregate-arrive : tie.Need-slice-aggregate-arrive
 slice-aggregate-arrive c = search needs

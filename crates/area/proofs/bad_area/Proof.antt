@@ -1,7 +1,7 @@
--- `arrival::bad_area` meets its contract.
+-- `area::bad_area` meets its contract.
 use borrow.Author.Tests.{lt-ltb, le-ltb}
-use Rattle.arrival.proofs.bad_area.Statement.{statement}
-use Rattle.arrival.proofs.bad_area.Tie as tie
+use Rattle.area.proofs.bad_area.Statement.{statement}
+use Rattle.area.proofs.bad_area.Tie as tie
 
 returns : tie.Need-returns
 returns c = simp (lt-ltb _ _ (c .if1 .taken))

@@ -14,14 +14,16 @@ use Rattle.port.specs.Port.{portSound, hostSound}
 use Rattle.port.proofs.Laws.{host-range}
 use Rattle.decision.specs.declared.Verdict.{Verdict}
 use Rattle.decision.specs.Decision.{Refusal, silenced, refused, done}
-use Rattle.arrival.specs.Checks.{silent, barred, firstOf, badArea, arrivingLabel, Delivery, deliverySizes, deliveryRecords, hostCheck}
-use Rattle.arrival.specs.Decision.{arrivalChecks, deliverChecks, deliverOf}
+use Rattle.area.specs.Area.{badArea}
+use Rattle.arrival.specs.Checks.{silent, barred, firstOf, arrivingLabel, arrivalChecks}
 use Rattle.decision.specs.Verdict.{verdictOf, stopped, concluded}
 use Rattle.arrival.specs.Verdict.{arrivalOf, Arrives}
-use Rattle.arrival.specs.Stages.{heldBetween, hostedBy}
+use Rattle.arrival.specs.Stages.{heldBetween}
+use Rattle.delivery.specs.Delivery.{Delivery, deliverySizes, deliveryRecords, hostCheck, deliverChecks, deliverOf}
+use Rattle.delivery.specs.Stages.{hostedBy}
 use Rattle.arrival.proofs.First.{orElse, first-append, Late}
 use Rattle.arrival.proofs.Arrival.{arrival-held, arrival-late}
 use Rattle.arrival.proofs.Verdicts.{held-in-range, label-from}
 use Rattle.decision.proofs.Concluded.{concluded-refused, concluded-done}
 
 module _ (d : Delivery) where

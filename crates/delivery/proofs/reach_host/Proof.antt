@@ -1,10 +1,10 @@
--- `arrival::reach_host` meets its contract.
+-- `delivery::reach_host` meets its contract.
 use borrow.Author.Needs.{needs}
 use borrow.Author.Tests.{not-true, not-false, eq-eqb, ne-eqb}
 use mathlib.Core.Path.{sym, _∙_}
-use Rattle.arrival.specs.Stages.{hostedBy}
-use Rattle.arrival.proofs.reach_host.Statement.{statement}
-use Rattle.arrival.proofs.reach_host.Tie as tie
+use Rattle.delivery.specs.Stages.{hostedBy}
+use Rattle.delivery.proofs.reach_host.Statement.{statement}
+use Rattle.delivery.proofs.reach_host.Tie as tie
 
 returns : tie.Need-returns
 unfolding hostedBy
