@@ -1,10 +1,11 @@
--- RFC 791; document 01, "The order of checks": the options area, the options that the one walk meets, and 3, 4 and 5.
-use Prim.Native.Nat.{ℕ, zero, suc, pred, _+_}
+-- RFC 791; document 01, "The order of checks": the options area, its size, the options that the one walk meets, and 1, 3, 4 and 5.
+use Prim.Native.Nat.{ℕ, zero, suc, pred, _+_, _%_}
 use mathlib.Core.List.{List, [], _∷_, _++_}
 use mathlib.Core.Path.{_≡_}
-use mathlib.Core.Bool.{Bool}
+use mathlib.Core.Bool.{Bool, not, _||_}
 use mathlib.Core.Option.{Option, none, some}
-use lib.ListN.{getD, take, drop}
+use lib.Dec.{ltb, eqb}
+use lib.ListN.{length, getD, take, drop}
 use Rattle.kinds.specs.declared.Kind.{Kind}
 use Rattle.kinds.specs.declared.Kind.the-variants.{End, NoOperation, Basic, Extended, Cipso, Other}
 use Rattle.kinds.specs.declared.Size.{Size}
@@ -15,6 +16,13 @@ use Rattle.turn.specs.declared.Walk.{Walk}
 use Rattle.turn.specs.declared.Walk.the-variants.{Sound, Refused}
 use Rattle.kinds.specs.Kinds.{kindOf, sizeOf}
 use Rattle.turn.specs.Turn.{judge}
+
+-- 1: over 40 octets, or not a multiple of 4
+abbrev pub badSize : ℕ → Bool
+badSize n = ltb 40 n || not (eqb (n % 4) 0)
+
+abbrev pub badArea : List ℕ → Bool
+badArea area = badSize (length area)
 
 -- an option that the walk meets: its type, the octet at which it begins, and its length, bad where its length octet is
 pub record Met : Type 0 where

@@ -1,4 +1,4 @@
-// The options area of an IPv4 header (RFC 791; document 01, "The order of checks"): the walk.
+// The options area of an IPv4 header (RFC 791; document 01, "The order of checks"): its size, and the walk.
 use kinds::read_kind;
 use kinds::read_size;
 use turn::Place;
@@ -6,9 +6,19 @@ use turn::Turn;
 use turn::Walk;
 use turn::take_turn;
 ghost use mathlib.Core.Path.{_≡_};
-ghost use Rattle.area.specs.Area.{walkOf};
+ghost use Rattle.area.specs.Area.{badSize, walkOf};
 ghost use Rattle.area.specs.Stages.{isMet, octetOf, placeOf};
 ghost use Prim.Native.Nat.{_<_};
+
+// Check 1 of an area of n octets: over 40, or not a multiple of 4.
+pub fn bad_area(n: usize) -> bool
+    ensures { λ r. ⌜ r ≡ badSize n ⌝ }
+{
+    if 40 < n {
+        return true;
+    }
+    n % 4 != 0
+}
 
 // A place in two numbers. The walk carries these from turn to turn: an enum's unused octets would be copied with it.
 fn is_met(place: Place) -> bool

@@ -28,7 +28,7 @@ use Rattle.turn.specs.declared.Walk.{Walk}
 use Rattle.turn.specs.declared.Walk.the-variants.{Sound, Refused}
 use Rattle.kinds.specs.declared.Kind.{Kind}
 use Rattle.kinds.specs.declared.Kind.the-variants.{Cipso}
-use Rattle.area.specs.Area.{walkOf, octetsAt, WholeAt}
+use Rattle.area.specs.Area.{badArea, walkOf, octetsAt, WholeAt}
 use Rattle.kinds.proofs.Laws.{whole-size, cipso-octet}
 use Rattle.area.proofs.Laws.{area-refused, off-nowhere, whole-in}
 use Rattle.basic.specs.declared.Way.{Way}
@@ -39,9 +39,8 @@ use Rattle.port.specs.declared.Port.{Port}
 use Rattle.port.specs.Port.{portSound}
 use Rattle.port.proofs.Laws.{sound}
 use Rattle.decision.specs.Decision.{Refusal}
-use Rattle.arrival.specs.Checks.{faulty, barred, when, firstOf, badArea, walkAt, walkRefusal, walkCheck, placeIn, basicIn, optionAt, requiredBy, requiredCheck, optionBy, optionCheck, badBasicBy, badBasicCheck, arrivingBasic, missingBasicBy, missingBasicCheck, basicPasses, basicRangeCheck, labelBy, arrivingLabel, rangeCheck}
+use Rattle.arrival.specs.Checks.{faulty, barred, when, firstOf, walkAt, walkRefusal, walkCheck, placeIn, basicIn, optionAt, requiredBy, requiredCheck, optionBy, optionCheck, badBasicBy, badBasicCheck, arrivingBasic, missingBasicBy, missingBasicCheck, basicPasses, basicRangeCheck, labelBy, arrivingLabel, rangeCheck, arrivalChecks}
 use Rattle.decision.specs.declared.Verdict.{Verdict}
-use Rattle.arrival.specs.Decision.{arrivalChecks}
 use Rattle.decision.specs.Verdict.{verdictOf, stopped, going}
 use Rattle.arrival.specs.Verdict.{keysBy, arrivalOf, arrivalKeys, Arrives}
 use Rattle.arrival.specs.Stages.{placeChecks, basicChecks, isOpen, insteadOf, beforeRange, heldBetween, ArrivesAt}

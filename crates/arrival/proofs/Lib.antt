@@ -2,4 +2,3 @@ pub mod First
 pub mod Pointer
 pub mod Verdicts
 pub mod Arrival
-pub mod Deliveries

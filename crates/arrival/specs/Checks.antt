@@ -1,11 +1,12 @@
--- Document 01, "The order of checks, and each number": every check, what it asks and what it reports. Document 02, Wish 3: 19, 20 and 21.
+-- Document 01, "The order of checks, and each number": the checks that both jobs share, what each asks and what it reports, and their order. Document 02,
+-- Wish 3: 19, 20 and 21. Of 1 and 2, `badArea` stands in `area`, and what makes a record sound with the record.
 use mathlib.Core.Path.{_≡_}
-use mathlib.Core.Bool.{Bool, true, false, not, _&&_, _||_}
+use mathlib.Core.Bool.{Bool, true, false, not, _&&_}
 use mathlib.Core.List.{List, [], _∷_}
 use mathlib.Core.Option.{Option, none, some}
-use Prim.Native.Nat.{ℕ, _+_, _%_}
-use lib.Dec.{ltb, eqb}
-use lib.ListN.{length, getD, take, drop}
+use Prim.Native.Nat.{ℕ, _+_}
+use lib.Dec.{eqb}
+use lib.ListN.{getD, take, drop}
 use Rattle.label.specs.declared.Label.{Label}
 use Rattle.label.specs.Label.{inRange}
 use Rattle.reading.specs.Reading.{readingFor}
@@ -18,9 +19,6 @@ use Rattle.basic.specs.declared.Way.{Way}
 use Rattle.basic_option.specs.Alone.{basicReading}
 use Rattle.basic.specs.Settings.{passesWay}
 use Rattle.port.specs.declared.Port.{Port}
-use Rattle.port.specs.declared.Host.{Host}
-use Rattle.port.specs.Port.{portSound, hostSound}
-use Rattle.decision.specs.declared.Facts.{Facts}
 use Rattle.decision.specs.Decision.{Refusal}
 
 -- "silent" is type, code and pointer all 0
@@ -50,10 +48,6 @@ firstOf (none ∷ cs) = firstOf cs
 abbrev pub NoneApplies : List (Option Refusal) → Type 0
 NoneApplies [] = Unit {0}
 NoneApplies (c ∷ cs) = (c ≡ none) × NoneApplies cs
-
--- 1: the area is over 40 octets or not a multiple of 4; on forward, the output is under 40 octets
-abbrev pub badArea : List ℕ → Bool
-badArea area = ltb 40 (length area) || not (eqb (length area % 4) 0)
 
 -- the one walk over an area that arrives at a port
 abbrev pub walkAt : Port → List ℕ → Walk
@@ -140,21 +134,14 @@ arrivingLabel port area = labelBy (placeIn (walkAt port area)) port area
 unfoldable pub rangeCheck : Port → List ℕ → ℕ → Option Refusal
 rangeCheck port area code = when (not (inRange (port .lowest) (port .highest) (arrivingLabel port area))) (barred 14 code)
 
--- Deliver: one port and a host.
-pub record Delivery : Type 0 where
-  pub port : Port
-  pub host : Host
-  pub facts : Facts
-  pub area : List ℕ
-
--- 1, of a delivery: nothing is built, so there is no output
-unfoldable pub deliverySizes : Delivery → Option Refusal
-deliverySizes d = when (badArea (d .area)) (silent 1)
-
--- 2: a record that is read is unsound
-unfoldable pub deliveryRecords : Delivery → Option Refusal
-deliveryRecords d = when (not (portSound (d .port) && hostSound (d .host) (d .port .domain))) (silent 2)
-
--- 15: outside the host's range
-unfoldable pub hostCheck : Delivery → Option Refusal
-hostCheck d = when (not (inRange (d .host .lowest) (d .host .highest) (arrivingLabel (d .port) (d .area)))) (barred 15 10)
+-- checks 3 to 13, 19 to 21 and 14, which both jobs share
+abbrev pub arrivalChecks : Port → List ℕ → ℕ → List (Option Refusal)
+arrivalChecks port area code =
+    walkCheck port area  -- 3, 4, 5
+    ∷ requiredCheck port area  -- 6
+    ∷ optionCheck port area  -- 7 to 13
+    ∷ badBasicCheck port area  -- 19
+    ∷ missingBasicCheck port area  -- 20
+    ∷ basicRangeCheck port area code  -- 21
+    ∷ rangeCheck port area code  -- 14
+    ∷ []

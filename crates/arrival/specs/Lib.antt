@@ -1,4 +1,3 @@
 pub mod Checks
-pub mod Decision
 pub mod Verdict
 pub mod Stages

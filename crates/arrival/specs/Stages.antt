@@ -1,4 +1,4 @@
--- What the stages of a decision answer, in the terms of the checks; no public contract names these but for the inputs put together.
+-- What the stages of an arrival answer, in the terms of the checks.
 use mathlib.Core.Bool.{Bool, cond, not, _||_}
 use mathlib.Core.List.{List, [], _∷_}
 use mathlib.Core.Option.{Option, none, some}
@@ -16,18 +16,11 @@ use Rattle.basic_option.specs.declared.BasicReading.{BasicReading}
 use Rattle.basic.specs.declared.Way.{Way}
 use Rattle.basic_option.specs.Alone.{basicBad, basicReading}
 use Rattle.port.specs.declared.Port.{Port}
-use Rattle.port.specs.declared.Host.{Host}
-use Rattle.port.specs.Port.{hostSound}
 use Rattle.decision.specs.declared.Verdict.{Verdict}
-use Rattle.decision.specs.declared.Facts.{Facts}
 use Rattle.decision.specs.Decision.{Refusal}
-use Rattle.arrival.specs.Checks.{barred, when, firstOf, requiredBy, optionBy, badBasicBy, missingBasicBy, basicPasses, labelBy, Delivery}
-use Rattle.decision.specs.Verdict.{verdictOf, stopped}
+use Rattle.arrival.specs.Checks.{barred, when, firstOf, requiredBy, optionBy, badBasicBy, missingBasicBy, basicPasses, labelBy}
+use Rattle.decision.specs.Verdict.{verdictOf}
 use Rattle.arrival.specs.Verdict.{keysBy}
-
--- the inputs of a delivery
-abbrev pub deliveryOf : Port → Host → Facts → List ℕ → Delivery
-deliveryOf p h facts area = record { port = p; host = h; facts = facts; area = area }
 
 -- checks 6 to 13, and 14, with the option 134 at its place
 abbrev pub placeChecks : Place → Port → List ℕ → ℕ → List (Option Refusal)
@@ -72,11 +65,3 @@ basicRead (some o) = basicReading o
 abbrev pub heldBetween : Label → Label → Verdict → List ℕ → Bool
 heldBetween lowest highest r keys =
     answered (lookOf lowest highest (r .level) (keyRuns (take (r .count) keys))) (runsBetween lowest highest (keyRuns (take (r .count) keys)))
-
--- 2 of the host comes after 1 and before the others; then 15
-unfoldable pub hostedBy : Verdict → Host → ℕ → List ℕ → Verdict
-hostedBy r h domain keys =
-    cond (eqb (r .number) 1) r
-    (cond (hostSound h domain)
-    (cond (eqb (r .number) 0) (cond (heldBetween (h .lowest) (h .highest) r keys) r (stopped 15 3 10 0)) r)
-    (stopped 2 0 0 0))

@@ -18,8 +18,8 @@ use Rattle.port.specs.Port.{portSound}
 use Rattle.decision.specs.declared.Verdict.{Verdict}
 use Rattle.decision.specs.Decision.{Refusal}
 use Rattle.decision.specs.Verdict.{verdictOf}
-use Rattle.arrival.specs.Checks.{silent, when, firstOf, badArea, walkAt, optionAt, arrivingLabel}
-use Rattle.arrival.specs.Decision.{arrivalChecks}
+use Rattle.area.specs.Area.{badArea}
+use Rattle.arrival.specs.Checks.{silent, when, firstOf, walkAt, optionAt, arrivingLabel, arrivalChecks}
 
 -- the checks at a port, from 1 to 14 in their order; `room` is the length of the list of keys, and 1 is given where it is under 120
 abbrev pub portChecks : Port → List ℕ → ℕ → ℕ → List (Option Refusal)

@@ -1,14 +1,11 @@
-// What both jobs share, checks 1 to 14 and 19 to 21 of a datagram that arrives at a port, and deliver (document 01, "The order of checks"; document
-// 02, Wish 3).
+// What both jobs share: checks 1 to 14 and 19 to 21 of a datagram that arrives at a port (document 01, "The order of checks"; document 02, Wish 3).
+use area::bad_area;
 use area::walk_area;
 use basic::Way;
 use basic::passes_way;
 use basic_option::BasicReading;
 use basic_option::read_basic;
-use decision::Decision;
-use decision::Facts;
 use decision::Verdict;
-use decision::conclude;
 use decision::go_on;
 use decision::stop;
 use keys::Look;
@@ -16,38 +13,24 @@ use keys::label_keys;
 use keys::look_between;
 use keys::runs_between;
 use label::Label;
-use port::Host;
 use port::Port;
-use port::host_sound;
 use port::port_sound;
 use reading::read_keys;
 use turn::Place;
 use turn::Walk;
 ghost use mathlib.Core.Path.{_≡_};
-ghost use mathlib.Core.Bool.{true, cond, _||_, not};
-ghost use Prim.Native.Nat.{_%_, _≤_};
+ghost use mathlib.Core.Bool.{true, cond};
+ghost use Prim.Native.Nat.{_≤_};
 ghost use lib.ListN.{length};
-ghost use lib.Dec.{ltb, eqb};
 ghost use Rattle.area.specs.Area.{walkOf, octetsAt, placedIn, WholeAt};
 ghost use Rattle.kinds.specs.declared.Kind.the-variants.{Basic, Cipso};
 ghost use Rattle.turn.specs.declared.Place.the-variants.{At};
 ghost use Rattle.basic_option.specs.Alone.{basicReading};
 ghost use Rattle.port.specs.Port.{portSound};
-ghost use Rattle.arrival.specs.Decision.{deliverOf};
 ghost use Rattle.arrival.specs.Verdict.{Arrives};
 ghost use Rattle.decision.specs.Verdict.{stopped, going};
 ghost use Rattle.arrival.specs.Checks.{firstOf, basicIn, optionAt};
-ghost use Rattle.arrival.specs.Stages.{deliveryOf, ArrivesAt, basicChecks, isOpen, beforeRange, basicRead, heldBetween, hostedBy};
-
-// Decides whether a datagram is delivered to the host behind the port.
-pub fn deliver(port: Port, host: Host, facts: Facts, area: &[u8]) -> Decision
-    ensures { λ r. ⌜ r ≡ deliverOf (deliveryOf port host facts (now (area .entry))) ⌝ }
-{
-    let mut keys = [0u32; 120];
-    let arrived = arrive(port, area, 10, &mut keys);
-    let verdict = reach_host(arrived, host, port.domain, &keys);
-    conclude(verdict, port.domain, facts, 0, &keys)
-}
+ghost use Rattle.arrival.specs.Stages.{ArrivesAt, basicChecks, isOpen, beforeRange, basicRead, heldBetween};
 
 // Checks 1 to 14 and 19 to 21 at a port: 0, with the runs of the label that the datagram arrives with as keys at the head of the list, or the refusal;
 // 1 for a list of under 120 keys too.
@@ -95,16 +78,6 @@ pub fn find_basic(area: &[u8]) -> BasicReading
             Place::At(at) => read_basic_at(area, at),
         },
     }
-}
-
-// Check 1 of an area of n octets: over 40, or not a multiple of 4.
-pub fn bad_area(n: usize) -> bool
-    ensures { λ r. ⌜ r ≡ (ltb 40 n || not (eqb (n % 4) 0)) ⌝ }
-{
-    if 40 < n {
-        return true;
-    }
-    n % 4 != 0
 }
 
 // Checks 6 to 13, and 14, with the place of the option 134.
@@ -210,35 +183,4 @@ fn read_basic_at(area: &[u8], at: usize) -> BasicReading
     let n = area[next] as usize;
     let end = at + n;
     read_basic(&area[at..end])
-}
-
-// Check 2 of the host, and 15: 1 comes before them, 2 of the host before 3 to 21.
-fn reach_host(arrived: Verdict, host: Host, domain: u32, keys: &[u32]) -> Verdict
-    ensures { λ r. ⌜ r ≡ hostedBy arrived host domain (now (keys .entry)) ⌝ }
-{
-    if arrived.number == 1 {
-        return arrived;
-    }
-    if !host_sound(host, domain) {
-        return stop(2, 0, 0, 0);
-    }
-    if arrived.number != 0 {
-        return arrived;
-    }
-    match look_between(
-        keys,
-        arrived.count,
-        arrived.level,
-        host.lowest,
-        host.highest,
-    ) {
-        Look::Within => arrived,
-        Look::Outside => stop(15, 3, 10, 0),
-        Look::Open => {
-            if !runs_between(keys, arrived.count, host.lowest, host.highest) {
-                return stop(15, 3, 10, 0);
-            }
-            arrived
-        }
-    }
 }

@@ -16,7 +16,8 @@ use Rattle.fileset.specs.declared.Set.{Set}
 use Rattle.fileset.specs.Set.{noPort, emptySet}
 use Rattle.file.specs.File.{fileFormat, fileReading, fileAnswer, accepted, fileRefused, unknown}
 use Rattle.decision.specs.Decision.{Refusal, silenced, decided}
-use Rattle.arrival.specs.Checks.{silent, when, firstOf, badArea}
+use Rattle.area.specs.Area.{badArea}
+use Rattle.arrival.specs.Checks.{silent, when, firstOf}
 use Rattle.forwarding.specs.Crossing.{Forwarding, sizes, records, sameDomain, crossing, leavingLabel}
 use Rattle.forwarding.specs.Forward.{forwardOf, forwardChecks, leavingCount}
 use Rattle.batch.specs.Batch.{portAt, gatewayOf, forwardingIn}

@@ -1,5 +1,4 @@
 // Entries 6 to 9, 15 and 16 of the program `cases`: the decision, asked with a mark, which is the first of the five facts, or with all five.
-use arrival::deliver;
 use case_fields::LONGEST;
 use case_fields::TakenFacts;
 use case_fields::TakenHost;
@@ -19,6 +18,7 @@ use case_fields::take_wide_table;
 use case_lines::put_broken;
 use case_lines::put_decision;
 use case_lines::put_lent;
+use delivery::deliver;
 use gateway::forward;
 
 // Entries 6 and 8: `all` tells whether five facts are stated or a mark.

@@ -30,8 +30,7 @@ use Rattle.leaving.proofs.Again.{basicFrom, basic-of-kept}
 use Rattle.port.specs.declared.Port.{Port}
 use Rattle.port.specs.Port.{portSound}
 use Rattle.port.proofs.Laws.{sound}
-use Rattle.arrival.specs.Checks.{faulty, barred, when, firstOf, NoneApplies, walkAt, walkRefusal, walkCheck, basicIn, optionAt, badBasicBy, badBasicCheck, arrivingBasic, missingBasicBy, missingBasicCheck, basicPasses, basicRangeCheck}
-use Rattle.arrival.specs.Decision.{arrivalChecks}
+use Rattle.arrival.specs.Checks.{faulty, barred, when, firstOf, NoneApplies, walkAt, walkRefusal, walkCheck, basicIn, optionAt, badBasicBy, badBasicCheck, arrivingBasic, missingBasicBy, missingBasicCheck, basicPasses, basicRangeCheck, arrivalChecks}
 use Rattle.arrival.proofs.First.{first-none, when-none, not-false-yes}
 use Rattle.arrival.proofs.Arrival.{octets-part, off-none}
 use Rattle.forwarding.specs.Crossing.{Forwarding, leavingBasicCheck}

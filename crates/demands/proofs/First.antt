@@ -4,9 +4,9 @@ use mathlib.Core.List.{List, _∷_}
 use mathlib.Core.Option.{Option, some}
 use Rattle.decision.specs.Decision.{Refusal}
 use Rattle.arrival.specs.Checks.{firstOf}
-use Rattle.arrival.specs.Decision.{deliverChecks}
+use Rattle.delivery.specs.Delivery.{deliverChecks}
 use Rattle.arrival.proofs.First.{first-append, none-first}
-use Rattle.arrival.proofs.Deliveries.{deliver-refused}
+use Rattle.delivery.proofs.Deliveries.{deliver-refused}
 use Rattle.forwarding.specs.Forward.{forwardChecks}
 use Rattle.forwarding.proofs.Forwards.{forward-refused}
 use Rattle.demands.specs.Demands.{FirstIs, Demand1}

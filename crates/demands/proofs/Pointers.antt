@@ -20,7 +20,7 @@ use Rattle.turn.specs.declared.Place.{Place}
 use Rattle.turn.specs.declared.Place.the-variants.{Nowhere, At}
 use Rattle.turn.specs.declared.Walk.{Walk}
 use Rattle.turn.specs.declared.Walk.the-variants.{Sound, Refused}
-use Rattle.area.specs.Area.{walkOf}
+use Rattle.area.specs.Area.{badArea, walkOf}
 use Rattle.kinds.specs.declared.Kind.the-variants.{Basic}
 use Rattle.area.proofs.Laws.{area-refused, sound-placed}
 use Rattle.basic_option.specs.Alone.{basicReading}
@@ -29,8 +29,8 @@ use Rattle.port.specs.declared.Port.{Port}
 use Rattle.port.specs.Port.{portSound, hostSound, lowestOut, highestOut}
 use Rattle.keys.specs.Range.{setInRange}
 use Rattle.decision.specs.Decision.{Refusal, silenced, decided}
-use Rattle.arrival.specs.Checks.{silent, faulty, barred, when, firstOf, badArea, walkAt, walkRefusal, walkCheck, placeIn, basicIn, optionAt, requiredBy, requiredCheck, optionBy, optionCheck, badBasicBy, badBasicCheck, arrivingBasic, missingBasicBy, missingBasicCheck, basicPasses, basicRangeCheck, arrivingLabel, rangeCheck, Delivery, deliverySizes, deliveryRecords, hostCheck}
-use Rattle.arrival.specs.Decision.{deliverChecks, deliverOf}
+use Rattle.arrival.specs.Checks.{silent, faulty, barred, when, firstOf, walkAt, walkRefusal, walkCheck, placeIn, basicIn, optionAt, requiredBy, requiredCheck, optionBy, optionCheck, badBasicBy, badBasicCheck, arrivingBasic, missingBasicBy, missingBasicCheck, basicPasses, basicRangeCheck, arrivingLabel, rangeCheck}
+use Rattle.delivery.specs.Delivery.{Delivery, deliverySizes, deliveryRecords, hostCheck, deliverChecks, deliverOf}
 use Rattle.arrival.proofs.Arrival.{placed-framed, whole-inside}
 use Rattle.forwarding.specs.Crossing.{noRoom, Forwarding, sizes, records, leavingBasicCheck, crossing, stays, hasNumbers, numberCheck, leavingLevel, leavingRuns, leavingCheck, leavingOption, spellingCheck}
 use Rattle.forwarding.specs.Forward.{forwardChecks, forwardOf}

@@ -35,12 +35,13 @@ use Rattle.renumber.specs.Theorems.{Far}
 use Rattle.renumber.proofs.Theorems.{renumbering, agrees}
 use Rattle.decision.specs.declared.Decision.{Decision}
 use Rattle.decision.specs.Decision.{Refusal, silenced, refused, decided}
-use Rattle.arrival.specs.Checks.{silent, barred, firstOf, NoneApplies, badArea, walkAt, walkCheck, optionAt, requiredBy, requiredCheck, optionBy, optionCheck, labelBy, arrivingLabel, rangeCheck, Delivery, deliverySizes, deliveryRecords, hostCheck}
+use Rattle.area.specs.Area.{badArea}
+use Rattle.arrival.specs.Checks.{silent, barred, firstOf, NoneApplies, walkAt, walkCheck, optionAt, requiredBy, requiredCheck, optionBy, optionCheck, labelBy, arrivingLabel, rangeCheck, arrivalChecks}
+use Rattle.delivery.specs.Delivery.{Delivery, deliverySizes, deliveryRecords, hostCheck, deliverChecks, deliverOf}
 use Rattle.decision.specs.Decision as decision
-use Rattle.arrival.specs.Decision.{arrivalChecks, deliverChecks, deliverOf}
 use Rattle.arrival.proofs.First.{Real, real-first, real-when, first-none, none-first, when-none, first-append, not-false-yes, real-else}
 use Rattle.arrival.proofs.Arrival.{placed-framed, octets-part, Held, arrival-held, arrival-real, in-range-held}
-use Rattle.arrival.proofs.Deliveries.{deliver-done}
+use Rattle.delivery.proofs.Deliveries.{deliver-done}
 use Rattle.forwarding.specs.Crossing.{noRoom, Forwarding, sameDomain, Crossing, crossing, stays, leavingLabel, leavingOption, sizes, records, numberCheck, leavingCheck, leavingLevel, leavingRuns}
 use Rattle.forwarding.specs.Forward.{forwardChecks, forwardOf, outputOf}
 use Rattle.forwarding.specs.Crossing.{crossingChecks}

@@ -16,8 +16,8 @@ use Rattle.port.specs.declared.Port.{Port}
 use Rattle.port.specs.declared.Host.{Host}
 use Rattle.decision.specs.declared.Decision.{Decision}
 use Rattle.decision.specs.Decision.{Refusal, silenced, decided}
-use Rattle.arrival.specs.Checks.{barred, when, firstOf, walkAt, walkCheck, requiredBy, requiredCheck, optionCheck, badBasicCheck, arrivingBasic, missingBasicBy, missingBasicCheck, basicPasses, basicRangeCheck, arrivingLabel, rangeCheck, Delivery, deliverySizes, deliveryRecords, hostCheck}
-use Rattle.arrival.specs.Decision.{deliverOf}
+use Rattle.arrival.specs.Checks.{barred, when, firstOf, walkAt, walkCheck, requiredBy, requiredCheck, optionCheck, badBasicCheck, arrivingBasic, missingBasicBy, missingBasicCheck, basicPasses, basicRangeCheck, arrivingLabel, rangeCheck}
+use Rattle.delivery.specs.Delivery.{Delivery, deliverySizes, deliveryRecords, hostCheck, deliverOf}
 use Rattle.forwarding.specs.Crossing.{Forwarding, Crossing, sizes, records, leavingBasicCheck, crossing, numberCheck, leavingCheck, spellingCheck, leavingLabel, leavingOption}
 use Rattle.forwarding.specs.Forward.{forwardOf}
 use Rattle.demands.specs.Guards.{Unlabelled, UnlabelledDelivered, leavingArea}

@@ -28,8 +28,8 @@ use Rattle.port.specs.Port.{portSound, hostSound}
 use Rattle.table.specs.Table.{tableSound}
 use Rattle.renumber.specs.Theorems.{Far}
 use Rattle.decision.specs.Decision.{Refusal, silenced, refused, done}
-use Rattle.arrival.specs.Checks.{NoneApplies, walkAt, optionAt, badBasicCheck, Delivery, deliverySizes, deliveryRecords, walkCheck, requiredCheck, optionCheck, missingBasicCheck, basicRangeCheck, rangeCheck}
-use Rattle.arrival.specs.Decision.{deliverChecks, deliverOf}
+use Rattle.arrival.specs.Checks.{NoneApplies, walkAt, optionAt, badBasicCheck, walkCheck, requiredCheck, optionCheck, missingBasicCheck, basicRangeCheck, rangeCheck}
+use Rattle.delivery.specs.Delivery.{Delivery, deliverySizes, deliveryRecords, deliverChecks, deliverOf}
 use Rattle.forwarding.specs.Crossing.{Forwarding, sizes, records, leavingBasicCheck, crossing, numberCheck}
 use Rattle.forwarding.specs.Forward.{forwardChecks, forwardOf, outputOf}
 

@@ -18,8 +18,8 @@ use Rattle.area.specs.Area.{walkOf}
 use Rattle.leaving.specs.Kept.{keptOf}
 use Rattle.port.specs.declared.Port.{Port}
 use Rattle.decision.specs.declared.Decision.{Decision}
-use Rattle.arrival.specs.Checks.{walkAt, optionAt, requiredCheck, optionCheck, badBasicCheck, arrivingBasic, arrivingLabel, Delivery, deliverySizes}
-use Rattle.arrival.specs.Decision.{deliverOf}
+use Rattle.arrival.specs.Checks.{walkAt, optionAt, requiredCheck, optionCheck, badBasicCheck, arrivingBasic, arrivingLabel}
+use Rattle.delivery.specs.Delivery.{Delivery, deliverySizes, deliverOf}
 use Rattle.forwarding.specs.Crossing.{Forwarding, sizes}
 use Rattle.forwarding.specs.Forward.{forwardOf, outputOf}
 use Rattle.demands.specs.Demands.{AreaSound}

@@ -18,7 +18,7 @@ use Rattle.kinds.specs.declared.Size.the-variants.{Whole, Bad}
 use Rattle.turn.specs.declared.Place.{Place}
 use Rattle.turn.specs.declared.Place.the-variants.{Nowhere, At}
 use Rattle.turn.specs.declared.Walk.the-variants.{Sound}
-use Rattle.area.specs.Area.{Met, metOf, walkOf}
+use Rattle.area.specs.Area.{badArea, Met, metOf, walkOf}
 use Rattle.basic_option.specs.Option.{basicValid}
 use Rattle.leaving.specs.Kept.{keptOf}
 use Rattle.port.specs.declared.Port.{Port}
@@ -26,8 +26,8 @@ use Rattle.port.specs.Port.{portSound, hostSound, lowestOut, highestOut}
 use Rattle.table.specs.Table.{tableSound}
 use Rattle.decision.specs.declared.Decision.{Decision}
 use Rattle.decision.specs.Decision.{Refusal, silenced, refused}
-use Rattle.arrival.specs.Checks.{badArea, walkAt, placeIn, basicIn, optionAt, arrivingBasic, basicPasses, arrivingLabel, Delivery}
-use Rattle.arrival.specs.Decision.{deliverOf}
+use Rattle.arrival.specs.Checks.{walkAt, placeIn, basicIn, optionAt, arrivingBasic, basicPasses, arrivingLabel}
+use Rattle.delivery.specs.Delivery.{Delivery, deliverOf}
 use Rattle.forwarding.specs.Crossing.{noRoom, Forwarding, sameDomain, crossing, stays, hasNumbers, leavingLevel, leavingRuns, leavingOption}
 use Rattle.forwarding.specs.Forward.{forwardOf}
 use Rattle.demands.specs.First.{NoneOf, FirstOf}

@@ -16,11 +16,10 @@ use Rattle.port.specs.Port.{plainPort}
 use Rattle.table.specs.declared.Table.{Table}
 use Rattle.decision.specs.declared.Decision.{Decision}
 use Rattle.decision.specs.declared.Facts.{Facts}
-use Rattle.arrival.specs.Checks.{Delivery}
 use Rattle.decision.specs.Decision.{silenced, noFact}
-use Rattle.arrival.specs.Decision.{deliverOf}
 use Rattle.forwarding.specs.Crossing.{Forwarding}
 use Rattle.forwarding.specs.Forward.{forwardOf, outputOf}
+use Rattle.delivery.specs.Delivery.{Delivery, deliverOf}
 
 -- A label of domain 5 with at most one run; the all-zero label.
 abbrev pub bare : ℕ → Label

@@ -22,8 +22,8 @@ use Rattle.leaving.proofs.Laws.{kept-most, rest-counted, rest-whole}
 use Rattle.port.specs.Port.{portSound, lowestOut, highestOut}
 use Rattle.table.specs.Table.{tableSound}
 use Rattle.decision.specs.Decision.{Refusal, silenced, refused, done}
-use Rattle.arrival.specs.Checks.{silent, barred, when, firstOf, badArea, arrivingBasic, basicPasses, arrivingLabel, rangeCheck}
-use Rattle.arrival.specs.Decision.{arrivalChecks}
+use Rattle.area.specs.Area.{badArea}
+use Rattle.arrival.specs.Checks.{silent, barred, when, firstOf, arrivingBasic, basicPasses, arrivingLabel, rangeCheck, arrivalChecks}
 use Rattle.arrival.proofs.First.{orElse, first-append, first-none, none-first, when-none, Real, real-first, real-when, not-false-yes, real-else, Late, late-first, late-when, late-real, late-else}
 use Rattle.arrival.proofs.Arrival.{beforeChecks, before-late, arrival-held}
 use Rattle.forwarding.specs.Crossing.{Forwarding, sameDomain, sizes, records, leavingBasicCheck, Crossing, crossing, stays, hasNumbers, numberCheck, leavingLevel, leavingRuns, leavingCheck, leavingLabel, leavingOption, noRoom, spellingCheck, crossingChecks}

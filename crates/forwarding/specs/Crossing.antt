@@ -21,7 +21,8 @@ use Rattle.levels.specs.Levels.{partnerOf, known, levelOr0}
 use Rattle.table.specs.Numbers.{numbered}
 use Rattle.renumber.specs.Renumber.{imageRuns}
 use Rattle.decision.specs.Decision.{Refusal}
-use Rattle.arrival.specs.Checks.{silent, barred, when, badArea, arrivingBasic, basicPasses, arrivingLabel}
+use Rattle.area.specs.Area.{badArea}
+use Rattle.arrival.specs.Checks.{silent, barred, when, arrivingBasic, basicPasses, arrivingLabel}
 
 -- Forward: two ports, and a table that is read when their domains differ; `room` is the length of the output.
 pub record Forwarding : Type 0 where

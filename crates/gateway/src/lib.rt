@@ -1,6 +1,6 @@
 // Forward (document 01, "The order of checks" and "The leaving area"; document 02, Wish 3): the checks in their order, and only a forwarding writes.
+use area::bad_area;
 use area::walk_area;
-use arrival::bad_area;
 use crossing::cross;
 use decision::Decision;
 use decision::Facts;

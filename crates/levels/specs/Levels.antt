@@ -24,6 +24,10 @@ abbrev pub levelNumbers : List (List ℕ) → Bool
 levelNumbers [] = true
 levelNumbers (p ∷ ps) = leb (getD p 0 0) 255 && (leb (getD p 1 0) 255 && levelNumbers ps)
 
+-- sound level pairs of such numbers
+abbrev pub pairsSound : List (List ℕ) → ℕ → Bool
+pairsSound ls n = levelsSound ls n && levelNumbers (take n ls)
+
 -- the second level of the first pair whose first level it is
 abbrev pub partnerOf : List (List ℕ) → ℕ → Partner
 partnerOf [] v = Missing

@@ -1,9 +1,9 @@
 // Level pairs of a renumbering table: what makes them sound, and the partner of a level (document 01, "Records").
 ghost use mathlib.Core.Path.{_≡_};
-ghost use mathlib.Core.Bool.{true, _&&_};
+ghost use mathlib.Core.Bool.{true};
 ghost use Prim.Native.Nat.{_+_, _*_, _≤_};
 ghost use lib.ListN.{take, drop};
-ghost use Rattle.levels.specs.Levels.{levelsRise, unusedPairs, levelsSound, levelNumbers, partnerOf};
+ghost use Rattle.levels.specs.Levels.{levelsRise, unusedPairs, levelNumbers, pairsSound, partnerOf};
 use lists::lesser;
 
 // The level that a level goes to, where it has a partner.
@@ -31,7 +31,7 @@ pub fn partner_of(levels: [[u8; 2]; 16], pairs: usize, level: u8) -> Partner
 
 // Whether the first `count` pairs rise strictly on both sides and the others are zero; that each number is at most 255 is what its type says.
 pub fn levels_sound(levels: [[u8; 2]; 16], count: usize) -> bool
-    ensures { λ r. ⌜ r ≡ (levelsSound levels count && levelNumbers (take count levels)) ⌝ }
+    ensures { λ r. ⌜ r ≡ pairsSound levels count ⌝ }
 {
     let n = lesser(count, 16);
     if !pairs_rise(levels, n) {

@@ -3,6 +3,7 @@ use Prim.Native.Nat.{ℕ, zero, suc, _+_, _-_, _*_, _/_, _%_, _≤_, _<_}
 use mathlib.Core.Path.{_≡_, refl, ap, sym, _∙_}
 use mathlib.Core.List.{List, [], _∷_}
 use mathlib.Core.Bool.{Bool, true, false, not, _&&_, _||_, cond}
+use mathlib.Core.Logic.{_⊎_, inl, inr, ⊎-elim}
 use lib.ListN.{length, getD, take, drop, length-drop}
 use lib.Seq.{length-take-le}
 use lib.Dec.{leb, ltb, eqb}
@@ -11,11 +12,19 @@ use borrow.Author.Tests.{le-leb, lt-leb, lt-ltb, le-ltb, leb-true, eqb-true, eqb
 use Rattle.label.specs.declared.Label.{Label}
 use Rattle.label.specs.Runs.{joined}
 use Rattle.label.specs.Label.{labelOf}
-use Rattle.label.proofs.Bools.{and-left, and-right, not-yes}
+use Rattle.label.proofs.Bools.{and-left, and-right, or-cases, not-yes}
 use Rattle.option.specs.Option.{domainOf, tagOf, tagLengthOf, levelOf, isEven}
 use Rattle.option.specs.Reading.{pieces}
 use Rattle.reading.specs.declared.Reading.{Reading}
 use Rattle.reading.specs.Reading.{found, notRead, checkedReading, knownTag, goodLength, categoriesIn, badPlace, tagChecks, labelIn, readingBy, framed, readingOf, readingFor}
+
+-- The three tags.
+pub known-cases : (t : ℕ) → knownTag t ≡ true → (t ≡ 1) ⊎ ((t ≡ 2) ⊎ (t ≡ 5))
+known-cases t e =
+    ⊎-elim (λ p. inl (eqb-true t 1 p)) (λ p. inr (⊎-elim (λ q. inl (eqb-true t 2 q)) (λ q. inr (eqb-true t 5 q)) (or-cases (eqb t 2) (eqb t 5) p))) (or-cases (eqb t 1) (eqb t 2 || eqb t 5) e)
+
+pub known-one : (t : ℕ) → knownTag t ≡ true → (t ≡ 2 → ⊥) → (t ≡ 5 → ⊥) → t ≡ 1
+known-one t e n m = ⊎-elim (λ p. p) (λ p. absurd (⊎-elim n m p)) (known-cases t e)
 
 -- What a good length says.
 pub record Lengths (t n m : ℕ) : Type 0 where

@@ -1,8 +1,9 @@
 -- Laws of reading into keys: what each return of the readers leaves.
-use Prim.Native.Nat.{ℕ, _-_, _*_, _/_, _%_, _≤_, _<_}
+use Prim.Native.Nat.{ℕ, _%_, _≤_, _<_}
 use mathlib.Core.Path.{_≡_, refl, ap, sym, _∙_}
 use mathlib.Core.List.{List}
 use mathlib.Core.Bool.{Bool, true, false, not, cond, _&&_}
+use mathlib.Core.Logic.{⊎-elim}
 use lib.ListN.{length, take, drop, length-map}
 use lib.Seq.{take-at}
 use lib.Dec.{eqb}
@@ -10,36 +11,22 @@ use native.Mathlib.Omega.{arith}
 use borrow.Author.Tests.{lt-ltb, le-ltb, ne-eqb, eqb-true, not-false}
 use Rattle.label.specs.declared.Run.{Run}
 use Rattle.label.specs.declared.Label.{Label}
-use Rattle.label.proofs.Bools.{never}
+use Rattle.label.proofs.Bools.{less-or, never}
 use Rattle.label.specs.Runs.{joined}
 use Rattle.label.specs.Label.{labelOf}
 use Rattle.keys.specs.Keys.{keyRuns, runKey, labelFrom}
 use Rattle.keys.proofs.Keys.{label-fits}
 use Rattle.option.specs.Option.{domainOf, tagOf, levelOf}
 use Rattle.option.specs.Reading.{pieces}
-use Rattle.option.specs.Index.{firstTrue, badNumber, badPair, pairsOf}
 use Rattle.reading.specs.declared.Reading.{Reading}
 use Rattle.reading.specs.declared.KeyReading.{KeyReading}
-use Rattle.reading.specs.declared.Pass.{Pass}
+use Rattle.numbers.specs.declared.Pass.{Pass}
+use Rattle.numbers.specs.Numbers.{atFront}
 use Rattle.reading.specs.Reading.{found, notRead, checkedReading, categoriesIn, badPlace, tagChecks, labelIn, framed, readingBy, readingOf}
-use Rattle.reading.specs.Keys.{runsIn, keysIn, atFront, keyed, withLabel, labelled, early, keysWith, keyReadingFor, keysAfter, ReadsKeys}
-use Rattle.reading.specs.Stages.{PassOver, ReadsTag, foreignTo, readingBoth, ReadsChecked}
+use Rattle.reading.specs.Keys.{runsIn, keysIn, keyed, withLabel, labelled, early, keysWith, keyReadingFor, keysAfter, ReadsKeys}
+use Rattle.reading.specs.Stages.{PassOver, ReadsTag, foreignTo, readingBoth, ReadsRows, ReadsChecked}
 use Rattle.reading.proofs.Checks.{parts-framed, stops3, alone, for-port}
 use Rattle.reading.proofs.Loops.{runs-joined}
-
--- A pass over the categories of tag 5 is what a tag that is neither 1 nor 2 asks for.
-pub pass-five : (t : ℕ) (b : List ℕ) {keys keys′ : List ℕ} {r : Pass} → (t ≡ 1 → ⊥) → (t ≡ 2 → ⊥) → PassOver 5 b keys keys′ r → PassOver t b keys keys′ r
-pass-five t b n m p =
-    record {
-      counted = rw (ne-eqb t 1 n, ne-eqb t 2 m) (p .counted);
-      held = p .held;
-      bad-at = p .bad-at ∙ sym place;
-      left = rw (ne-eqb t 1 n, ne-eqb t 2 m) (p .left);
-      stands = rw (ne-eqb t 1 n, ne-eqb t 2 m) (p .stands);
-    }
-  where
-    place : badPlace t b ≡ badPlace 5 b
-    place = λ i. cond (ne-eqb t 1 n i) (length b) (cond (ne-eqb t 2 m i) 2 4 * firstTrue (λ k. cond (ne-eqb t 2 m i) (badNumber b k) (badPair b k)) (cond (ne-eqb t 2 m i) (length b / 2) (pairsOf b)))
 
 -- a refusal has the all-zero label, whatever the keys are
 pub refused-label : (d : ℕ) (keys : List ℕ) (n p : ℕ) → (n ≡ 0 → ⊥) → labelled d (keyed (notRead n p)) keys ≡ notRead n p
@@ -105,7 +92,7 @@ foreign-none false d f e a = eqb-true f d (not-false _ e)
 
 -- Each refusal.
 pub stopped : (alone : Bool) (d : ℕ) (o keys : List ℕ) (n p : ℕ) → (n ≡ 0 → ⊥) → readingBoth alone d o ≡ notRead n p → (alone ≡ false → early n ≡ true)
-    → (r : KeyReading) → r ≡ keyed (notRead n p) → ReadsChecked alone d o keys keys r
+    → (r : KeyReading) → r ≡ keyed (notRead n p) → ReadsRows alone d o keys keys r
 stopped alone d o keys n p z f e r q =
     rw q
     (record {
@@ -119,7 +106,7 @@ stopped alone d o keys n p z f e r q =
 
 -- Past rows 7 and 8.
 pub tag-checked : (alone : Bool) (d : ℕ) {o keys keys′ : List ℕ} {r : KeyReading} → ReadsTag o keys keys′ r → readingBoth alone d o ≡ checkedReading (tagChecks o) (labelIn o)
-    → 10 ≤ length o → (alone ≡ false → domainOf o ≡ d) → ReadsChecked alone d o keys keys′ r
+    → 10 ≤ length o → (alone ≡ false → domainOf o ≡ d) → ReadsRows alone d o keys keys′ r
 tag-checked alone d {o} {keys} {keys′} {r} t f h e =
     record {
       answer = t .answer ∙ ap keyed (sym f);
@@ -131,7 +118,7 @@ tag-checked alone d {o} {keys} {keys′} {r} t f h e =
     }
 
 -- Alone: the label is made of the keys.
-pub checked-alone : (o : List ℕ) (d : ℕ) {keys keys′ : List ℕ} {r : KeyReading} → ReadsChecked true d o keys keys′ r → r .count ≤ length keys′ → (n : ℕ) → n ≡ cond (eqb (r .number) 0) (domainOf o) 0
+pub checked-alone : (o : List ℕ) (d : ℕ) {keys keys′ : List ℕ} {r : KeyReading} → ReadsRows true d o keys keys′ r → r .count ≤ length keys′ → (n : ℕ) → n ≡ cond (eqb (r .number) 0) (domainOf o) 0
     → (l : Label) → l ≡ labelFrom n (r .level) (keyRuns (take (r .count) keys′)) → _≡_ {A = Reading} (record { number = r .number; pointer = r .pointer; label = l }) (readingOf o)
 checked-alone o d {keys} {keys′} {r} t h n q l e =
     ap (λ (x : Label). record { number = r .number; pointer = r .pointer; label = x }) (e ∙ sym (label-fits n (r .level) keys′ (r .count) (r .count) (omega arith) (t .held)))
@@ -140,10 +127,10 @@ checked-alone o d {keys} {keys′} {r} t h n q l e =
 
 -- For a port.
 module _ (d : ℕ) (o keys : List ℕ) where
-  pub no-room : (r : KeyReading) → r ≡ keyed (notRead 1 0) → length keys < 120 → ReadsKeys d o keys keys r
+  no-room : (keys′ : List ℕ) (r : KeyReading) → (r ≡ keyed (notRead 1 0)) × (keys′ ≡ keys) → length keys < 120 → ReadsKeys d o keys keys′ r
   unfolding keyReadingFor keysAfter
-  no-room r q h =
-      rw q
+  no-room keys′ r q h =
+      rw (q .0, q .1)
       (record {
         answer = rw (lt-ltb (length keys) 120 h);
         left = rw (lt-ltb (length keys) 120 h);
@@ -151,9 +138,9 @@ module _ (d : ℕ) (o keys : List ℕ) where
         reading = λ k. absurd (omega arith);
       })
 
-  pub checked-for : (keys′ : List ℕ) (r : KeyReading) → ReadsChecked false d o keys keys′ r → 120 ≤ length keys → ReadsKeys d o keys keys′ r
+  roomy : (keys′ : List ℕ) (r : KeyReading) → ReadsRows false d o keys keys′ r → 120 ≤ length keys → ReadsKeys d o keys keys′ r
   unfolding keyReadingFor keysAfter
-  checked-for keys′ r t h =
+  roomy keys′ r t h =
       record {
         answer = rw (le-ltb (length keys) 120 h) (t .answer);
         left = rw (le-ltb (length keys) 120 h) (t .left refl);
@@ -164,3 +151,6 @@ module _ (d : ℕ) (o keys : List ℕ) where
       go : (b : Bool) → eqb (r .number) 0 ≡ b → cond b d 0 ≡ cond b (domainOf o) 0
       go true e = sym (t .own refl (eqb-true _ _ e))
       go false e = refl
+
+  pub checked-for : (keys′ : List ℕ) (r : KeyReading) → ReadsChecked false d o keys keys′ r → ReadsKeys d o keys keys′ r
+  checked-for keys′ r t = ⊎-elim (λ h. no-room keys′ r (t .short h) h) (λ h. roomy keys′ r (t .read h) h) (less-or (length keys) 120)

@@ -1,4 +1,3 @@
-pub mod Building
 pub mod Loops
 pub mod Checks
 pub mod Keys

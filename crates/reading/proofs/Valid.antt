@@ -25,12 +25,7 @@ use Rattle.option.proofs.Only.{octet-at, octets-drop}
 use Rattle.reading.specs.declared.Reading.{Reading}
 use Rattle.reading.specs.Reading.{Check, check, found, notRead, checkedReading, knownTag, goodLength, categoriesIn, countIn, badIn, badPlace, tagChecks, labelIn, framed}
 use Rattle.reading.proofs.Loops.{first-most}
-use Rattle.reading.proofs.Checks.{Lengths, lengths, good-lengths, Past, Framed, framed-parts, parts-framed, passes}
-
--- The three tags.
-known-cases : (t : ℕ) → knownTag t ≡ true → (t ≡ 1) ⊎ ((t ≡ 2) ⊎ (t ≡ 5))
-known-cases t e =
-    ⊎-elim (λ p. inl (eqb-true t 1 p)) (λ p. inr (⊎-elim (λ q. inl (eqb-true t 2 q)) (λ q. inr (eqb-true t 5 q)) (or-cases (eqb t 2) (eqb t 5) p))) (or-cases (eqb t 1) (eqb t 2 || eqb t 5) e)
+use Rattle.reading.proofs.Checks.{known-cases, Lengths, lengths, good-lengths, Past, Framed, framed-parts, parts-framed, passes}
 
 -- What the checks say of a tag's categories.
 pub record Kept (t : ℕ) (b : List ℕ) : Type 0 where

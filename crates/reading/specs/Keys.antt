@@ -1,32 +1,26 @@
 -- Reading into keys: what a lent list of keys holds after one option was read, for every option and every list.
-use Prim.Native.Nat.{ℕ, _+_, _*_, _/_, _≤_}
+use Prim.Native.Nat.{ℕ, _≤_}
 use mathlib.Core.Path.{_≡_}
-use mathlib.Core.List.{List, [], _++_, map}
+use mathlib.Core.List.{List, [], map}
 use mathlib.Core.Bool.{Bool, cond, _&&_}
-use lib.ListN.{length, take, drop}
+use lib.ListN.{length, take}
 use lib.Dec.{leb, ltb, eqb}
 use Rattle.label.specs.declared.Run.{Run}
 use Rattle.label.specs.Label.{labelOf}
 use Rattle.keys.specs.Keys.{keyRuns, runKey}
-use Rattle.option.specs.Bitmap.{bitAt}
 use Rattle.option.specs.Option.{tagOf}
-use Rattle.option.specs.Index.{setRuns, rangeRuns, firstTrue, numberAt, badNumber, pairsOf, lowPair, highPair}
+use Rattle.bitmap.specs.Bitmap.{bitmapRuns}
+use Rattle.numbers.specs.Numbers.{numberRuns, pairRuns, atFront}
 use Rattle.reading.specs.declared.Reading.{Reading}
 use Rattle.reading.specs.declared.KeyReading.{KeyReading}
 use Rattle.reading.specs.Reading.{categoriesIn, readingFor}
 
 -- the runs that are written of a tag's categories: tag 2 ends before its first bad number, tags 1 and 5 go on to their end
 abbrev pub runsIn : ℕ → List ℕ → List Run
-runsIn t b =
-    cond (eqb t 1) (setRuns (bitAt b) (8 * length b))
-    (cond (eqb t 2) (rangeRuns (numberAt b) (numberAt b) (firstTrue (badNumber b) (length b / 2))) (rangeRuns (lowPair b) (highPair b) (pairsOf b)))
+runsIn t b = cond (eqb t 1) (bitmapRuns b) (cond (eqb t 2) (numberRuns b) (pairRuns b))
 
 abbrev pub keysIn : ℕ → List ℕ → List ℕ
 keysIn t b = map runKey (runsIn t b)
-
--- at the front of a lent list; what stands after them stays
-abbrev pub atFront : List ℕ → List ℕ → List ℕ
-atFront ks keys = ks ++ drop (length ks) keys
 
 -- a reading without its runs
 abbrev pub keyed : Reading → KeyReading

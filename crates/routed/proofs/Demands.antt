@@ -10,8 +10,7 @@ use Rattle.label.specs.Label.{inRange, zeroLabel}
 use Rattle.port.specs.declared.Port.{Port}
 use Rattle.decision.specs.declared.Decision.{Decision}
 use Rattle.decision.specs.Decision.{Refusal, silenced, decided}
-use Rattle.arrival.specs.Checks.{barred, when, firstOf, badBasicCheck, arrivingBasic, missingBasicBy, missingBasicCheck, basicPasses, basicRangeCheck, rangeCheck}
-use Rattle.arrival.specs.Decision.{arrivalChecks}
+use Rattle.arrival.specs.Checks.{barred, when, firstOf, badBasicCheck, arrivingBasic, missingBasicBy, missingBasicCheck, basicPasses, basicRangeCheck, rangeCheck, arrivalChecks}
 use Rattle.arrival.proofs.First.{orElse, first-append}
 use Rattle.forwarding.specs.Crossing.{sizes}
 use Rattle.route.specs.declared.Route.{Route}

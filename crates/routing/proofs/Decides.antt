@@ -13,8 +13,7 @@ use Rattle.label.specs.Label.{zeroLabel}
 use Rattle.port.specs.declared.Port.{Port}
 use Rattle.port.specs.Port.{portSound}
 use Rattle.decision.specs.Decision.{Refusal, silenced, decided}
-use Rattle.arrival.specs.Checks.{silent, barred, firstOf, walkCheck, requiredCheck, optionCheck, badBasicCheck, missingBasicCheck, basicRangeCheck, rangeCheck}
-use Rattle.arrival.specs.Decision.{arrivalChecks}
+use Rattle.arrival.specs.Checks.{silent, barred, firstOf, walkCheck, requiredCheck, optionCheck, badBasicCheck, missingBasicCheck, basicRangeCheck, rangeCheck, arrivalChecks}
 use Rattle.leaving.specs.Kept.{keptOf}
 use Rattle.forwarding.specs.Crossing.{Forwarding, sizes, records, sameDomain, leavingBasicCheck, numberCheck, leavingCheck, spellingCheck, crossing, leavingLabel, leavingOption}
 use Rattle.forwarding.specs.Forward.{optionOctets, forwardChecks, leavingCount, forwardOf, outputOf}

@@ -11,8 +11,8 @@ use Rattle.label.specs.Label.{zeroLabel}
 use Rattle.decision.specs.declared.Facts.{Facts}
 use Rattle.decision.specs.declared.Decision.{Decision}
 use Rattle.decision.specs.Decision.{Refusal, silenced, decided}
-use Rattle.arrival.specs.Checks.{silent, when, firstOf, badArea}
-use Rattle.arrival.specs.Decision.{arrivalChecks}
+use Rattle.area.specs.Area.{badArea}
+use Rattle.arrival.specs.Checks.{silent, when, firstOf, arrivalChecks}
 use Rattle.arrival.proofs.First.{orElse, Real, first-append}
 use Rattle.arrival.proofs.Arrival.{arrival-real}
 use Rattle.forwarding.specs.Crossing.{sizes}

@@ -13,8 +13,8 @@ use Rattle.port.specs.Port.{portSound}
 use Rattle.decision.specs.declared.Facts.{Facts}
 use Rattle.decision.specs.declared.Decision.{Decision}
 use Rattle.decision.specs.Decision.{Refusal, silenced, decided}
-use Rattle.arrival.specs.Checks.{silent, when, firstOf, badArea}
-use Rattle.arrival.specs.Decision.{arrivalChecks}
+use Rattle.area.specs.Area.{badArea}
+use Rattle.arrival.specs.Checks.{silent, when, firstOf, arrivalChecks}
 use Rattle.forwarding.specs.Crossing.{sizes}
 use Rattle.route.specs.declared.Chosen.{Chosen}
 use Rattle.route.specs.declared.Chosen.the-variants.{NoRoute, By}

@@ -15,8 +15,8 @@ use Rattle.decision.specs.declared.Facts.{Facts}
 use Rattle.decision.specs.declared.Decision.{Decision}
 use Rattle.decision.specs.declared.Verdict.{Verdict}
 use Rattle.decision.specs.Decision.{Refusal, silenced, refused, decided}
-use Rattle.arrival.specs.Checks.{silent, when, firstOf, badArea, arrivingLabel}
-use Rattle.arrival.specs.Decision.{arrivalChecks}
+use Rattle.area.specs.Area.{badArea}
+use Rattle.arrival.specs.Checks.{silent, when, firstOf, arrivingLabel, arrivalChecks}
 use Rattle.decision.specs.Verdict.{verdictOf, concluded}
 use Rattle.arrival.specs.Verdict.{arrivalOf, Arrives}
 use Rattle.arrival.proofs.First.{orElse, first-append, Late}

@@ -12,8 +12,8 @@ use Rattle.decision.specs.declared.Facts.{Facts}
 use Rattle.decision.specs.declared.Decision.{Decision}
 use Rattle.decision.specs.declared.Verdict.{Verdict}
 use Rattle.decision.specs.Decision.{Refusal, silenced, decided}
-use Rattle.arrival.specs.Checks.{silent, when, firstOf, badArea}
-use Rattle.arrival.specs.Decision.{arrivalChecks}
+use Rattle.area.specs.Area.{badArea}
+use Rattle.arrival.specs.Checks.{silent, when, firstOf, arrivalChecks}
 use Rattle.decision.specs.Verdict.{stopped}
 use Rattle.forwarding.specs.Forward.{forwardOf, outputOf}
 use Rattle.route.specs.declared.Chosen.{Chosen}

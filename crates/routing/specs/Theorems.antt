@@ -5,9 +5,8 @@ use mathlib.Core.Option.{some}
 use mathlib.Core.Path.{_≡_}
 use Prim.Native.Nat.{ℕ}
 use Rattle.label.specs.Label.{zeroLabel}
-use Rattle.arrival.specs.Checks.{silent, barred, firstOf}
+use Rattle.arrival.specs.Checks.{silent, barred, firstOf, arrivalChecks}
 use Rattle.decision.specs.Decision.{silenced, decided}
-use Rattle.arrival.specs.Decision.{arrivalChecks}
 use Rattle.forwarding.specs.Crossing.{sizes, numberCheck, crossing}
 use Rattle.forwarding.specs.Forward.{forwardOf, outputOf}
 use Rattle.route.specs.declared.Route.{Route}

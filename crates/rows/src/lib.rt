@@ -1,15 +1,14 @@
 // The tests of a table's rows over plain numbers: one row's ends, and targets along their order (document 01, "Records").
 ghost use mathlib.Core.Path.{_≡_};
 ghost use mathlib.Core.Bool.{_&&_};
-ghost use Prim.Native.Nat.{_+_, _-_};
 ghost use lib.Dec.{leb};
 ghost use lib.ListN.{length, take};
-ghost use Rattle.rows.specs.Rows.{keysApart};
+ghost use Rattle.rows.specs.Rows.{rowRises, keysApart};
 use lists::lesser;
 
 // Whether a row's source begins at the floor or above, and both ends keep to the highest category.
 pub fn row_rises(low: u16, high: u16, target: u16, floor: u32) -> bool
-    ensures { λ r. ⌜ r ≡ (leb floor low && (leb low high && (leb high 65534 && leb (target + (high - low)) 65534))) ⌝ }
+    ensures { λ r. ⌜ r ≡ rowRises floor low high target ⌝ }
 {
     let low = low as u32;
     let high = high as u32;

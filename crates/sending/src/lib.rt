@@ -23,8 +23,8 @@ pub fn kept_by(held: Verdict, area: &[u8]) -> usize
     count_kept(area)
 }
 
-// Check 18: a label holds the set, it has a spelling among the permitted ones, and the options have room. Toward unlabelled hosts the label is the
-// default label, nothing is spelled, and the kept options have room.
+// Check 18: a label holds the set, it has a spelling among the permitted ones, and the options have room. Toward unlabelled hosts nothing is spelled, and
+// the room is not tested: in an area that passes check 1 the kept options have at most 40 octets.
 pub fn fit(
     held: Verdict,
     unlabelled: bool,

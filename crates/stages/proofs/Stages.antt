@@ -30,11 +30,10 @@ use Rattle.carry.specs.declared.Carried.{Carried}
 use Rattle.carry.specs.Carry.{imageOf, carriedKeys, carryOf}
 use Rattle.decision.specs.declared.Verdict.{Verdict}
 use Rattle.decision.specs.Decision.{Refusal, silenced, done}
-use Rattle.arrival.specs.Checks.{silent, barred, when, firstOf, badArea, basicIn, arrivingBasic, missingBasicCheck, basicPasses, arrivingLabel, rangeCheck}
-use Rattle.arrival.specs.Decision.{arrivalChecks}
+use Rattle.arrival.specs.Checks.{silent, barred, when, firstOf, basicIn, arrivingBasic, missingBasicCheck, basicPasses, arrivingLabel, rangeCheck, arrivalChecks}
 use Rattle.decision.specs.Verdict.{verdictOf, stopped, concluded}
 use Rattle.arrival.specs.Verdict.{arrivalOf, Arrives}
-use Rattle.area.specs.Area.{walkOf, octetsAt}
+use Rattle.area.specs.Area.{badArea, walkOf, octetsAt}
 use Rattle.basic_option.specs.declared.BasicReading.{BasicReading}
 use Rattle.basic.specs.declared.Way.{Way}
 use Rattle.basic.specs.Settings.{passesWay}

@@ -9,7 +9,8 @@ use lib.ListN.{length}
 use Rattle.turn.specs.declared.Walk.the-variants.{Sound, Refused}
 use Rattle.area.proofs.Laws.{area-refused, sound-placed}
 use Rattle.port.specs.Port.{portSound}
-use Rattle.arrival.specs.Checks.{badArea, walkAt}
+use Rattle.area.specs.Area.{badArea}
+use Rattle.arrival.specs.Checks.{walkAt}
 use Rattle.arrival.proofs.Arrival.{area-short, port-sized, port-unsound, port-walked, port-on, port-off}
 use Rattle.arrival.proofs.arrive.Statement.{statement}
 use Rattle.arrival.proofs.arrive.Tie as tie

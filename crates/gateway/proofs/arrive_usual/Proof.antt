@@ -6,10 +6,10 @@ use mathlib.Core.Path.{_≡_, sym, _∙_, ap}
 use mathlib.Core.Bool.{Bool, false, _||_}
 use lib.Dec.{ltb}
 use lib.ListN.{length}
-use Rattle.area.specs.Area.{walkOf}
+use Rattle.area.specs.Area.{badArea, walkOf}
 use Rattle.turn.specs.declared.Walk.the-variants.{Sound, Refused}
 use Rattle.area.proofs.Laws.{area-refused, sound-placed}
-use Rattle.arrival.specs.Checks.{badArea, walkAt}
+use Rattle.arrival.specs.Checks.{walkAt}
 use Rattle.decision.specs.Verdict.{stopped}
 use Rattle.arrival.specs.Stages.{ArrivesAt}
 use Rattle.arrival.proofs.Arrival.{area-short, none-required, port-sized, port-walked, port-off}

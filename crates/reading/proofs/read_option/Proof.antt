@@ -12,7 +12,7 @@ read-checked-requires : tie.Need-read-checked-requires
 read-checked-requires c κs = search needs
 
 owner-of-requires : tie.Need-owner-of-requires
-owner-of-requires c κs = search needs
+owner-of-requires c κs = c .before .read-checked .ensures .read (omega arith) .long
 
 slice-aggregate-to-label : tie.Need-slice-aggregate-to-label
 slice-aggregate-to-label c = search needs
@@ -23,8 +23,8 @@ to-label-requires c κs = search needs
 returns : tie.Need-returns
 returns c =
     let w = c .before .before in
-    let t = w .before .before .read-checked in
-    checked-alone (w .before .before .before .before .before .args .octets .now) _ (t .ensures) (omega (arith, t .ensures .held)) _ (w .owner-of .ensures) _ (c .to-label .ensures)
+    let t = w .before .before .read-checked .ensures .read (omega arith) in
+    checked-alone (w .before .before .before .before .before .args .octets .now) _ t (omega (arith, t .held)) _ (w .owner-of .ensures) _ (c .to-label .ensures)
 
 pub read-option-spec : {M : Type 1} → statement M
 read-option-spec =

@@ -117,7 +117,7 @@ part-categories-end c = omega (arith, size-is c, len c .inside)
 category-keys-requires : tie.Need-category-keys-requires
 category-keys-requires c κs =
     let d = c .before .before in
-    (omega (arith, part-length d, len d .most), λ n. omega (arith, part-length d, len d .least, len d .even n), d .before .before .before .before .before .before .before .before .before .before .before .pre .1)
+    (omega (arith, part-length d, len d .most), λ n. omega (arith, part-length d, len d .least, len d .even n), d .before .before .before .before .before .before .before .before .before .before .before .pre .1, past d .known)
 
 -- the pass over the tag's categories
 module _ (c : tie.After-category-keys) where
