@@ -14,8 +14,8 @@ use fileset::Set;
 use fileset::empty_set;
 use filewrite::Written;
 use filewrite::write_file;
-use lines::put_next;
-use lines::put_word;
+use text::put_next;
+use text::put_word;
 
 // The longest output that an entry about files can ask for.
 const ROOM: usize = 65535;

@@ -6,8 +6,8 @@ use case_fields::take_table;
 use case_lines::put_answer;
 use case_lines::put_broken;
 use case_lines::put_label;
-use lines::put_decimal;
 use renumber::renumber;
+use text::put_decimal;
 
 pub fn ask_contains(case: &[u8], at: usize, out: &mut [u8], n: usize) -> usize {
     let a = take_label(case, at);

@@ -3,11 +3,11 @@ use case_fields::levels_at;
 use case_fields::take_limited;
 use case_fields::take_wide_table;
 use case_lines::put_broken;
-use lines::put_decimal;
-use lines::put_next;
 use reverse::Head;
 use reverse::reverse_levels;
 use reverse::reverse_rows;
+use text::put_decimal;
+use text::put_next;
 
 // The most rows that a case can lend, and three numbers for each.
 const ROWS: usize = 1024;

@@ -7,7 +7,7 @@ use lib.ListN.{length, take, getD}
 use lib.Seq.{take-suc}
 use Rattle.label.specs.declared.Run.{Run}
 use Rattle.label.specs.Label.{noRun}
-use Rattle.lines.specs.Line.{next}
+use Rattle.text.specs.Text.{next}
 use Rattle.case_lines.specs.Line.{runsWords}
 
 runs-append : (xs ys : List Run) → runsWords (xs ++ ys) ≡ runsWords xs ++ runsWords ys

@@ -8,8 +8,8 @@ use Rattle.label.specs.declared.Run.{Run}
 use Rattle.label.specs.declared.Label.{Label}
 use Rattle.label.specs.Label.{used}
 use Rattle.decision.specs.declared.Decision.{Decision}
-use Rattle.lines.specs.Text.{decimal, hexOf}
-use Rattle.lines.specs.Line.{next}
+use Rattle.text.specs.Text.{decimal, hexOf}
+use Rattle.text.specs.Text.{next}
 
 -- YES or NO
 unfoldable pub answerWord : Bool → List ℕ

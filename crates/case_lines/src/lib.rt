@@ -2,18 +2,18 @@
 ghost use mathlib.Core.List.{_++_};
 ghost use lib.ListN.{take};
 ghost use Rattle.label.specs.Label.{used};
-ghost use Rattle.lines.specs.Put.{Puts};
-ghost use Rattle.lines.specs.Line.{next};
+ghost use Rattle.text.specs.Put.{Puts};
+ghost use Rattle.text.specs.Text.{next};
 ghost use Rattle.case_lines.specs.Line.{answerWord, brokenWord, runsWords, labelWords, outputWord, decisionWords};
 use case_fields::LONGEST;
 use decision::Decision;
 use label::Label;
 use label::Run;
-use lines::put_decimal;
-use lines::put_hex;
-use lines::put_next;
-use lines::put_octet;
-use lines::put_word;
+use text::put_decimal;
+use text::put_hex;
+use text::put_next;
+use text::put_octet;
+use text::put_word;
 
 // YES or NO.
 pub fn put_answer(out: &mut [u8], n: usize, yes: bool) -> usize

@@ -15,11 +15,11 @@ use case_lines::put_broken;
 use case_lines::put_label;
 use case_lines::put_lent;
 use label::Label;
-use lines::put_decimal;
-use lines::put_next;
 use option::Spellings;
 use reading::read_option;
 use spelling::spell_label;
+use text::put_decimal;
+use text::put_next;
 
 // Entry 4: as document 01 permits it.
 pub fn ask_spell(case: &[u8], at: usize, out: &mut [u8], n: usize) -> usize {

@@ -10,7 +10,6 @@ mod routing_entries;
 
 use case_lines::put_broken;
 use entry::answer;
-use lines::put_octet;
 use stream::Place;
 use stream::begin;
 use stream::feed;
@@ -18,6 +17,7 @@ use stream::flush;
 use stream::go_on;
 use stream::spare;
 use stream::stop;
+use text::put_octet;
 
 // Two octets of length and the longest case that they can lead, and as much again, so that what is moved to the front is less than what is read.
 const INPUT: usize = 131072;

@@ -7,11 +7,11 @@ use native.Mathlib.Omega.{arith}
 use lib.ListN.{length, take, drop, length-append, length-take}
 use lib.Seq.{sets-eq}
 use lib.Dec.{eqb}
-use Rattle.lines.specs.Put.{Puts}
-use Rattle.lines.specs.Text.{leading, decimal, hexOf}
-use Rattle.lines.specs.Line.{forwardWord, dropWord, brokenLine, next, shown, forwardLine, dropLine}
+use Rattle.text.specs.Put.{Puts}
+use Rattle.text.specs.Text.{leading, decimal, next, hexOf}
+use Rattle.lines.specs.Line.{forwardWord, dropWord, brokenLine, shown, forwardLine, dropLine}
 use Rattle.lines.specs.Theorems.{Whole, PutsWhole, Longest}
-use Rattle.lines.proofs.Laws.{put-sets, place-room}
+use Rattle.text.proofs.Laws.{put-sets, place-room}
 
 pub puts-whole : PutsWhole
 puts-whole before n octets after answer h p =

@@ -1,4 +1,2 @@
-pub mod Put
-pub mod Text
 pub mod Line
 pub mod Theorems

@@ -4,7 +4,7 @@ use mathlib.Core.Bool.{cond}
 use mathlib.Core.List.{List, [], _∷_, _++_}
 use lib.ListN.{take}
 use lib.Dec.{eqb}
-use Rattle.lines.specs.Text.{decimal, hexOf}
+use Rattle.text.specs.Text.{next, hexOf}
 
 -- FORWARD
 abbrev pub forwardWord : List ℕ
@@ -17,10 +17,6 @@ dropWord = 68 ∷ 82 ∷ 79 ∷ 80 ∷ []
 -- BROKEN and the line's end
 abbrev pub brokenLine : List ℕ
 brokenLine = 66 ∷ 82 ∷ 79 ∷ 75 ∷ 69 ∷ 78 ∷ 10 ∷ []
-
--- a blank and a number in decimal
-abbrev pub next : ℕ → List ℕ
-next x = 32 ∷ decimal x
 
 -- a blank and the first `count` octets in hex; nothing for a count of 0, so that `FORWARD 0` has no blank behind it
 unfoldable pub shown : ℕ → List ℕ → List ℕ

@@ -3,7 +3,7 @@ use Prim.Native.Nat.{ℕ, _+_, _≤_}
 use mathlib.Core.Path.{_≡_}
 use mathlib.Core.List.{List, _++_}
 use lib.ListN.{length, take, drop}
-use Rattle.lines.specs.Put.{Puts}
+use Rattle.text.specs.Put.{Puts}
 use Rattle.lines.specs.Line.{forwardLine, dropLine, brokenLine}
 
 -- where there is room, all octets stand in the buffer from place n on, every other octet is as it was, and the answer is the place behind the last one

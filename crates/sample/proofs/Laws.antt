@@ -8,7 +8,7 @@ use lib.ListN.{length, replicate}
 use Rattle.decision.specs.declared.Decision.{Decision}
 use Rattle.forwarding.specs.Crossing.{Forwarding}
 use Rattle.forwarding.specs.Forward.{forwardOf, outputOf}
-use Rattle.lines.specs.Put.{Puts}
+use Rattle.text.specs.Put.{Puts}
 use Rattle.lines.specs.Line.{forwardLine, dropLine}
 use Rattle.lines.specs.Theorems.{Whole}
 use Rattle.lines.proofs.Theorems.{puts-whole, longest-forward, longest-drop}

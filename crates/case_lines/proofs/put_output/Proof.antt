@@ -1,7 +1,7 @@
 -- `case_lines::put_output` meets its contract.
 use borrow.Author.Needs.{needs}
 use borrow.Author.Tests.{eq-eqb, ne-eqb}
-use Rattle.lines.proofs.Laws.{puts-then}
+use Rattle.text.proofs.Laws.{puts-then}
 use Rattle.case_lines.specs.Line.{outputWord}
 use Rattle.case_lines.proofs.put_output.Statement.{statement}
 use Rattle.case_lines.proofs.put_output.Tie as tie

@@ -1,6 +1,6 @@
 -- `case_lines::put_run` meets its contract.
 use borrow.Author.Needs.{needs}
-use Rattle.lines.proofs.Laws.{puts-then}
+use Rattle.text.proofs.Laws.{puts-then}
 use Rattle.case_lines.proofs.put_run.Statement.{statement}
 use Rattle.case_lines.proofs.put_run.Tie as tie
 

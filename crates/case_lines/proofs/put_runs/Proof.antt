@@ -7,8 +7,8 @@ use lib.ListN.{length, take}
 use lib.Seq.{take-all}
 use Rattle.label.specs.Label.{used}
 use Rattle.label.proofs.Steps.{length-mapped}
-use Rattle.lines.specs.Put.{Puts}
-use Rattle.lines.proofs.Laws.{puts-then, puts-none}
+use Rattle.text.specs.Put.{Puts}
+use Rattle.text.proofs.Laws.{puts-then, puts-none}
 use Rattle.case_lines.specs.Line.{runsWords}
 use Rattle.case_lines.proofs.Laws.{runs-more}
 use Rattle.case_lines.proofs.put_runs.Statement.{statement}

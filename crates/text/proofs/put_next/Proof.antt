@@ -1,8 +1,8 @@
--- `lines::put_next` meets its contract.
+-- `text::put_next` meets its contract.
 use borrow.Author.Needs.{needs}
-use Rattle.lines.proofs.Laws.{puts-then}
-use Rattle.lines.proofs.put.put_next.Statement.{statement}
-use Rattle.lines.proofs.put.put_next.Tie as tie
+use Rattle.text.proofs.Laws.{puts-then}
+use Rattle.text.proofs.put_next.Statement.{statement}
+use Rattle.text.proofs.put_next.Tie as tie
 
 put-octet-requires : tie.Need-put-octet-requires
 put-octet-requires c κs = search needs

@@ -1,11 +1,11 @@
--- `lines::put_octet` meets its contract.
+-- `text::put_octet` meets its contract.
 use borrow.Author.Needs.{needs}
 use mathlib.Core.Path.{refl, sym}
 use borrow.Author.Tests.{lt-ltb, le-ltb}
 use lib.Seq.{set-out}
-use Rattle.lines.specs.Put.{put, placeAfter}
-use Rattle.lines.proofs.put.put_octet.Statement.{statement}
-use Rattle.lines.proofs.put.put_octet.Tie as tie
+use Rattle.text.specs.Put.{put, placeAfter}
+use Rattle.text.proofs.put_octet.Statement.{statement}
+use Rattle.text.proofs.put_octet.Tie as tie
 
 slice-write-out : tie.Need-slice-write-out
 slice-write-out c = search needs

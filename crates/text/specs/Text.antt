@@ -13,6 +13,10 @@ leading (suc most) x = cond (eqb x 0) [] (leading most (x / 10) ++ ((48 + x % 10
 unfoldable pub decimal : ℕ → List ℕ
 decimal x = leading 19 (x / 10) ++ ((48 + x % 10) ∷ [])
 
+-- a blank and a number in decimal
+abbrev pub next : ℕ → List ℕ
+next x = 32 ∷ decimal x
+
 -- `0` to `9`, then `a` to `f`
 abbrev pub hexDigit : ℕ → ℕ
 hexDigit d = cond (ltb d 10) (48 + d) (87 + d)

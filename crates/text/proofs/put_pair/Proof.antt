@@ -1,9 +1,9 @@
--- `lines::put_pair` meets its contract.
+-- `text::put_pair` meets its contract.
 use borrow.Author.Needs.{needs}
-use Rattle.lines.specs.Text.{hexOf}
-use Rattle.lines.proofs.Laws.{puts-then}
-use Rattle.lines.proofs.put.put_pair.Statement.{statement}
-use Rattle.lines.proofs.put.put_pair.Tie as tie
+use Rattle.text.specs.Text.{hexOf}
+use Rattle.text.proofs.Laws.{puts-then}
+use Rattle.text.proofs.put_pair.Statement.{statement}
+use Rattle.text.proofs.put_pair.Tie as tie
 
 hex-digit-requires : tie.Need-hex-digit-requires
 hex-digit-requires c κs = search needs

@@ -1,9 +1,9 @@
 -- `lines::put_drop` meets its contract.
 use borrow.Author.Needs.{needs}
 use Rattle.lines.specs.Line.{dropLine}
-use Rattle.lines.proofs.Laws.{puts-then}
-use Rattle.lines.proofs.line.put_drop.Statement.{statement}
-use Rattle.lines.proofs.line.put_drop.Tie as tie
+use Rattle.text.proofs.Laws.{puts-then}
+use Rattle.lines.proofs.put_drop.Statement.{statement}
+use Rattle.lines.proofs.put_drop.Tie as tie
 
 slice-aggregate-put-word : tie.Need-slice-aggregate-put-word
 slice-aggregate-put-word c = search needs

@@ -1,10 +1,11 @@
+// Text in a lent buffer: octets, words, numbers in decimal and in hex. Nothing here reads or writes.
 // Each function puts octets into a buffer from place n on and answers the place behind them. An octet that finds no room is left out.
 ghost use mathlib.Core.Path.{_≡_};
 ghost use mathlib.Core.List.{[], _∷_};
 ghost use Prim.Native.Nat.{_+_, _%_, _≤_, _<_};
 ghost use lib.ListN.{length, drop};
-ghost use Rattle.lines.specs.Put.{Puts};
-ghost use Rattle.lines.specs.Text.{decimal, hexDigit, hexOf};
+ghost use Rattle.text.specs.Put.{Puts};
+ghost use Rattle.text.specs.Text.{decimal, next, hexDigit, hexOf};
 
 // The most digits of a number in decimal.
 const DIGITS: usize = 20;
@@ -44,7 +45,7 @@ pub fn put_decimal(out: &mut [u8], n: usize, x: u64) -> usize
 
 // A blank, and a number in decimal.
 pub fn put_next(out: &mut [u8], n: usize, x: u64) -> usize
-    ensures { λ r. ⌜ Puts (now (out .entry)) n (32 ∷ decimal x) (now (out .exit)) r ⌝ }
+    ensures { λ r. ⌜ Puts (now (out .entry)) n (next x) (now (out .exit)) r ⌝ }
 {
     let k = put_octet(out, n, b' ');
     put_decimal(out, k, x)

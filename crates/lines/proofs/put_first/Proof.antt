@@ -6,9 +6,9 @@ use borrow.Author.Tests.{ne-eqb, eq-eqb}
 use lib.ListN.{length, length-take}
 use lib.Seq.{take-all}
 use Rattle.lines.specs.Line.{shown}
-use Rattle.lines.proofs.Laws.{puts-then, puts-none}
-use Rattle.lines.proofs.line.put_first.Statement.{statement}
-use Rattle.lines.proofs.line.put_first.Tie as tie
+use Rattle.text.proofs.Laws.{puts-then, puts-none}
+use Rattle.lines.proofs.put_first.Statement.{statement}
+use Rattle.lines.proofs.put_first.Tie as tie
 
 returns : tie.Need-returns
 unfolding shown

@@ -1,13 +1,13 @@
--- `lines::put_decimal` meets its contract.
+-- `text::put_decimal` meets its contract.
 use borrow.Author.Needs.{needs}
 use Prim.Native.Nat.{_-_}
 use mathlib.Core.Path.{_≡_, _∙_}
 use native.Mathlib.Omega.{arith}
 use lib.ListN.{length, take, drop, length-drop}
 use lib.Seq.{take-all}
-use Rattle.lines.specs.Text.{decimal}
-use Rattle.lines.proofs.put.put_decimal.Statement.{statement}
-use Rattle.lines.proofs.put.put_decimal.Tie as tie
+use Rattle.text.specs.Text.{decimal}
+use Rattle.text.proofs.put_decimal.Statement.{statement}
+use Rattle.text.proofs.put_decimal.Tie as tie
 
 slice-aggregate-spell : tie.Need-slice-aggregate-spell
 slice-aggregate-spell c = search needs

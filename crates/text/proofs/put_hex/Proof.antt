@@ -1,4 +1,4 @@
--- `lines::put_hex` meets its contract.
+-- `text::put_hex` meets its contract.
 use borrow.Author.Needs.{needs}
 use Prim.Native.Nat.{ℕ, _≤_, _<_, _-_}
 use mathlib.Core.Path.{_≡_}
@@ -6,11 +6,11 @@ use native.Mathlib.Numerals.{add-one}
 use native.Mathlib.Omega.{arith}
 use lib.ListN.{length, take}
 use lib.Seq.{take-suc, take-all}
-use Rattle.lines.specs.Put.{Puts}
-use Rattle.lines.specs.Text.{hexOf}
-use Rattle.lines.proofs.Laws.{puts-then, puts-none, hex-append}
-use Rattle.lines.proofs.put.put_hex.Statement.{statement}
-use Rattle.lines.proofs.put.put_hex.Tie as tie
+use Rattle.text.specs.Put.{Puts}
+use Rattle.text.specs.Text.{hexOf}
+use Rattle.text.proofs.Laws.{puts-then, puts-none, hex-append}
+use Rattle.text.proofs.put_hex.Statement.{statement}
+use Rattle.text.proofs.put_hex.Tie as tie
 
 abbrev Inv-loop : tie.InvT-loop
 Inv-loop out₀ n octets k₀ i₀ out k i = (i ≤ length octets) × (length out ≡ length out₀) × Puts out₀ n (hexOf (take i octets)) out k

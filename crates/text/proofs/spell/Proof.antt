@@ -1,14 +1,14 @@
--- `lines::spell` meets its contract.
+-- `text::spell` meets its contract.
 use borrow.Author.Needs.{needs}
 use Prim.Native.Nat.{_≤_, _<_, _^_}
 use mathlib.Core.Path.{_≡_, ap, _∙_, sym}
 use native.Mathlib.Omega.{arith}
 use mathlib.Core.List.{_++_}
 use lib.ListN.{length, drop, length-set}
-use Rattle.lines.specs.Text.{leading, decimal}
-use Rattle.lines.proofs.Laws.{some-digit, tenth-below, leading-zero, leading-more, last-place}
-use Rattle.lines.proofs.put.spell.Statement.{statement}
-use Rattle.lines.proofs.put.spell.Tie as tie
+use Rattle.text.specs.Text.{leading, decimal}
+use Rattle.text.proofs.Laws.{some-digit, tenth-below, leading-zero, leading-more, last-place}
+use Rattle.text.proofs.spell.Statement.{statement}
+use Rattle.text.proofs.spell.Tie as tie
 
 abbrev Inv-loop : tie.InvT-loop
 Inv-loop x digits₀ i₀ rest₀ digits i rest = (i < 20) × (rest < 10 ^ i) × (length digits ≡ 20) × (leading i rest ++ drop i digits ≡ decimal x)

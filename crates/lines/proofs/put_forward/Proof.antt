@@ -1,9 +1,9 @@
 -- `lines::put_forward` meets its contract.
 use borrow.Author.Needs.{needs}
 use Rattle.lines.specs.Line.{forwardLine}
-use Rattle.lines.proofs.Laws.{puts-then}
-use Rattle.lines.proofs.line.put_forward.Statement.{statement}
-use Rattle.lines.proofs.line.put_forward.Tie as tie
+use Rattle.text.proofs.Laws.{puts-then}
+use Rattle.lines.proofs.put_forward.Statement.{statement}
+use Rattle.lines.proofs.put_forward.Tie as tie
 
 slice-aggregate-put-word : tie.Need-slice-aggregate-put-word
 slice-aggregate-put-word c = search needs

@@ -8,8 +8,8 @@ use native.Mathlib.Nat.{pow-suc}
 use borrow.Author.Tests.{lt-ltb, ne-eqb}
 use lib.ListN.{length, set, drop, length-set, drop-of-length-le}
 use lib.Seq.{sets, append-snoc, drop-cons, getD-set-same, drop-set-lt}
-use Rattle.lines.specs.Put.{putOctet, behind, put, placeAfter, Puts}
-use Rattle.lines.specs.Text.{leading, hexDigit, hexOf}
+use Rattle.text.specs.Put.{putOctet, behind, put, placeAfter, Puts}
+use Rattle.text.specs.Text.{leading, hexDigit, hexOf}
 
 put-append : (out : List ℕ) (n : ℕ) (xs ys : List ℕ) → put (put out n xs) (placeAfter out n xs) ys ≡ put out n (xs ++ ys)
 unfolding put placeAfter

@@ -1,4 +1,4 @@
--- `lines::put_word` meets its contract.
+-- `text::put_word` meets its contract.
 use borrow.Author.Needs.{needs}
 use Prim.Native.Nat.{ℕ, _≤_, _<_, _-_}
 use mathlib.Core.Path.{_≡_}
@@ -6,10 +6,10 @@ use native.Mathlib.Numerals.{add-one}
 use native.Mathlib.Omega.{arith}
 use lib.ListN.{length, take}
 use lib.Seq.{take-suc, take-all}
-use Rattle.lines.specs.Put.{Puts}
-use Rattle.lines.proofs.Laws.{puts-then, puts-none}
-use Rattle.lines.proofs.put.put_word.Statement.{statement}
-use Rattle.lines.proofs.put.put_word.Tie as tie
+use Rattle.text.specs.Put.{Puts}
+use Rattle.text.proofs.Laws.{puts-then, puts-none}
+use Rattle.text.proofs.put_word.Statement.{statement}
+use Rattle.text.proofs.put_word.Tie as tie
 
 abbrev Inv-loop : tie.InvT-loop
 Inv-loop out₀ n word k₀ i₀ out k i = (i ≤ length word) × (length out ≡ length out₀) × Puts out₀ n (take i word) out k

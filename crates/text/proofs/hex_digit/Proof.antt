@@ -1,10 +1,10 @@
--- `lines::hex_digit` meets its contract.
+-- `text::hex_digit` meets its contract.
 use borrow.Author.Needs.{needs}
 use mathlib.Core.Path.{_∙_}
 use borrow.Author.Tests.{lt-ltb, le-ltb}
 use native.Mathlib.Omega.{arith}
-use Rattle.lines.proofs.put.hex_digit.Statement.{statement}
-use Rattle.lines.proofs.put.hex_digit.Tie as tie
+use Rattle.text.proofs.hex_digit.Statement.{statement}
+use Rattle.text.proofs.hex_digit.Tie as tie
 
 add-result : tie.Need-add-result
 add-result c = search needs
