@@ -158,12 +158,13 @@ module _ (low high ones : ℕ) (was : List ℕ) (run≤ : low ≤ high) (inside 
   first-ones : ones ≡ 255 / 2 ^ (low - 8 * (low / 8))
   first-ones = let k : low % 8 ≡ low - 8 * (low / 8) = omega arith in e ∙ ap (λ (n : ℕ). 255 / 2 ^ n) k
 
-  pub added-one : low / 8 ≡ high / 8 → RunAdded (run low high) was (set was (low / 8) (bitOr (getD was (low / 8) 0) (ones - 127 / 2 ^ (high % 8))))
+  pub added-one : low / 8 ≡ high / 8 → RunAdded (run low high) was (set was (high / 8) (bitOr (getD was (high / 8) 0) (ones - 127 / 2 ^ (high % 8))))
   added-one h =
-      adding-past low high
-      (adding-store (adding-start low high was) (omega arith) _
-      (ap (λ (z : ℕ). z - 127 / 2 ^ (high % 8)) first-ones ∙ octet-last low high (low / 8) run≤ (omega arith) h))
-      (omega arith)
+      let x = ones - 127 / 2 ^ (high % 8) in
+      let only : x ≡ bitsOf (inRun (run low high)) (8 * (low / 8)) 8 =
+            ap (λ (z : ℕ). z - 127 / 2 ^ (high % 8)) first-ones ∙ octet-last low high (low / 8) run≤ (omega arith) h in
+      subst (λ (o : ℕ). RunAdded (run low high) was (set was o (bitOr (getD was o 0) x))) h
+      (adding-past low high (adding-store (adding-start low high was) (omega arith) x only) (omega arith))
 
   pub added-two : low / 8 + 1 ≡ high / 8
       → let one = set was (low / 8) (bitOr (getD was (low / 8) 0) ones) in

@@ -44,7 +44,7 @@ fn add_run(key: u32, out: &mut [u8])
         let ones = ones_from(low % 8);
         let after: u8 = 127 >> (high % 8);
         if first == last {
-            out[first] = out[first] | (ones - after);
+            out[last] = out[last] | (ones - after);
             return;
         }
         if first + 1 == last {
