@@ -162,7 +162,7 @@ module _ (low high ones : ℕ) (was : List ℕ) (run≤ : low ≤ high) (inside 
   added-one h =
       let x = ones - 127 / 2 ^ (high % 8) in
       let only : x ≡ bitsOf (inRun (run low high)) (8 * (low / 8)) 8 =
-            ap (λ (z : ℕ). z - 127 / 2 ^ (high % 8)) first-ones ∙ octet-last low high (low / 8) run≤ (omega arith) h in
+      ap (λ (z : ℕ). z - 127 / 2 ^ (high % 8)) first-ones ∙ octet-last low high (low / 8) run≤ (omega arith) h in
       subst (λ (o : ℕ). RunAdded (run low high) was (set was o (bitOr (getD was o 0) x))) h
       (adding-past low high (adding-store (adding-start low high was) (omega arith) x only) (omega arith))
 
