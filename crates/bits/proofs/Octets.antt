@@ -1,6 +1,6 @@
 -- Laws of bitmaps that are written run by run.
 use Prim.Native.Nat.{ℕ, zero, suc, _+_, _-_, _*_, _/_, _%_, _^_, _≤_, _<_}
-use mathlib.Core.Path.{_≡_, refl, ap, sym, _∙_}
+use mathlib.Core.Path.{_≡_, refl, ap, sym, subst, _∙_}
 use mathlib.Core.List.{List, [], _∷_, _++_, map-append}
 use mathlib.Core.Bool.{Bool, true, false, not, _&&_, _||_, and-false, or-false, or-assoc}
 use mathlib.Core.Logic.{⊎-elim}
@@ -152,6 +152,33 @@ octet-inner low high o h k =
 
 pub octet-last : (low high o : ℕ) → low ≤ high → low ≤ 8 * o + 7 → o ≡ high / 8 → 255 / 2 ^ (low - 8 * o) - 127 / 2 ^ (high % 8) ≡ bitsOf (inRun (run low high)) (8 * o) 8
 octet-last low high o h k e = octet-is low high (8 * o) (high % 8) k (omega arith) (omega arith) (λ z. omega arith) (λ z. omega arith)
+
+-- A run in one octet, and in two: what the code stores.
+module _ (low high ones : ℕ) (was : List ℕ) (run≤ : low ≤ high) (inside : high / 8 < length was) (e : ones ≡ 255 / 2 ^ (low % 8)) where
+  first-ones : ones ≡ 255 / 2 ^ (low - 8 * (low / 8))
+  first-ones = let k : low % 8 ≡ low - 8 * (low / 8) = omega arith in e ∙ ap (λ (n : ℕ). 255 / 2 ^ n) k
+
+  pub added-one : low / 8 ≡ high / 8 → RunAdded (run low high) was (set was (high / 8) (bitOr (getD was (high / 8) 0) (ones - 127 / 2 ^ (high % 8))))
+  added-one h =
+      let x = ones - 127 / 2 ^ (high % 8) in
+      let only : x ≡ bitsOf (inRun (run low high)) (8 * (low / 8)) 8 =
+      ap (λ (z : ℕ). z - 127 / 2 ^ (high % 8)) first-ones ∙ octet-last low high (low / 8) run≤ (omega arith) h in
+      subst (λ (o : ℕ). RunAdded (run low high) was (set was o (bitOr (getD was o 0) x))) h
+      (adding-past low high (adding-store (adding-start low high was) (omega arith) x only) (omega arith))
+
+  pub added-two : low / 8 + 1 ≡ high / 8
+      → let one = set was (low / 8) (bitOr (getD was (low / 8) 0) ones) in
+      RunAdded (run low high) was (set one (high / 8) (bitOr (getD one (high / 8) 0) (255 - 127 / 2 ^ (high % 8))))
+  added-two h =
+      let none : low - 8 * (low / 8 + 1) ≡ 0 = omega arith in
+      let one = set was (low / 8) (bitOr (getD was (low / 8) 0) ones) in
+      let x = 255 - 127 / 2 ^ (high % 8) in
+      let last : x ≡ bitsOf (inRun (run low high)) (8 * (low / 8 + 1)) 8 =
+      sym (ap (λ (n : ℕ). 255 / 2 ^ n - 127 / 2 ^ (high % 8)) none) ∙ octet-last low high (low / 8 + 1) run≤ (omega arith) h in
+      let first : ones ≡ bitsOf (inRun (run low high)) (8 * (low / 8)) 8 = first-ones ∙ octet-inner low high (low / 8) (omega arith) (omega arith) in
+      let both : Adding (run low high) (low / 8 + 1 + 1) was (set one (low / 8 + 1) (bitOr (getD one (low / 8 + 1) 0) x)) =
+      adding-store (adding-store (adding-start low high was) (omega arith) ones first) (omega arith) x last in
+      subst (λ (o : ℕ). RunAdded (run low high) was (set one o (bitOr (getD one o 0) x))) h (adding-past low high both (omega arith))
 
 -- The octets are n, and the bitmap of f.
 pub record Bitmap (f : ℕ → Bool) (n : ℕ) (out : List ℕ) : Type 0 where

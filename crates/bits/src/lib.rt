@@ -1,8 +1,8 @@
 // A tag 1 bitmap is written (document 01, "Option and tags"): the bits of the runs, one run after the other.
 ghost use mathlib.Core.Path.{_≡_};
-ghost use Prim.Native.Nat.{_/_, _^_, _<_};
+ghost use Prim.Native.Nat.{_/_, _^_, _≤_, _<_};
 ghost use lib.ListN.{length};
-ghost use Rattle.label.specs.Runs.{covers};
+ghost use Rattle.label.specs.Runs.{run, covers};
 ghost use Rattle.keys.specs.Keys.{keyRun, keyRuns};
 ghost use Rattle.option.specs.Spelling.{octetsOf};
 ghost use Rattle.bits.specs.Stages.{RunAdded};
@@ -29,7 +29,7 @@ fn ones_from(bit: usize) -> u8
     255 >> bit
 }
 
-// A run's bits are added to a bitmap: ones from its first bit on, without those after its last.
+// A run's bits are added to a bitmap: ones from its first bit on, without those after its last. Most runs lie in one octet or in two.
 fn add_run(key: u32, out: &mut [u8])
     ensures { λ _. ⌜ RunAdded (keyRun key) (now (out .entry)) (now (out .exit)) ⌝ }
 {
@@ -38,6 +38,29 @@ fn add_run(key: u32, out: &mut [u8])
     if high < low {
         return;
     }
+    let first = low / 8;
+    let last = high / 8;
+    if last < out.len() {
+        let ones = ones_from(low % 8);
+        let after: u8 = 127 >> (high % 8);
+        if first == last {
+            out[last] = out[last] | (ones - after);
+            return;
+        }
+        if first + 1 == last {
+            out[first] = out[first] | ones;
+            out[last] = out[last] | (255 - after);
+            return;
+        }
+    }
+    add_long(low, high, out);
+}
+
+// The same, octet by octet.
+fn add_long(low: usize, high: usize, out: &mut [u8])
+    requires { ⌜ (low ≤ high) × (high < 65536) ⌝ }
+    ensures { λ _. ⌜ RunAdded (run low high) (now (out .entry)) (now (out .exit)) ⌝ }
+{
     let n = out.len();
     let last = high / 8;
     let mut ones = ones_from(low % 8);

@@ -7,7 +7,7 @@ use native.Mathlib.Omega.{arith}
 use native.Mathlib.Decide.{decLe}
 use borrow.Author.Needs.{needs}
 use borrow.Author.Tests.{le-leb}
-use mir.Syntax.{w32, w64}
+use mir.Syntax.{w8, w64}
 use mir.Val.{Fits}
 use lib.ListN.{length, take, drop, getD, set, length-set}
 use lib.Seq.{getD-set-same, getD-set-other, take-set-le, drop-append-le, length-take-le}
@@ -204,11 +204,8 @@ module _ (a : ℕ) (h : a ≤ 184) where
   pub four-fits : Fits w64 (a * 4)
   four-fits = search needs
 
-  pub next-four-fits : Fits w64 ((a + 1) * 4)
-  next-four-fits = search needs
+  pub octet-fits : Fits w8 a
+  octet-fits = search needs
 
-  pub word-fits : Fits w32 a
-  word-fits = search needs
-
-  pub next-word-fits : Fits w32 (a + 1)
-  next-word-fits = search needs
+  pub next-octet-fits : Fits w8 (a + 1)
+  next-octet-fits = search needs

@@ -111,7 +111,7 @@ fn carry_checked(
             count: 0,
         };
     }
-    let mut start = [0u32; 65];
+    let mut start = [0u8; 65];
     let mut cut = [0u32; MOST_RUNS];
     let rows = table.rows;
     let m = table.count;
@@ -134,7 +134,7 @@ fn cut_runs(
     rows: [Row; 64],
     m: usize,
     cut: &mut [u32],
-    start: &mut [u32],
+    start: &mut [u8],
 ) -> bool
     requires { ⌜ (n ≤ length (now own)) × (n ≤ 120) × (length (now cut) ≡ 184) × (length (now start) ≡ 65) × (m ≤ 64) × (rising 0 (take m rows) ≡ true) × (spaced 0 (keyRuns (take n (now own))) ≡ true) ⌝ }
     ensures { λ r. ⌜ Cut (take m rows) (keyRuns (take n (now (own .entry)))) r (now (cut .exit)) (now (start .exit)) ⌝ }
@@ -147,7 +147,7 @@ fn cut_runs(
     while j < m {
         if n <= i {
             j += 1;
-            start[j] = w as u32;
+            start[j] = w as u8;
         } else {
             let run = own[i];
             let row = rows[j];
@@ -164,7 +164,7 @@ fn cut_runs(
                 i += 1;
             } else if top < low {
                 j += 1;
-                start[j] = w as u32;
+                start[j] = w as u8;
             } else {
                 if low < base {
                     return false;
@@ -173,7 +173,7 @@ fn cut_runs(
                 w += 1;
                 from = top + 1;
                 j += 1;
-                start[j] = w as u32;
+                start[j] = w as u8;
             }
         }
     }
@@ -190,7 +190,7 @@ fn larger(a: u32, b: u32) -> u32
 }
 
 // The pieces of the first m rows in order, joined where they touch.
-fn join_rows(cut: &[u32], start: &[u32], order: &[u32], m: usize, keys: &mut [u32]) -> usize
+fn join_rows(cut: &[u32], start: &[u8], order: &[u32], m: usize, keys: &mut [u32]) -> usize
     requires { ⌜ (m ≤ length (now order)) × Inside (take m (now order)) (now start) (now cut) × (length (partsOf (take m (now order)) (now start) (now cut)) ≤ length (now keys)) ⌝ }
     ensures { λ r. ⌜ Joined (partsOf (take m (now (order .entry))) (now (start .entry)) (now (cut .entry))) (now (keys .entry)) r (now (keys .exit)) ⌝ }
 {

@@ -87,7 +87,7 @@ fn pairs_size(n: usize, low: u32) -> usize
 }
 
 // How many categories a key's run has.
-fn span(key: u32) -> usize
+fn span(key: u32) -> u32
     ensures { λ r. ⌜ (r ≡ key % 65536 + 1 - key / 65536) × (r ≤ 65536) ⌝ }
 {
     let low = key / 65536;
@@ -95,7 +95,7 @@ fn span(key: u32) -> usize
     if high < low {
         return 0;
     }
-    (high + 1 - low) as usize
+    high + 1 - low
 }
 
 // A number, or 16 where it is over 15.
@@ -108,26 +108,27 @@ fn cap(n: usize) -> usize
     n
 }
 
-// How many categories the runs have, or 16 where they are over 15: too many for tag 2. Up to 16 runs are gone through without a test at each.
+// How many categories the runs have, or 16 where they are over 15: too many for tag 2. Up to 16 runs are gone through without a test at each, in
+// words of 32 bits, of which four are added at a time.
 fn count_categories(keys: &[u32]) -> usize
     ensures { λ r. ⌜ r ≡ capped (countOf (keyRuns (now (keys .entry)))) ⌝ }
 {
     let m = keys.len();
     let few = lesser(m, FEW_RUNS);
-    let mut n: usize = 0;
+    let mut n: u32 = 0;
     let mut i: usize = 0;
     while i < few {
         n += span(keys[i]);
         i += 1;
     }
     while i < m {
-        if TOO_MANY_NUMBERS <= n {
+        if TOO_MANY_NUMBERS <= n as usize {
             return TOO_MANY_NUMBERS;
         }
         n += span(keys[i]);
         i += 1;
     }
-    cap(n)
+    cap(n as usize)
 }
 
 // A form that is permitted and whose tag holds what is needed, or none.

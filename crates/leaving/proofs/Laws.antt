@@ -77,6 +77,12 @@ kept-past area at h e =
     let k : getD (drop at area) 0 0 ≡ 1 = getD-drop at area 0 0 ∙ rw add-zero e in
     kept-turn area at h ∙ ap (λ (t : ℕ). afterNext area at (overOf (kindOf t) (spanOf (kindOf t) (sizeOf (drop at area))))) k
 
+-- the walk ends at a 0
+pub kept-none : (area : List ℕ) (at : ℕ) → at < length area → getD area at 0 ≡ 0 → keptFrom area at ≡ []
+kept-none area at h e =
+    let k : getD (drop at area) 0 0 ≡ 0 = getD-drop at area 0 0 ∙ rw add-zero e in
+    kept-turn area at h ∙ ap (λ (t : ℕ). afterNext area at (overOf (kindOf t) (spanOf (kindOf t) (sizeOf (drop at area))))) k
+
 -- one turn of a loop over the area, which found u at the octet `at`
 module _ (area : List ℕ) (at : ℕ) (u : Next) (h : at < length area) (eu : u ≡ nextOf (take (length area - at) (drop at area))) where
   pub kept-stop : u ≡ Stop → keptFrom area at ≡ []

@@ -72,6 +72,9 @@ pub fn count_kept(area: &[u8]) -> usize
         if area[at] == 1 {
             // no operation: an octet that is not kept
             at += 1;
+        } else if area[at] == 0 {
+            // the end, as most areas have it
+            return w;
         } else {
             match next_option(&area[at..]) {
                 Next::Stop => return w,

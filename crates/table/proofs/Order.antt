@@ -1,6 +1,6 @@
 -- Laws of the loops over rows: one row more is written down, read along the order, or found unused.
 use mathlib.Core.Path.{_≡_, refl, sym, _∙_, ap}
-use mathlib.Core.Bool.{Bool, true, false, true≢false, not, _&&_, and-false}
+use mathlib.Core.Bool.{Bool, true, false, true≢false, not, _&&_, and-assoc, and-comm, and-false, and-true}
 use mathlib.Core.List.{List, [], _∷_, _++_, map, append-assoc}
 use Prim.Native.Nat.{ℕ, zero, suc, _+_, _-_, _*_, _/_, _%_, _≤_, _<_}
 use native.Mathlib.Omega.{arith}
@@ -9,9 +9,9 @@ use native.Mathlib.Numerals.{add-one}
 use lib.Bits.{bitOr}
 use lib.Dec.{leb, ltb, eqb}
 use lib.ListN.{length, take, drop, getD, set, replicate, length-drop, replicate-append-replicate, length-map, List·getD-map}
-use lib.Seq.{take-suc, set-at, take-at, drop-at, length-take-le, getD-take, getD-set-same, getD-set-other}
-use borrow.Author.Tests.{le-leb, leb-true, ltb-true, lt-ltb, eqb-true, eq-eqb}
-use Rattle.label.proofs.Bools.{and-left, and-right, and-both}
+use lib.Seq.{take-suc, set-at, take-at, drop-at, take-length, length-take-le, getD-take, getD-set-same, getD-set-other}
+use borrow.Author.Tests.{le-leb, lt-leb, leb-true, ltb-true, lt-ltb, eqb-true, eq-eqb}
+use Rattle.label.proofs.Bools.{and-left, and-right, and-both, same-yes}
 use Rattle.label.proofs.Steps.{next}
 use Rattle.levels.proofs.Levels.{or-zero}
 use Rattle.rows.specs.Rows.{keysApart}
@@ -23,7 +23,7 @@ use Rattle.table.specs.declared.Table.{Table}
 use Rattle.table.specs.Table.{targetsApart, noRow, usedRows, targetEnd, rising, unusedRows, rowsSound, typed, tableSound}
 use Rattle.levels.specs.Levels.{levelsSound}
 use Rattle.table.specs.Order.{orderKeys, rowOrder, orderOf, rowAt, inOrder}
-use Rattle.table.specs.Stages.{chain, EndsOf, fieldsSound, orRow, RowsRise}
+use Rattle.table.specs.Stages.{chain, EndsOf, fieldsSound, fewEnd, RowsRise}
 use Rattle.table.proofs.Rows.{targets-chain, order-all, good}
 
 -- Zeros written one by one.
@@ -64,6 +64,9 @@ order-step rs was i h l =
     rw (next 0 was i l)
     (set-at (orderKeys 0 (take i rs)) (getD was i 0) (drop (i + 1) was) k i m
     ∙ sym (rw (add-one i, take-suc rs i noRow h, keys-snoc 0 (take i rs) (getD rs i noRow), z) (append-assoc (orderKeys 0 (take i rs)) (k ∷ []) (drop (suc i) was))))
+
+pub order-done : (rs : List Row) (was : List ℕ) (i : ℕ) → i ≡ length rs → orderKeys 0 (take i rs) ++ drop i was ≡ orderKeys 0 rs ++ drop (length rs) was
+order-done rs was i e = rw (e, take-length rs)
 
 -- The tests of one row, and the rest.
 pub rise-parts : (f : ℕ) (r : Row) (rs : List Row)
@@ -153,45 +156,81 @@ targets-told t ends order h n m f w =
     and-both (lt-ltb ((r .target * 65536 + j) % 65536) (t .count) (omega arith)) (eq-eqb (r .target) ((r .target * 65536 + j) / 65536) (omega arith))) in
     rw (w, le-leb 64 (length ends) (omega arith)) (keys-chain t ends (rowOrder rs) 0 h f g ∙ targets-chain rs (omega arith))
 
--- One row more is unused.
-pub or-row : (s : ℕ) (r : Row) (u : Bool)
-    → (eqb s 0 && (eqb (r .low) 0 && (eqb (r .high) 0 && (eqb (r .target) 0 && u)))) ≡ (eqb (orRow s r) 0 && u)
-or-row s r u = rw (or-zero (bitOr (bitOr s (r .low)) (r .high)) (r .target), or-zero (bitOr s (r .low)) (r .high), or-zero s (r .low)) (go (eqb s 0) (eqb (r .low) 0) (eqb (r .high) 0) (eqb (r .target) 0) u)
+-- Where the rows end that are read one after the other.
+pub few-over : (n : ℕ) → n ≤ 64 → n ≤ fewEnd n
+unfolding fewEnd
+few-over n h = elim (decLe n 8) [ yes u ↦ rw (le-leb n 8 u) u | no u ↦ rw (lt-leb n 8 (omega arith)) h ]
+
+pub few-most : (n : ℕ) → fewEnd n ≤ 64
+unfolding fewEnd
+few-most n = elim (decLe n 8) [ yes u ↦ rw (le-leb n 8 u) (omega arith) | no u ↦ rw (lt-leb n 8 (omega arith)) (omega arith) ]
+
+-- Four places in one word.
+four-zero : (a b c d : ℕ) → eqb (a + b * 65536 + c * 4294967296 + d * 281474976710656) 0 ≡ (eqb a 0 && (eqb b 0 && (eqb c 0 && eqb d 0)))
+four-zero a b c d =
+    same-yes (eqb (a + b * 65536 + c * 4294967296 + d * 281474976710656) 0) _
+    (λ e. let z : a + b * 65536 + c * 4294967296 + d * 281474976710656 ≡ 0 = eqb-true _ _ e in
+    and-both (eq-eqb a 0 (omega arith)) (and-both (eq-eqb b 0 (omega arith)) (and-both (eq-eqb c 0 (omega arith)) (eq-eqb d 0 (omega arith)))))
+    (λ e. let e1 = and-right (eqb a 0) _ e in
+    let e2 = and-right (eqb b 0) _ e1 in
+    let p : a ≡ 0 = eqb-true _ _ (and-left (eqb a 0) _ e) in
+    let q : b ≡ 0 = eqb-true _ _ (and-left (eqb b 0) _ e1) in
+    let r : c ≡ 0 = eqb-true _ _ (and-left (eqb c 0) _ e2) in
+    let s : d ≡ 0 = eqb-true _ _ (and-right (eqb c 0) _ e2) in
+    eq-eqb (a + b * 65536 + c * 4294967296 + d * 281474976710656) 0 (omega arith))
+
+pub word-zero : (w a b c d : ℕ) → eqb (bitOr w (a + b * 65536 + c * 4294967296 + d * 281474976710656)) 0 ≡ (eqb w 0 && (eqb a 0 && (eqb b 0 && (eqb c 0 && eqb d 0))))
+word-zero w a b c d = or-zero w (a + b * 65536 + c * 4294967296 + d * 281474976710656) ∙ ap (λ (z : Bool). eqb w 0 && z) (four-zero a b c d)
+
+-- Three words, and the places of four rows that go into each.
+pub words-four : (x y z a b c d e f g h i j k l : Bool)
+    → ((x && (a && (b && (c && d)))) && ((y && (e && (f && (g && h)))) && (z && (i && (j && (k && l))))))
+    ≡ ((x && (y && z)) && (a && (b && (c && (d && (e && (f && (g && (h && (i && (j && (k && (l && true)))))))))))))
+words-four false y z a b c d e f g h i j k l = refl
+words-four true false z a b c d e f g h i j k l = and-false (a && (b && (c && d)))
+words-four true true z false b c d e f g h i j k l = sym (and-false z)
+words-four true true z true false c d e f g h i j k l = sym (and-false z)
+words-four true true z true true false d e f g h i j k l = sym (and-false z)
+words-four true true z true true true false e f g h i j k l = sym (and-false z)
+words-four true true z true true true true false f g h i j k l = sym (and-false z)
+words-four true true z true true true true true false g h i j k l = sym (and-false z)
+words-four true true z true true true true true true false h i j k l = sym (and-false z)
+words-four true true z true true true true true true true false i j k l = sym (and-false z)
+words-four true true z true true true true true true true true i j k l = ap (λ (m : Bool). z && (i && (j && (k && m)))) (sym (and-true l))
+
+pub words-one : (x y z a b c : Bool) → ((x && (a && (b && (c && true)))) && (y && z)) ≡ ((x && (y && z)) && (a && (b && (c && true))))
+words-one false y z a b c = refl
+words-one true y z a b c = and-comm (a && (b && (c && true))) (y && z)
+
+-- Rows of an array that are known to be unused, and those still to come.
+unused-append : (xs ys : List Row) → unusedRows (xs ++ ys) ≡ (unusedRows xs && unusedRows ys)
+unused-append [] ys = refl
+unused-append (r ∷ xs) ys = rw (unused-append xs ys) (go (eqb (r .low) 0) (eqb (r .high) 0) (eqb (r .target) 0) (unusedRows xs) (unusedRows ys))
   where
-    go : (a b c d e : Bool) → (a && (b && (c && (d && e)))) ≡ ((((a && b) && c) && d) && e)
+    go : (a b c d e : Bool) → (a && (b && (c && (d && e)))) ≡ ((a && (b && (c && d))) && e)
     go false b c d e = refl
     go true false c d e = refl
     go true true false d e = refl
-    go true true true false e = refl
-    go true true true true e = refl
+    go true true true d e = refl
 
--- The next row of an array, in the word or still to come.
-pub unused-next : (rows : List Row) (s i k : ℕ) → k ≡ i + 1 → i < length rows
-    → (eqb s 0 && unusedRows (drop i rows)) ≡ (eqb (orRow s (getD rows i noRow)) 0 && unusedRows (drop k rows))
-unused-next rows s i k e h = rw (e, next noRow rows i h) (or-row s (getD rows i noRow) (unusedRows (drop (i + 1) rows)))
+unused-more : (s t : Bool) (xs ys zs : List Row) → zs ≡ xs ++ ys → t ≡ (s && unusedRows xs) → (s && unusedRows zs) ≡ (t && unusedRows ys)
+unused-more s t xs ys zs e f = rw (e, unused-append xs ys, f) (sym (and-assoc s (unusedRows xs) (unusedRows ys)))
 
--- The next two, in a word that is told.
-unused-two : (rows : List Row) (s w i j k : ℕ) → j ≡ i + 1 → k ≡ i + 2 → w ≡ orRow (orRow s (getD rows i noRow)) (getD rows j noRow) → k ≤ length rows
-    → (eqb s 0 && unusedRows (drop i rows)) ≡ (eqb w 0 && unusedRows (drop k rows))
-unused-two rows s w i j k e f q h =
-    unused-next rows s i j e (omega arith)
-    ∙ unused-next rows (orRow s (getD rows i noRow)) j k (omega arith) (omega arith)
-    ∙ ap (λ (x : ℕ). eqb x 0 && unusedRows (drop k rows)) (sym q)
+pub unused-next : (rows : List Row) (s t : Bool) (i : ℕ) → t ≡ (s && unusedRows (getD rows i noRow ∷ [])) → i < length rows
+    → (s && unusedRows (drop i rows)) ≡ (t && unusedRows (drop (i + 1) rows))
+unused-next rows s t i e h = unused-more s t (getD rows i noRow ∷ []) (drop (i + 1) rows) (drop i rows) (next noRow rows i h) e
 
--- The next eight.
-module _ (rows : List Row) (s a b c d i : ℕ) where
-  pub unused-eight :
-      a ≡ orRow (orRow s (getD rows i noRow)) (getD rows (i + 1) noRow)
-      → b ≡ orRow (orRow a (getD rows (i + 2) noRow)) (getD rows (i + 3) noRow)
-      → c ≡ orRow (orRow b (getD rows (i + 4) noRow)) (getD rows (i + 5) noRow)
-      → d ≡ orRow (orRow c (getD rows (i + 6) noRow)) (getD rows (i + 7) noRow)
-      → i + 8 ≤ length rows
-      → (eqb s 0 && unusedRows (drop i rows)) ≡ (eqb d 0 && unusedRows (drop (i + 8) rows))
-  unused-eight e f g q h =
-      unused-two rows s a i (i + 1) (i + 2) refl refl e (omega arith)
-      ∙ unused-two rows a b (i + 2) (i + 3) (i + 4) (omega arith) (omega arith) f (omega arith)
-      ∙ unused-two rows b c (i + 4) (i + 5) (i + 6) (omega arith) (omega arith) g (omega arith)
-      ∙ unused-two rows c d (i + 6) (i + 7) (i + 8) (omega arith) (omega arith) q (omega arith)
+pub unused-four : (rows : List Row) (s t : Bool) (i : ℕ)
+    → t ≡ (s && unusedRows (getD rows i noRow ∷ (getD rows (i + 1) noRow ∷ (getD rows (i + 2) noRow ∷ (getD rows (i + 3) noRow ∷ []))))) → i + 4 ≤ length rows
+    → (s && unusedRows (drop i rows)) ≡ (t && unusedRows (drop (i + 4) rows))
+unused-four rows s t i e h =
+    unused-more s t (getD rows i noRow ∷ (getD rows (i + 1) noRow ∷ (getD rows (i + 2) noRow ∷ (getD rows (i + 3) noRow ∷ [])))) (drop (i + 4) rows) (drop i rows) there e
+  where
+    step : (j k : ℕ) → k ≡ j + 1 → j < length rows → drop j rows ≡ getD rows j noRow ∷ drop k rows
+    step j k q l = rw q (next noRow rows j l)
+
+    there : drop i rows ≡ getD rows i noRow ∷ (getD rows (i + 1) noRow ∷ (getD rows (i + 2) noRow ∷ (getD rows (i + 3) noRow ∷ drop (i + 4) rows)))
+    there = rw (step i (i + 1) refl (omega arith), step (i + 1) (i + 2) (omega arith) (omega arith), step (i + 2) (i + 3) (omega arith) (omega arith), step (i + 3) (i + 4) (omega arith) (omega arith))
 
 -- What fails in the first two parts fails in all three.
 pub rows-apart : (a b c : Bool) → (a && b) ≡ false → (a && (b && c)) ≡ false

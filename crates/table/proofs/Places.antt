@@ -12,14 +12,14 @@ use mir.Val.{Fits}
 pub place-under : (i n : ℕ) → i < n → n ≤ 64 → i ≤ 63
 place-under i n h l = omega arith
 
-pub eight-under : (i k : ℕ) → i ≤ 56 → leb k 7 ≡ true → i + k ≤ 63
-eight-under i k h e = let l : k ≤ 7 = leb-true k 7 e in omega arith
-
-pub last-under : (i : ℕ) → i < 64 → i ≤ 63
-last-under i h = omega arith
+pub four-under : (i k : ℕ) → i + 4 ≤ 64 → leb k 3 ≡ true → i + k ≤ 63
+four-under i k h e = let l : k ≤ 3 = leb-true k 3 e in omega arith
 
 pub first-under : (i : ℕ) → i + 0 ≤ 63 → i ≤ 63
 first-under i h = omega arith
+
+pub more-fits : (i : ℕ) → i ≤ 64 → Fits w64 (i + 4)
+more-fits i h = search needs
 
 module _ (a : ℕ) (h : a ≤ 63) where
   pub in-rows : a < 64
@@ -43,18 +43,12 @@ module _ (a : ℕ) (h : a ≤ 63) where
 pub in-list : (a n : ℕ) → n ≡ 64 → a ≤ 63 → a < n
 in-list a n e h = omega arith
 
--- the turns: one row more, or eight
+-- the turns: one row more, or four
 pub next-up : (i n : ℕ) → i < n → i + 1 ≤ n
 next-up i n h = omega arith
 
 pub turn-less : (i n : ℕ) → i < n → n - (i + 1) < n - i
 turn-less i n h = omega arith
 
-pub eight-up : (i : ℕ) → i ≤ 56 → i + 8 ≤ 64
-eight-up i h = omega arith
-
-pub eight-less : (i : ℕ) → i ≤ 56 → 64 - (i + 8) < 64 - i
-eight-less i h = omega arith
-
-pub eight-fits : (i : ℕ) → i ≤ 56 → Fits w64 (i + 8)
-eight-fits i h = search needs
+pub four-less : (i n : ℕ) → i + 4 ≤ n → n - (i + 4) < n - i
+four-less i n h = omega arith

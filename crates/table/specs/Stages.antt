@@ -1,13 +1,13 @@
 -- What the private functions answer; no public contract names these.
 use mathlib.Core.Path.{_≡_}
-use mathlib.Core.Bool.{Bool, true, not, _&&_}
+use mathlib.Core.Bool.{Bool, true, cond, not, _&&_}
 use mathlib.Core.List.{List, [], _∷_, _++_}
 use Prim.Native.Nat.{ℕ, _+_, _<_}
 use lib.Dec.{leb, eqb}
-use lib.Bits.{bitOr}
 use lib.ListN.{length, drop, getD, replicate}
 use Rattle.table.specs.declared.Row.{Row}
 use Rattle.table.specs.declared.Table.{Table}
+use Rattle.table.specs.declared.Words.{Words}
 use Rattle.table.specs.Table.{noRow, usedRows, targetEnd, rising, unusedRows, rowsSound, typed}
 use Rattle.levels.specs.Levels.{levelsSound}
 use Rattle.table.specs.Order.{orderKeys, rowOrder}
@@ -23,9 +23,13 @@ fieldsSound t ls =
     not (eqb (t .from) 0)
     && (not (eqb (t .to) 0) && (leb (t .pairs) 16 && (leb (t .count) 64 && (levelsSound ls (t .pairs) && typed t ls))))
 
--- a word together with every place of a row
-abbrev pub orRow : ℕ → Row → ℕ
-orRow s r = bitOr (bitOr (bitOr s (r .low)) (r .high)) (r .target)
+-- up to this place the rows after n in use are read one after the other
+unfoldable pub fewEnd : ℕ → ℕ
+fewEnd n = cond (leb n 8) 8 64
+
+-- no place that was added to the words is other than 0
+abbrev pub wordsZero : Words → Bool
+wordsZero w = eqb (w .first) 0 && (eqb (w .second) 0 && eqb (w .third) 0)
 
 -- the number after each row's targets
 abbrev pub EndsOf : Table → List ℕ → Type 0

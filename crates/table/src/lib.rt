@@ -1,11 +1,13 @@
 // Renumbering tables: rows of categories and pairs of levels, and what makes them sound (document 01, "Records").
 ghost use mathlib.Core.Path.{_≡_};
-ghost use mathlib.Core.Bool.{true};
+ghost use mathlib.Core.Bool.{true, _&&_};
+ghost use mathlib.Core.List.{[], _∷_};
 ghost use Prim.Native.Nat.{_+_, _*_, _≤_};
-ghost use lib.ListN.{length, replicate};
-ghost use Rattle.table.specs.Table.{targetEnd, tableSound};
+ghost use lib.Dec.{eqb};
+ghost use lib.ListN.{length, drop, replicate};
+ghost use Rattle.table.specs.Table.{targetEnd, unusedRows, tableSound};
 ghost use Rattle.table.specs.Order.{orderOf};
-ghost use Rattle.table.specs.Stages.{fieldsSound, orRow, RowsRise, RowsOrder};
+ghost use Rattle.table.specs.Stages.{fieldsSound, fewEnd, wordsZero, RowsRise, RowsOrder};
 use levels::levels_sound;
 use order::sort_keys;
 use rows::row_rises;
@@ -117,7 +119,7 @@ fn rows_sound(t: Table, order: &mut [u32]) -> bool
 }
 
 // The only pass over the rows, so that they are copied once: those in use are written down by their targets, with their numbers and the numbers
-// after their targets; of the others all places are read, eight rows at a time, for a test at each costs more.
+// after their targets; of the others all places are read, four rows at a time, for a test at each costs more.
 fn rows_rise(t: Table, order: &mut [u32], ends: &mut [u32]) -> Rise
     requires { ⌜ (t .count ≤ 64) × (length (now order) ≡ 64) × (length (now ends) ≡ 64) ⌝ }
     ensures { λ r. ⌜ RowsRise t (r .sources) (r .targets) (now (order .exit)) (now (ends .exit)) ⌝ }
@@ -141,19 +143,55 @@ fn rows_rise(t: Table, order: &mut [u32], ends: &mut [u32]) -> Rise
         floor = (row.high as u32) + 1;
         i += 1;
     }
-    let mut rest: u16 = 0;
-    while i <= 56 {
-        rest = or_two(rest, t.rows[i], t.rows[i + 1]);
-        rest = or_two(rest, t.rows[i + 2], t.rows[i + 3]);
-        rest = or_two(rest, t.rows[i + 4], t.rows[i + 5]);
-        rest = or_two(rest, t.rows[i + 6], t.rows[i + 7]);
-        i += 8;
+    let end = few_end(n);
+    let mut words = to_words(0, 0, 0);
+    while i + 4 <= end {
+        words = or_four(
+            words,
+            t.rows[i],
+            t.rows[i + 1],
+            t.rows[i + 2],
+            t.rows[i + 3],
+        );
+        i += 4;
     }
-    while i < 64 {
-        rest = or_row(rest, t.rows[i]);
+    while i < end {
+        words = or_row(words, t.rows[i]);
         i += 1;
     }
-    to_rise(rest == 0, targets)
+    to_rise(later_unused(t, n) & are_zero(words), targets)
+}
+
+// Up to this place the rows after those in use are read one after the other; after it, all at fixed places.
+fn few_end(n: usize) -> usize
+    ensures { λ r. ⌜ r ≡ fewEnd n ⌝ }
+{
+    if n <= 8 {
+        return 8;
+    }
+    64
+}
+
+// Whether the rows from that place on are unused.
+fn later_unused(t: Table, n: usize) -> bool
+    ensures { λ r. ⌜ r ≡ unusedRows (drop (fewEnd n) (t .rows)) ⌝ }
+{
+    if 8 < n {
+        return true;
+    }
+    let mut words = to_words(0, 0, 0);
+    let mut i: usize = 8;
+    while i < 64 {
+        words = or_four(
+            words,
+            t.rows[i],
+            t.rows[i + 1],
+            t.rows[i + 2],
+            t.rows[i + 3],
+        );
+        i += 4;
+    }
+    are_zero(words)
 }
 
 // The number after a row's targets.
@@ -167,15 +205,55 @@ fn after_targets(row: Row) -> u32
     target + (high - low) + 1
 }
 
-// The word with every place of a row.
-fn or_row(rest: u16, row: Row) -> u16
-    ensures { λ r. ⌜ r ≡ orRow rest row ⌝ }
-{
-    rest | row.low | row.high | row.target
+// Places of rows as they lie in memory, so that four are one load. With one word for each place of a load in four rows, each is added to by itself.
+struct Words {
+    first: u64,
+    second: u64,
+    third: u64,
 }
 
-fn or_two(rest: u16, a: Row, b: Row) -> u16
-    ensures { λ r. ⌜ r ≡ orRow (orRow rest a) b ⌝ }
+fn to_words(first: u64, second: u64, third: u64) -> Words
+    ensures { λ r. ⌜ (r .first ≡ first) × (r .second ≡ second) × (r .third ≡ third) ⌝ }
 {
-    or_row(or_row(rest, a), b)
+    Words {
+        first: first,
+        second: second,
+        third: third,
+    }
+}
+
+// Whether every place that was added is zero.
+fn are_zero(words: Words) -> bool
+    ensures { λ r. ⌜ r ≡ wordsZero words ⌝ }
+{
+    (words.first | (words.second | words.third)) == 0
+}
+
+// The words with every place of four rows.
+fn or_four(words: Words, a: Row, b: Row, c: Row, d: Row) -> Words
+    ensures { λ r. ⌜ wordsZero r ≡ (wordsZero words && unusedRows (a ∷ (b ∷ (c ∷ (d ∷ []))))) ⌝ }
+{
+    to_words(
+        or_word(words.first, a.low, a.high, a.target, b.low),
+        or_word(words.second, b.high, b.target, c.low, c.high),
+        or_word(words.third, c.target, d.low, d.high, d.target),
+    )
+}
+
+// The words with every place of a row.
+fn or_row(words: Words, row: Row) -> Words
+    ensures { λ r. ⌜ wordsZero r ≡ (wordsZero words && unusedRows (row ∷ [])) ⌝ }
+{
+    to_words(
+        or_word(words.first, row.low, row.high, row.target, 0),
+        words.second,
+        words.third,
+    )
+}
+
+// A word with four places more, as they lie in memory.
+fn or_word(word: u64, a: u16, b: u16, c: u16, d: u16) -> u64
+    ensures { λ r. ⌜ eqb r 0 ≡ (eqb word 0 && (eqb a 0 && (eqb b 0 && (eqb c 0 && eqb d 0)))) ⌝ }
+{
+    word | (a as u64 + (b as u64) * 65536 + (c as u64) * 4294967296 + (d as u64) * 281474976710656)
 }

@@ -20,7 +20,7 @@ use Rattle.table.proofs.Rows.{good}
 use Rattle.carry.specs.Stages.{pieceKey, Cut}
 use Rattle.carry.proofs.Image.{Numbered}
 use Rattle.carry.proofs.Pass.{clip, Left, left-start, left-done, left-skip, left-stop, left-none, left-run, left-row, left-numbered, turn-whole, turn-cut, clip-start, numbered-yes, numbered-none}
-use Rattle.carry.proofs.Cutting.{Cutting, cutting-start, none-left, turn-over, turn-inside, turn-parted, next-up, row-less, run-less, few-row, few-run, few-part, row-under, run-under, piece-under, next-fits, four-fits, next-four-fits, word-fits, next-word-fits, cut-place, start-place, set-sized}
+use Rattle.carry.proofs.Cutting.{Cutting, cutting-start, none-left, turn-over, turn-inside, turn-parted, next-up, row-less, run-less, few-row, few-run, few-part, row-under, run-under, piece-under, next-fits, four-fits, octet-fits, next-octet-fits, cut-place, start-place, set-sized}
 use Rattle.carry.proofs.Held.{next-key, keys-up}
 use Rattle.carry.proofs.cut_runs.Statement.{statement}
 use Rattle.carry.proofs.cut_runs.Tie as tie
@@ -152,10 +152,7 @@ add-j : tie.Need-add-j Inv-loop μ-loop
 add-j c = next-fits _ (row-small (c .before))
 
 cast-start : tie.Need-cast-start Inv-loop μ-loop
-cast-start c = word-fits _ (piece-small (c .before))
-
-mul-start : tie.Need-mul-start Inv-loop μ-loop
-mul-start c = next-four-fits _ (row-small (c .before))
+cast-start c = octet-fits _ (piece-small (c .before))
 
 slice-write-start-2 : tie.Need-slice-write-start-2 Inv-loop μ-loop
 slice-write-start-2 c = start-room (c .before)
@@ -274,10 +271,7 @@ add-j-2 : tie.Need-add-j-2 Inv-loop μ-loop
 add-j-2 c = next-fits _ (row-small (c .before .before .before .before .before .before .before .before))
 
 cast-start-2 : tie.Need-cast-start-2 Inv-loop μ-loop
-cast-start-2 c = word-fits _ (piece-small (c .before .before .before .before .before .before .before .before))
-
-mul-start-2 : tie.Need-mul-start-2 Inv-loop μ-loop
-mul-start-2 c = next-four-fits _ (row-small (c .before .before .before .before .before .before .before .before))
+cast-start-2 c = octet-fits _ (piece-small (c .before .before .before .before .before .before .before .before))
 
 slice-write-start-3 : tie.Need-slice-write-start-3 Inv-loop μ-loop
 slice-write-start-3 c = start-room (c .before .before .before .before .before .before .before .before)
@@ -344,10 +338,7 @@ add-j-3 : tie.Need-add-j-3 Inv-loop μ-loop
 add-j-3 c = next-fits _ (row-small (c .before .before .before .before .before .before .before .before .before .before))
 
 cast-start-3 : tie.Need-cast-start-3 Inv-loop μ-loop
-cast-start-3 c = next-word-fits _ (piece-small (c .before .before .before .before .before .before .before .before .before .before))
-
-mul-start-3 : tie.Need-mul-start-3 Inv-loop μ-loop
-mul-start-3 c = next-four-fits _ (row-small (c .before .before .before .before .before .before .before .before .before .before))
+cast-start-3 c = next-octet-fits _ (piece-small (c .before .before .before .before .before .before .before .before .before .before))
 
 slice-write-start-4 : tie.Need-slice-write-start-4 Inv-loop μ-loop
 slice-write-start-4 c = start-room (c .before .before .before .before .before .before .before .before .before .before)
@@ -414,7 +405,6 @@ cut-runs-spec =
     loop-holds
     add-j
     cast-start
-    mul-start
     slice-write-start-2
     loop-less
     loop-again
@@ -437,7 +427,6 @@ cut-runs-spec =
     loop-again-2
     add-j-2
     cast-start-2
-    mul-start-2
     slice-write-start-3
     loop-less-3
     loop-again-3
@@ -451,7 +440,6 @@ cut-runs-spec =
     add-from
     add-j-3
     cast-start-3
-    mul-start-3
     slice-write-start-4
     loop-less-4
     loop-again-4

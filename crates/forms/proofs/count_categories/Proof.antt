@@ -72,6 +72,9 @@ loop-again c =
 loop2-holds : tie.Need-loop2-holds Inv-loop μ-loop Inv-loop2 μ-loop2
 loop2-holds c = let v = c .before .loop in (omega (arith, v .inv .0, v .inv .1), omega (arith, v .inv .0, v .inv .2, v .inv .3), v .inv .4)
 
+cast-if1 : tie.Need-cast-if1 Inv-loop μ-loop Inv-loop2 μ-loop2
+cast-if1 c = search needs
+
 returns : tie.Need-returns Inv-loop μ-loop Inv-loop2 μ-loop2
 returns c =
     let v = c .before .before .loop2 in
@@ -100,6 +103,9 @@ loop2-again c =
     let d = c .before .before .before in
     let v = d .before .loop2 in
     (omega (arith, d .loop2-test .taken), omega (arith, c .before .before .if1 .left, c .span2 .ensures .1), omega (arith, counted-2 d, c .span2 .ensures .0, v .inv .2))
+
+cast-cap : tie.Need-cast-cap Inv-loop μ-loop Inv-loop2 μ-loop2
+cast-cap c = search needs
 
 cap-requires : tie.Need-cap-requires Inv-loop μ-loop Inv-loop2 μ-loop2
 cap-requires c κs = search needs
@@ -130,6 +136,7 @@ count-categories-spec =
     loop-less
     loop-again
     loop2-holds
+    cast-if1
     returns
     mul-span-2
     shared-slice-read-span-2
@@ -138,5 +145,6 @@ count-categories-spec =
     add-i-2
     loop2-less
     loop2-again
+    cast-cap
     cap-requires
     returns-2)

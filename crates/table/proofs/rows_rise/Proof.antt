@@ -4,18 +4,18 @@ use native.Mathlib.Omega.{arith}
 use borrow.Author.Tests.{leb-true, not-true, not-false}
 use Prim.Native.Nat.{ℕ, _≤_, _<_, _-_, _+_, _*_}
 use mathlib.Core.Path.{_≡_, refl, sym, _∙_, ap}
-use mathlib.Core.Bool.{true, _&&_, and-assoc, and-true}
+use mathlib.Core.Bool.{Bool, true, _&&_, and-assoc, and-comm, and-true}
 use mathlib.Core.List.{List, [], _∷_, _++_}
-use lib.Dec.{leb, eqb}
+use lib.Dec.{leb}
 use lib.ListN.{take, drop, getD, set, length, replicate, length-set, drop-of-length-le}
-use lib.Seq.{length-take-le, take-length, getD-take}
+use lib.Seq.{length-take-le, getD-take}
 use Rattle.label.proofs.Bools.{and-left, and-right}
 use Rattle.label.proofs.Steps.{next-used, used-up, length-mapped}
 use Rattle.table.specs.Table.{usedRows, rising, unusedRows, noRow, targetEnd}
 use Rattle.table.specs.Order.{orderKeys}
-use Rattle.table.specs.Stages.{chain}
-use Rattle.table.proofs.Order.{order-step, ends-step, rise-parts, unused-next, unused-eight, refused}
-use Rattle.table.proofs.Places.{place-under, eight-under, last-under, first-under, in-rows, in-list, place-fits, next-fits, four-fits, six-fits, word-fits, eight-fits, turn-less, eight-less, next-up, eight-up}
+use Rattle.table.specs.Stages.{chain, fewEnd, wordsZero}
+use Rattle.table.proofs.Order.{order-step, order-done, ends-step, rise-parts, unused-next, unused-four, few-over, few-most, refused}
+use Rattle.table.proofs.Places.{place-under, four-under, first-under, in-rows, in-list, place-fits, next-fits, more-fits, four-fits, six-fits, word-fits, turn-less, four-less, next-up}
 use Rattle.table.proofs.rows_rise.Statement.{statement}
 use Rattle.table.proofs.rows_rise.Tie as tie
 
@@ -33,18 +33,18 @@ abbrev μ-loop : tie.MeasureT-loop
 μ-loop order₀ ends₀ t n targets₀ floor₀ past₀ i₀ order ends targets floor past i = n - i
 
 abbrev Inv-loop2 : tie.InvT-loop2
-Inv-loop2 order ends t n targets floor past i₀ rest₀ i rest =
-    (i ≤ 64) × (unusedRows (drop (t .count) (t .rows)) ≡ (eqb rest 0 && unusedRows (drop i (t .rows))))
+Inv-loop2 order ends t n targets floor past i₀ end words₀ i words =
+    (i ≤ end) × (unusedRows (drop (t .count) (t .rows)) ≡ (wordsZero words && unusedRows (drop i (t .rows))))
 
 abbrev μ-loop2 : tie.MeasureT-loop2
-μ-loop2 order ends t n targets floor past i₀ rest₀ i rest = 64 - i
+μ-loop2 order ends t n targets floor past i₀ end words₀ i words = end - i
 
 abbrev Inv-loop3 : tie.InvT-loop3
-Inv-loop3 order ends t n targets floor past i₀ rest₀ i rest =
-    (i ≤ 64) × (unusedRows (drop (t .count) (t .rows)) ≡ (eqb rest 0 && unusedRows (drop i (t .rows))))
+Inv-loop3 order ends t n targets floor past i₀ end words₀ i words =
+    (i ≤ end) × (unusedRows (drop (t .count) (t .rows)) ≡ (wordsZero words && unusedRows (drop i (t .rows))))
 
 abbrev μ-loop3 : tie.MeasureT-loop3
-μ-loop3 order ends t n targets floor past i₀ rest₀ i rest = 64 - i
+μ-loop3 order ends t n targets floor past i₀ end words₀ i words = end - i
 
 sized : (c : tie.Start Inv-loop μ-loop Inv-loop2 μ-loop2 Inv-loop3 μ-loop3) → length (c .args .t1 .rows) ≡ 64
 sized c = search (length-mapped, needs)
@@ -75,11 +75,18 @@ good c = sym (c .before .row-rises .ensures) ∙ not-false _ (c .if1 .left)
 place : (d : tie.In-loop Inv-loop μ-loop Inv-loop2 μ-loop2 Inv-loop3 μ-loop3) → d .before .loop .i ≤ 63
 place d = place-under (d .before .loop .i) (start (d .before) .args .t1 .count) (d .loop-test .taken) (start (d .before) .pre .0)
 
-eighth : (d : tie.In-loop2 Inv-loop μ-loop Inv-loop2 μ-loop2 Inv-loop3 μ-loop3) (k : ℕ) → leb k 7 ≡ true → d .before .loop2 .i + k ≤ 63
-eighth d k h = eight-under (d .before .loop2 .i) k (d .loop2-test .taken) h
+-- where the rows after those in use are read one after the other, and where that ends
+abbrev tail : (a : tie.At-loop2 Inv-loop μ-loop Inv-loop2 μ-loop2 Inv-loop3 μ-loop3) → tie.After-few-end Inv-loop μ-loop Inv-loop2 μ-loop2 Inv-loop3 μ-loop3
+tail a = a .before .before
+
+most : (e : tie.After-few-end Inv-loop μ-loop Inv-loop2 μ-loop2 Inv-loop3 μ-loop3) → e .few-end .result ≤ 64
+most e = omega (arith, e .few-end .ensures, few-most (start (e .before .before) .args .t1 .count))
+
+fourth : (d : tie.In-loop2 Inv-loop μ-loop Inv-loop2 μ-loop2 Inv-loop3 μ-loop3) (k : ℕ) → leb k 3 ≡ true → d .before .loop2 .i + k ≤ 63
+fourth d k h = four-under (d .before .loop2 .i) k (omega (arith, d .loop2-test .taken, most (tail (d .before)))) h
 
 rest-place : (d : tie.In-loop3 Inv-loop μ-loop Inv-loop2 μ-loop2 Inv-loop3 μ-loop3) → d .before .loop3 .i ≤ 63
-rest-place d = last-under (d .before .loop3 .i) (d .loop3-test .taken)
+rest-place d = place-under (d .before .loop3 .i) _ (d .loop3-test .taken) (most (tail (d .before .before .before)))
 
 clear-requires : tie.Need-clear-requires Inv-loop μ-loop Inv-loop2 μ-loop2 Inv-loop3 μ-loop3
 clear-requires c κs = search needs
@@ -184,119 +191,75 @@ loop-again c =
       ends-step (l .rows) (v .ends) (v .i) _ (omega (arith, v .inv .2, s .pre .0)) x (v .inv .6),
     )
 
+few-end-requires : tie.Need-few-end-requires Inv-loop μ-loop Inv-loop2 μ-loop2 Inv-loop3 μ-loop3
+few-end-requires c κs = search needs
+
+to-words-requires : tie.Need-to-words-requires Inv-loop μ-loop Inv-loop2 μ-loop2 Inv-loop3 μ-loop3
+to-words-requires c κs = search needs
+
 loop2-holds : tie.Need-loop2-holds Inv-loop μ-loop Inv-loop2 μ-loop2 Inv-loop3 μ-loop3
 loop2-holds c =
-    let l = c .before in
+    let e = c .before in
+    let l = e .before .before in
     let s = start l in
-    let n : l .loop .i ≡ s .args .t1 .count = omega arith in
-    (omega (arith, s .pre .0), ap (λ x. unusedRows (drop x (s .args .t1 .rows))) (sym n))
+    let q = c .to-words .ensures in
+    let n : l .loop .i ≡ s .args .t1 .count = omega (arith, e .before .loop-test .left, l .loop .inv .0) in
+    (omega (arith, e .few-end .ensures, few-over (s .args .t1 .count) (s .pre .0)), rw (q .0, q .1, q .2) (ap (λ (x : ℕ). unusedRows (drop x (s .args .t1 .rows))) (sym n)))
 
-mul-or-two : tie.Need-mul-or-two Inv-loop μ-loop Inv-loop2 μ-loop2 Inv-loop3 μ-loop3
-mul-or-two c = six-fits _ (first-under _ (eighth c 0 refl))
+add-loop2 : tie.Need-add-loop2 Inv-loop μ-loop Inv-loop2 μ-loop2 Inv-loop3 μ-loop3
+add-loop2 c = more-fits (c .loop2 .i) (omega (arith, c .loop2 .inv .0, most (tail c)))
 
-element-copy-out-or-two :
-    tie.Need-element-copy-out-or-two Inv-loop μ-loop Inv-loop2 μ-loop2 Inv-loop3 μ-loop3
-element-copy-out-or-two c = in-rows _ (first-under _ (eighth c 0 refl))
+mul-or-four : tie.Need-mul-or-four Inv-loop μ-loop Inv-loop2 μ-loop2 Inv-loop3 μ-loop3
+mul-or-four c = six-fits _ (first-under _ (fourth c 0 refl))
 
-add-or-two : tie.Need-add-or-two Inv-loop μ-loop Inv-loop2 μ-loop2 Inv-loop3 μ-loop3
-add-or-two c = place-fits _ (eighth (c .before) 1 refl)
+element-copy-out-or-four : tie.Need-element-copy-out-or-four Inv-loop μ-loop Inv-loop2 μ-loop2 Inv-loop3 μ-loop3
+element-copy-out-or-four c = in-rows _ (first-under _ (fourth c 0 refl))
 
-mul-or-two-2 : tie.Need-mul-or-two-2 Inv-loop μ-loop Inv-loop2 μ-loop2 Inv-loop3 μ-loop3
-mul-or-two-2 c = six-fits _ (eighth (c .before) 1 refl)
+add-or-four : tie.Need-add-or-four Inv-loop μ-loop Inv-loop2 μ-loop2 Inv-loop3 μ-loop3
+add-or-four c = place-fits _ (fourth (c .before) 1 refl)
 
-element-copy-out-or-two-2 :
-    tie.Need-element-copy-out-or-two-2 Inv-loop μ-loop Inv-loop2 μ-loop2 Inv-loop3 μ-loop3
-element-copy-out-or-two-2 c = in-rows _ (eighth (c .before) 1 refl)
+mul-or-four-2 : tie.Need-mul-or-four-2 Inv-loop μ-loop Inv-loop2 μ-loop2 Inv-loop3 μ-loop3
+mul-or-four-2 c = six-fits _ (fourth (c .before) 1 refl)
 
-or-two-requires : tie.Need-or-two-requires Inv-loop μ-loop Inv-loop2 μ-loop2 Inv-loop3 μ-loop3
-or-two-requires c κs = search needs
+element-copy-out-or-four-2 : tie.Need-element-copy-out-or-four-2 Inv-loop μ-loop Inv-loop2 μ-loop2 Inv-loop3 μ-loop3
+element-copy-out-or-four-2 c = in-rows _ (fourth (c .before) 1 refl)
 
-add-or-two-2 : tie.Need-add-or-two-2 Inv-loop μ-loop Inv-loop2 μ-loop2 Inv-loop3 μ-loop3
-add-or-two-2 c = place-fits _ (eighth (c .before .before .before) 2 refl)
+add-or-four-2 : tie.Need-add-or-four-2 Inv-loop μ-loop Inv-loop2 μ-loop2 Inv-loop3 μ-loop3
+add-or-four-2 c = place-fits _ (fourth (c .before .before) 2 refl)
 
-mul-or-two-3 : tie.Need-mul-or-two-3 Inv-loop μ-loop Inv-loop2 μ-loop2 Inv-loop3 μ-loop3
-mul-or-two-3 c = six-fits _ (eighth (c .before .before .before) 2 refl)
+mul-or-four-3 : tie.Need-mul-or-four-3 Inv-loop μ-loop Inv-loop2 μ-loop2 Inv-loop3 μ-loop3
+mul-or-four-3 c = six-fits _ (fourth (c .before .before) 2 refl)
 
-element-copy-out-or-two-3 :
-    tie.Need-element-copy-out-or-two-3 Inv-loop μ-loop Inv-loop2 μ-loop2 Inv-loop3 μ-loop3
-element-copy-out-or-two-3 c = in-rows _ (eighth (c .before .before .before) 2 refl)
+element-copy-out-or-four-3 : tie.Need-element-copy-out-or-four-3 Inv-loop μ-loop Inv-loop2 μ-loop2 Inv-loop3 μ-loop3
+element-copy-out-or-four-3 c = in-rows _ (fourth (c .before .before) 2 refl)
 
-add-or-two-3 : tie.Need-add-or-two-3 Inv-loop μ-loop Inv-loop2 μ-loop2 Inv-loop3 μ-loop3
-add-or-two-3 c = place-fits _ (eighth (c .before .before .before .before) 3 refl)
+add-or-four-3 : tie.Need-add-or-four-3 Inv-loop μ-loop Inv-loop2 μ-loop2 Inv-loop3 μ-loop3
+add-or-four-3 c = place-fits _ (fourth (c .before .before .before) 3 refl)
 
-mul-or-two-4 : tie.Need-mul-or-two-4 Inv-loop μ-loop Inv-loop2 μ-loop2 Inv-loop3 μ-loop3
-mul-or-two-4 c = six-fits _ (eighth (c .before .before .before .before) 3 refl)
+mul-or-four-4 : tie.Need-mul-or-four-4 Inv-loop μ-loop Inv-loop2 μ-loop2 Inv-loop3 μ-loop3
+mul-or-four-4 c = six-fits _ (fourth (c .before .before .before) 3 refl)
 
-element-copy-out-or-two-4 :
-    tie.Need-element-copy-out-or-two-4 Inv-loop μ-loop Inv-loop2 μ-loop2 Inv-loop3 μ-loop3
-element-copy-out-or-two-4 c = in-rows _ (eighth (c .before .before .before .before) 3 refl)
+element-copy-out-or-four-4 : tie.Need-element-copy-out-or-four-4 Inv-loop μ-loop Inv-loop2 μ-loop2 Inv-loop3 μ-loop3
+element-copy-out-or-four-4 c = in-rows _ (fourth (c .before .before .before) 3 refl)
 
-or-two-requires-2 : tie.Need-or-two-requires-2 Inv-loop μ-loop Inv-loop2 μ-loop2 Inv-loop3 μ-loop3
-or-two-requires-2 c κs = search needs
-
-add-or-two-4 : tie.Need-add-or-two-4 Inv-loop μ-loop Inv-loop2 μ-loop2 Inv-loop3 μ-loop3
-add-or-two-4 c = place-fits _ (eighth (c .before .before .before .before .before .before) 4 refl)
-
-mul-or-two-5 : tie.Need-mul-or-two-5 Inv-loop μ-loop Inv-loop2 μ-loop2 Inv-loop3 μ-loop3
-mul-or-two-5 c = six-fits _ (eighth (c .before .before .before .before .before .before) 4 refl)
-
-element-copy-out-or-two-5 :
-    tie.Need-element-copy-out-or-two-5 Inv-loop μ-loop Inv-loop2 μ-loop2 Inv-loop3 μ-loop3
-element-copy-out-or-two-5 c = in-rows _ (eighth (c .before .before .before .before .before .before) 4 refl)
-
-add-or-two-5 : tie.Need-add-or-two-5 Inv-loop μ-loop Inv-loop2 μ-loop2 Inv-loop3 μ-loop3
-add-or-two-5 c = place-fits _ (eighth (c .before .before .before .before .before .before .before) 5 refl)
-
-mul-or-two-6 : tie.Need-mul-or-two-6 Inv-loop μ-loop Inv-loop2 μ-loop2 Inv-loop3 μ-loop3
-mul-or-two-6 c = six-fits _ (eighth (c .before .before .before .before .before .before .before) 5 refl)
-
-element-copy-out-or-two-6 :
-    tie.Need-element-copy-out-or-two-6 Inv-loop μ-loop Inv-loop2 μ-loop2 Inv-loop3 μ-loop3
-element-copy-out-or-two-6 c = in-rows _ (eighth (c .before .before .before .before .before .before .before) 5 refl)
-
-or-two-requires-3 : tie.Need-or-two-requires-3 Inv-loop μ-loop Inv-loop2 μ-loop2 Inv-loop3 μ-loop3
-or-two-requires-3 c κs = search needs
-
-add-or-two-6 : tie.Need-add-or-two-6 Inv-loop μ-loop Inv-loop2 μ-loop2 Inv-loop3 μ-loop3
-add-or-two-6 c = place-fits _ (eighth (c .before .before .before .before .before .before .before .before .before) 6 refl)
-
-mul-or-two-7 : tie.Need-mul-or-two-7 Inv-loop μ-loop Inv-loop2 μ-loop2 Inv-loop3 μ-loop3
-mul-or-two-7 c = six-fits _ (eighth (c .before .before .before .before .before .before .before .before .before) 6 refl)
-
-element-copy-out-or-two-7 :
-    tie.Need-element-copy-out-or-two-7 Inv-loop μ-loop Inv-loop2 μ-loop2 Inv-loop3 μ-loop3
-element-copy-out-or-two-7 c = in-rows _ (eighth (c .before .before .before .before .before .before .before .before .before) 6 refl)
-
-add-or-two-7 : tie.Need-add-or-two-7 Inv-loop μ-loop Inv-loop2 μ-loop2 Inv-loop3 μ-loop3
-add-or-two-7 c = place-fits _ (eighth (c .before .before .before .before .before .before .before .before .before .before) 7 refl)
-
-mul-or-two-8 : tie.Need-mul-or-two-8 Inv-loop μ-loop Inv-loop2 μ-loop2 Inv-loop3 μ-loop3
-mul-or-two-8 c = six-fits _ (eighth (c .before .before .before .before .before .before .before .before .before .before) 7 refl)
-
-element-copy-out-or-two-8 :
-    tie.Need-element-copy-out-or-two-8 Inv-loop μ-loop Inv-loop2 μ-loop2 Inv-loop3 μ-loop3
-element-copy-out-or-two-8 c = in-rows _ (eighth (c .before .before .before .before .before .before .before .before .before .before) 7 refl)
-
-or-two-requires-4 : tie.Need-or-two-requires-4 Inv-loop μ-loop Inv-loop2 μ-loop2 Inv-loop3 μ-loop3
-or-two-requires-4 c κs = search needs
+or-four-requires : tie.Need-or-four-requires Inv-loop μ-loop Inv-loop2 μ-loop2 Inv-loop3 μ-loop3
+or-four-requires c κs = search needs
 
 add-i-2 : tie.Need-add-i-2 Inv-loop μ-loop Inv-loop2 μ-loop2 Inv-loop3 μ-loop3
-add-i-2 c = eight-fits _ (c .before .before .before .before .before .before .before .before .before .before .before .before .loop2-test .taken)
+add-i-2 c =
+    let d = c .before .before .before .before .before in
+    more-fits (d .before .loop2 .i) (omega (arith, d .before .loop2 .inv .0, most (tail (d .before))))
 
 loop2-less : tie.Need-loop2-less Inv-loop μ-loop Inv-loop2 μ-loop2 Inv-loop3 μ-loop3
-loop2-less c = eight-less (c .before .before .before .before .before .before .before .before .before .before .before .before .before .loop2 .i) (c .before .before .before .before .before .before .before .before .before .before .before .before .loop2-test .taken)
+loop2-less c = let d = c .before .before .before .before .before in four-less (d .before .loop2 .i) _ (d .loop2-test .taken)
 
 loop2-again : tie.Need-loop2-again Inv-loop μ-loop Inv-loop2 μ-loop2 Inv-loop3 μ-loop3
 loop2-again c =
-    let o3 = c .before .before .before in
-    let o2 = o3 .before .before .before in
-    let o1 = o2 .before .before .before in
-    let d = o1 .before .before .before in
+    let d = c .before .before .before .before .before in
     let v = d .before .loop2 in
-    let s = start (d .before .before .before) in (
-      eight-up (v .i) (d .loop2-test .taken),
-      v .inv .1
-          ∙ unused-eight (s .args .t1 .rows) (v .rest) _ _ _ _ (v .i) (o1 .or-two .ensures) (o2 .or-two2 .ensures) (o3 .or-two3 .ensures) (c .or-two4 .ensures) (omega (arith, sized s)),
+    let s = start (tail (d .before) .before .before) in (
+      d .loop2-test .taken,
+      v .inv .1 ∙ unused-four (s .args .t1 .rows) (wordsZero (v .words)) (wordsZero (c .or-four .result)) (v .i) (c .or-four .ensures) (omega (arith, sized s, fourth d 3 refl)),
     )
 
 loop3-holds : tie.Need-loop3-holds Inv-loop μ-loop Inv-loop2 μ-loop2 Inv-loop3 μ-loop3
@@ -305,8 +268,7 @@ loop3-holds c = (c .before .loop2 .inv .0, c .before .loop2 .inv .1)
 mul-or-row : tie.Need-mul-or-row Inv-loop μ-loop Inv-loop2 μ-loop2 Inv-loop3 μ-loop3
 mul-or-row c = six-fits _ (rest-place c)
 
-element-copy-out-or-row :
-    tie.Need-element-copy-out-or-row Inv-loop μ-loop Inv-loop2 μ-loop2 Inv-loop3 μ-loop3
+element-copy-out-or-row : tie.Need-element-copy-out-or-row Inv-loop μ-loop Inv-loop2 μ-loop2 Inv-loop3 μ-loop3
 element-copy-out-or-row c = in-rows _ (rest-place c)
 
 or-row-requires : tie.Need-or-row-requires Inv-loop μ-loop Inv-loop2 μ-loop2 Inv-loop3 μ-loop3
@@ -316,42 +278,62 @@ add-i-3 : tie.Need-add-i-3 Inv-loop μ-loop Inv-loop2 μ-loop2 Inv-loop3 μ-loop
 add-i-3 c = next-fits _ (rest-place (c .before .before))
 
 loop3-less : tie.Need-loop3-less Inv-loop μ-loop Inv-loop2 μ-loop2 Inv-loop3 μ-loop3
-loop3-less c = turn-less (c .before .before .before .loop3 .i) 64 (c .before .before .loop3-test .taken)
+loop3-less c = let d = c .before .before in turn-less (d .before .loop3 .i) _ (d .loop3-test .taken)
 
 loop3-again : tie.Need-loop3-again Inv-loop μ-loop Inv-loop2 μ-loop2 Inv-loop3 μ-loop3
 loop3-again c =
     let d = c .before .before in
     let v = d .before .loop3 in
-    let s = start (d .before .before .before .before .before) in
-    (next-up (v .i) 64 (d .loop3-test .taken), v .inv .1 ∙ rw (c .or-row .ensures) (unused-next (s .args .t1 .rows) (v .rest) (v .i) (v .i + 1) refl (omega (arith, sized s))))
+    let s = start (tail (d .before .before .before) .before .before) in (
+      next-up (v .i) _ (d .loop3-test .taken),
+      v .inv .1 ∙ unused-next (s .args .t1 .rows) (wordsZero (v .words)) (wordsZero (c .or-row .result)) (v .i) (c .or-row .ensures) (omega (arith, sized s, rest-place d)),
+    )
 
-to-rise-requires-2 :
-    tie.Need-to-rise-requires-2 Inv-loop μ-loop Inv-loop2 μ-loop2 Inv-loop3 μ-loop3
+later-unused-requires : tie.Need-later-unused-requires Inv-loop μ-loop Inv-loop2 μ-loop2 Inv-loop3 μ-loop3
+later-unused-requires c κs = search needs
+
+are-zero-requires : tie.Need-are-zero-requires Inv-loop μ-loop Inv-loop2 μ-loop2 Inv-loop3 μ-loop3
+are-zero-requires c κs = search needs
+
+to-rise-requires-2 : tie.Need-to-rise-requires-2 Inv-loop μ-loop Inv-loop2 μ-loop2 Inv-loop3 μ-loop3
 to-rise-requires-2 c κs = search needs
 
+-- the first pass, seen from the end
+abbrev passed : (c : tie.After-to-rise2 Inv-loop μ-loop Inv-loop2 μ-loop2 Inv-loop3 μ-loop3) → tie.After-loop Inv-loop μ-loop Inv-loop2 μ-loop2 Inv-loop3 μ-loop3
+passed c = tail (c .before .before .before .before .before .before) .before
+
 same-length-3 : tie.Need-same-length-3 Inv-loop μ-loop Inv-loop2 μ-loop2 Inv-loop3 μ-loop3
-same-length-3 c = let l = c .before .before .before .before .before .before in l .loop .inv .1 ∙ sym (start l .pre .1)
+same-length-3 c = let l = passed c .before in l .loop .inv .1 ∙ sym (start l .pre .1)
 
 same-length-4 : tie.Need-same-length-4 Inv-loop μ-loop Inv-loop2 μ-loop2 Inv-loop3 μ-loop3
-same-length-4 c = let l = c .before .before .before .before .before .before in l .loop .inv .2 ∙ sym (start l .pre .2)
+same-length-4 c = let l = passed c .before in l .loop .inv .2 ∙ sym (start l .pre .2)
 
 returns-2 : tie.Need-returns-2 Inv-loop μ-loop Inv-loop2 μ-loop2 Inv-loop3 μ-loop3
 returns-2 c =
     let q = c .to-rise2 .ensures in
-    let l3 = c .before .before in
-    let o = l3 .before .before .before in
+    let z = c .before in
+    let u = z .before in
+    let l3 = u .before in
+    let o = passed c in
+    let e = tail (l3 .before .before .before) in
     let s = start (o .before) in
     let l = s .args .t1 in
     let v = o .before .loop in
+    let w = l3 .before .loop3 in
     let done = used-up (l .rows) (l .count) (v .i) (o .loop-test .left) in
-    let none : drop (l3 .loop3 .i) (l .rows) ≡ [] = drop-of-length-le (l .rows) {i = l3 .loop3 .i} (omega (arith, sized s)) in
+    let at : w .i ≡ fewEnd (l .count) = omega (arith, e .few-end .ensures, l3 .loop3-test .left, w .inv .0) in
     let risen : rising 0 (usedRows l) ≡ true = v .inv .3 ∙ rw done in
-    let rest : unusedRows (drop (l .count) (l .rows)) ≡ eqb (l3 .loop3 .rest) 0 = l3 .loop3 .inv .1 ∙ rw none (and-true (eqb (l3 .loop3 .rest) 0)) in
-    let e : v .i ≡ length (usedRows l) = omega (arith, used-sized s) in
+    let later : unusedRows (drop (w .i) (l .rows)) ≡ u .later-unused .result = ap (λ (x : ℕ). unusedRows (drop x (l .rows))) at ∙ sym (u .later-unused .ensures) in
+    let rest : unusedRows (drop (l .count) (l .rows)) ≡ (u .later-unused .result && z .are-zero .result) =
+    w .inv .1
+    ∙ ap (λ (b : Bool). wordsZero (w .words) && b) later
+    ∙ and-comm (wordsZero (w .words)) (u .later-unused .result)
+    ∙ ap (λ (b : Bool). u .later-unused .result && b) (sym (z .are-zero .ensures)) in
+    let n : v .i ≡ length (usedRows l) = omega (arith, used-sized s, o .loop-test .left, v .inv .0) in
     record {
       rise = q .0 ∙ sym (rw (risen, rest));
       ordered = λ w. q .1 ∙ sym (v .inv .4 ∙ rw done (and-true (v .targets)));
-      written = λ w. v .inv .5 ∙ rw (e, take-length (usedRows l));
+      written = λ w. v .inv .5 ∙ order-done (usedRows l) (replicate 64 0) (v .i) n;
       after = λ w j h. v .inv .6 j (omega (arith, o .loop-test .left));
     }
 
@@ -388,34 +370,22 @@ rows-rise-spec =
     add-i
     loop-less
     loop-again
+    few-end-requires
+    to-words-requires
     loop2-holds
-    mul-or-two
-    element-copy-out-or-two
-    add-or-two
-    mul-or-two-2
-    element-copy-out-or-two-2
-    or-two-requires
-    add-or-two-2
-    mul-or-two-3
-    element-copy-out-or-two-3
-    add-or-two-3
-    mul-or-two-4
-    element-copy-out-or-two-4
-    or-two-requires-2
-    add-or-two-4
-    mul-or-two-5
-    element-copy-out-or-two-5
-    add-or-two-5
-    mul-or-two-6
-    element-copy-out-or-two-6
-    or-two-requires-3
-    add-or-two-6
-    mul-or-two-7
-    element-copy-out-or-two-7
-    add-or-two-7
-    mul-or-two-8
-    element-copy-out-or-two-8
-    or-two-requires-4
+    add-loop2
+    mul-or-four
+    element-copy-out-or-four
+    add-or-four
+    mul-or-four-2
+    element-copy-out-or-four-2
+    add-or-four-2
+    mul-or-four-3
+    element-copy-out-or-four-3
+    add-or-four-3
+    mul-or-four-4
+    element-copy-out-or-four-4
+    or-four-requires
     add-i-2
     loop2-less
     loop2-again
@@ -426,6 +396,8 @@ rows-rise-spec =
     add-i-3
     loop3-less
     loop3-again
+    later-unused-requires
+    are-zero-requires
     to-rise-requires-2
     same-length-3
     same-length-4

@@ -1,0 +1,31 @@
+-- `table::or_word` meets its contract.
+use borrow.Author.Needs.{needs}
+use Rattle.table.proofs.Order.{word-zero}
+use Rattle.table.proofs.or_word.Statement.{statement}
+use Rattle.table.proofs.or_word.Tie as tie
+
+mul-result : tie.Need-mul-result
+mul-result c = search needs
+
+add-result : tie.Need-add-result
+add-result c = search needs
+
+mul-result-2 : tie.Need-mul-result-2
+mul-result-2 c = search needs
+
+add-result-2 : tie.Need-add-result-2
+add-result-2 c = search needs
+
+mul-result-3 : tie.Need-mul-result-3
+mul-result-3 c = search needs
+
+add-result-3 : tie.Need-add-result-3
+add-result-3 c = search needs
+
+returns : tie.Need-returns
+returns c = let a = c .args in word-zero (a .word) (a .a) (a .b) (a .c) (a .d)
+
+pub or-word-spec : {M : Type 1} → statement M
+or-word-spec =
+    tie.close
+    (tie.spec mul-result add-result mul-result-2 add-result-2 mul-result-3 add-result-3 returns)
