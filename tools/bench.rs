@@ -837,7 +837,7 @@ the label and every octet of the output, then the timed loops. (Through other ta
 - The loops of the box are in the crates `timing` and `timing_parts` (bitmap and file, which would be second callers in one library), those of Rust in `tools/bench.rs`; both run over records built once, with an output of 48 octets. Of
   every answer the same fixed places go into a number that is returned.
 - A forward checks both ports and the table on every call, in both. The ports are of the usual kind (a label is required, no option 130 is read, the range goes from no categories to one
-  run); between others the box takes 1.6 to 1.7 times the Rust variant's instructions, since they are copied (landing 17). Where the renumbered label has no spelling, the answer is 18 and the work up to
+  run); between others the box takes 1.7 to 1.8 times the Rust variant's instructions, since they are copied (landing 17). Where the renumbered label has no spelling, the answer is 18 and the work up to
   there is the same; the last column says how many of the inputs are forwarded.
 - The table with rows spreads the categories 0 to 255 over rows of equal width whose targets come in scattered order, those below 240 among
   themselves.
