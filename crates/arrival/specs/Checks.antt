@@ -2,7 +2,7 @@
 -- Wish 3: 19, 20 and 21. Of 1 and 2, `badArea` stands in `area`, and what makes a record sound with the record.
 use mathlib.Core.Path.{_≡_}
 use mathlib.Core.Bool.{Bool, true, false, not, _&&_}
-use mathlib.Core.List.{List, [], _∷_}
+use mathlib.Core.List.{List, [], _∷_, _++_}
 use mathlib.Core.Option.{Option, none, some}
 use Prim.Native.Nat.{ℕ, _+_}
 use lib.Dec.{eqb}
@@ -134,14 +134,17 @@ arrivingLabel port area = labelBy (placeIn (walkAt port area)) port area
 unfoldable pub rangeCheck : Port → List ℕ → ℕ → Option Refusal
 rangeCheck port area code = when (not (inRange (port .lowest) (port .highest) (arrivingLabel port area))) (barred 14 code)
 
--- checks 3 to 13, 19 to 21 and 14, which both jobs share
-abbrev pub arrivalChecks : Port → List ℕ → ℕ → List (Option Refusal)
-arrivalChecks port area code =
+-- checks 3 to 13 and 19 to 21 at the port where a datagram arrives, in their order: every job begins with these
+abbrev pub optionChecks : Port → List ℕ → ℕ → List (Option Refusal)
+optionChecks port area code =
     walkCheck port area  -- 3, 4, 5
     ∷ requiredCheck port area  -- 6
     ∷ optionCheck port area  -- 7 to 13
     ∷ badBasicCheck port area  -- 19
     ∷ missingBasicCheck port area  -- 20
     ∷ basicRangeCheck port area code  -- 21
-    ∷ rangeCheck port area code  -- 14
     ∷ []
+
+-- these and 14, which both jobs share
+abbrev pub arrivalChecks : Port → List ℕ → ℕ → List (Option Refusal)
+arrivalChecks port area code = optionChecks port area code ++ (rangeCheck port area code ∷ [])

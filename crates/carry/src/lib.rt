@@ -10,6 +10,7 @@ ghost use Rattle.levels.specs.Levels.{partnerOf};
 ghost use Rattle.table.specs.Numbers.{numbered};
 ghost use Rattle.carry.specs.Carry.{imageOf, labelRuns, notCarried, carriedTo, carriedKeys, carryOf};
 ghost use Rattle.carry.specs.Stages.{pushKey, joinOnto, pieceKey, Ready, Cut, partsOf, Inside, Joined};
+use levels::Levels;
 use label::Label;
 use levels::Partner;
 use levels::partner_of;
@@ -38,7 +39,7 @@ pub fn carry(
     n: usize,
     level: u8,
     table: Table,
-    levels: [[u8; 2]; 16],
+    levels: Levels,
     far: &mut [u32],
 ) -> Carried
     ensures { λ r. ⌜ (r ≡ carryOf (keyRuns (take n (now (keys .entry)))) level table levels (length (now (far .entry)))) × (now (far .exit) ≡ carriedKeys r (imageOf table (keyRuns (take n (now (keys .entry))))) (now (far .entry))) ⌝ }
@@ -92,7 +93,7 @@ fn carry_checked(
     n: usize,
     level: u8,
     table: Table,
-    levels: [[u8; 2]; 16],
+    levels: Levels,
     order: &[u32],
     far: &mut [u32],
 ) -> Carried

@@ -1,4 +1,5 @@
 // Into the leaving port's domain (document 01, "The order of checks": 2 of the table, and 16).
+use levels::Levels;
 use carry::Carried;
 use carry::carry;
 use decision::Verdict;
@@ -17,7 +18,7 @@ pub fn cross(
     domain: u32,
     leaving: u32,
     table: Table,
-    levels: [[u8; 2]; 16],
+    levels: Levels,
     own: &[u32],
     far: &mut [u32],
 ) -> Verdict
@@ -39,7 +40,7 @@ pub fn cross(
 }
 
 // Check 2 of the table, where another check applies: before 3 to 21.
-fn check_table(arrived: Verdict, table: Table, levels: [[u8; 2]; 16]) -> Verdict
+fn check_table(arrived: Verdict, table: Table, levels: Levels) -> Verdict
     ensures { λ r. ⌜ r ≡ tabledBy arrived table levels ⌝ }
 {
     if arrived.number <= 2 {

@@ -1,7 +1,7 @@
 -- Document 01, "The order of checks, and each number": deliver, at one port and a host: the checks of its own, all of them in their order, and the decision as
 -- the table reads.
 use mathlib.Core.Bool.{not, _&&_}
-use mathlib.Core.List.{List, [], _∷_}
+use mathlib.Core.List.{List, [], _∷_, _++_}
 use mathlib.Core.Option.{Option}
 use Prim.Native.Nat.{ℕ}
 use Rattle.label.specs.Label.{inRange}
@@ -12,7 +12,7 @@ use Rattle.port.specs.Port.{portSound, hostSound}
 use Rattle.decision.specs.declared.Facts.{Facts}
 use Rattle.decision.specs.declared.Decision.{Decision}
 use Rattle.decision.specs.Decision.{Refusal, silenced, decided}
-use Rattle.arrival.specs.Checks.{silent, barred, when, firstOf, walkCheck, requiredCheck, optionCheck, badBasicCheck, missingBasicCheck, basicRangeCheck, rangeCheck, arrivingLabel}
+use Rattle.arrival.specs.Checks.{silent, barred, when, firstOf, optionChecks, rangeCheck, arrivingLabel}
 
 -- one port and a host
 pub record Delivery : Type 0 where
@@ -41,15 +41,10 @@ abbrev pub deliverChecks : Delivery → List (Option Refusal)
 deliverChecks d =
     deliverySizes d  -- 1
     ∷ deliveryRecords d  -- 2
-    ∷ walkCheck (d .port) (d .area)  -- 3, 4, 5
-    ∷ requiredCheck (d .port) (d .area)  -- 6
-    ∷ optionCheck (d .port) (d .area)  -- 7 to 13
-    ∷ badBasicCheck (d .port) (d .area)  -- 19
-    ∷ missingBasicCheck (d .port) (d .area)  -- 20
-    ∷ basicRangeCheck (d .port) (d .area) 10  -- 21
-    ∷ rangeCheck (d .port) (d .area) 10  -- 14
+    ∷ (optionChecks (d .port) (d .area) 10  -- 3 to 13, 19 to 21
+    ++ (rangeCheck (d .port) (d .area) 10  -- 14
     ∷ hostCheck d  -- 15
-    ∷ []
+    ∷ []))
 
 -- a delivery returns its label and count 0
 unfoldable pub deliverOf : Delivery → Decision

@@ -28,7 +28,7 @@ use Rattle.port.specs.Port.{portSound, hostSound}
 use Rattle.table.specs.Table.{tableSound}
 use Rattle.renumber.specs.Theorems.{Far}
 use Rattle.decision.specs.Decision.{Refusal, silenced, refused, done}
-use Rattle.arrival.specs.Checks.{NoneApplies, walkAt, optionAt, badBasicCheck, walkCheck, requiredCheck, optionCheck, missingBasicCheck, basicRangeCheck, rangeCheck}
+use Rattle.arrival.specs.Checks.{NoneApplies, walkAt, optionAt, badBasicCheck, optionChecks, rangeCheck}
 use Rattle.delivery.specs.Delivery.{Delivery, deliverySizes, deliveryRecords, deliverChecks, deliverOf}
 use Rattle.forwarding.specs.Crossing.{Forwarding, sizes, records, leavingBasicCheck, crossing, numberCheck}
 use Rattle.forwarding.specs.Forward.{forwardChecks, forwardOf, outputOf}
@@ -124,16 +124,11 @@ abbrev pub earlierChecks : Forwarding → List (Option Refusal)
 earlierChecks f =
     sizes f
     ∷ records f
-    ∷ walkCheck (f .arriving) (f .area)
-    ∷ requiredCheck (f .arriving) (f .area)
-    ∷ optionCheck (f .arriving) (f .area)
-    ∷ badBasicCheck (f .arriving) (f .area)
-    ∷ missingBasicCheck (f .arriving) (f .area)
-    ∷ basicRangeCheck (f .arriving) (f .area) 9
-    ∷ leavingBasicCheck f
+    ∷ (optionChecks (f .arriving) (f .area) 9
+    ++ (leavingBasicCheck f
     ∷ rangeCheck (f .arriving) (f .area) 9
     ∷ numberCheck (crossing f)
-    ∷ []
+    ∷ []))
 
 pub record Demand2 : Type 0 where
   -- forwarded only when the conditions hold

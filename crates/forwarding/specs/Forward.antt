@@ -1,5 +1,5 @@
 -- Document 01, "The order of checks" and "The leaving area": the decision of a forwarding as the table reads, and what the output holds.
-use mathlib.Core.List.{List, [], _∷_}
+use mathlib.Core.List.{List, [], _∷_, _++_}
 use mathlib.Core.Option.{Option, none, some}
 use Prim.Native.Nat.{ℕ, _+_}
 use lib.ListN.{length}
@@ -10,7 +10,7 @@ use Rattle.table.specs.declared.Table.{Table}
 use Rattle.decision.specs.declared.Facts.{Facts}
 use Rattle.decision.specs.declared.Decision.{Decision}
 use Rattle.decision.specs.Decision.{Refusal, silenced, decided}
-use Rattle.arrival.specs.Checks.{firstOf, walkCheck, requiredCheck, optionCheck, badBasicCheck, missingBasicCheck, basicRangeCheck, rangeCheck}
+use Rattle.arrival.specs.Checks.{firstOf, optionChecks, rangeCheck}
 use Rattle.forwarding.specs.Crossing.{Forwarding, sizes, records, leavingBasicCheck, numberCheck, leavingCheck, spellingCheck, crossing, leavingLabel, leavingOption}
 
 -- the inputs of a forwarding
@@ -23,18 +23,13 @@ abbrev pub forwardChecks : Forwarding → List (Option Refusal)
 forwardChecks f =
     sizes f  -- 1
     ∷ records f  -- 2
-    ∷ walkCheck (f .arriving) (f .area)  -- 3, 4, 5
-    ∷ requiredCheck (f .arriving) (f .area)  -- 6
-    ∷ optionCheck (f .arriving) (f .area)  -- 7 to 13
-    ∷ badBasicCheck (f .arriving) (f .area)  -- 19
-    ∷ missingBasicCheck (f .arriving) (f .area)  -- 20
-    ∷ basicRangeCheck (f .arriving) (f .area) 9  -- 21, the arriving port
-    ∷ leavingBasicCheck f  -- 21, the leaving port
+    ∷ (optionChecks (f .arriving) (f .area) 9  -- 3 to 13, 19 to 21 at the arriving port
+    ++ (leavingBasicCheck f  -- 21, the leaving port
     ∷ rangeCheck (f .arriving) (f .area) 9  -- 14
     ∷ numberCheck (crossing f)  -- 16
     ∷ leavingCheck (crossing f)  -- 17
     ∷ spellingCheck (crossing f) (keptOf (f .area))  -- 18
-    ∷ []
+    ∷ []))
 
 -- option, kept options and padding
 abbrev pub leavingCount : Forwarding → ℕ

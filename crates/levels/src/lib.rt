@@ -6,6 +6,12 @@ ghost use lib.ListN.{take, drop};
 ghost use Rattle.levels.specs.Levels.{levelsRise, unusedPairs, levelNumbers, pairsSound, partnerOf};
 use lists::lesser;
 
+// The most level pairs of a table.
+pub const MAX_PAIRS: usize = 16;
+
+// The level pairs of a table, passed beside it.
+pub type Levels = [[u8; 2]; MAX_PAIRS];
+
 // The level that a level goes to, where it has a partner.
 pub enum Partner {
     Level(u8),
@@ -13,11 +19,11 @@ pub enum Partner {
 }
 
 // The partner of a level among the first `pairs` pairs.
-pub fn partner_of(levels: [[u8; 2]; 16], pairs: usize, level: u8) -> Partner
+pub fn partner_of(levels: Levels, pairs: usize, level: u8) -> Partner
     ensures { λ r. ⌜ r ≡ partnerOf (take pairs levels) level ⌝ }
 {
     // one bound, for with two the compiler takes all sixteen pairs apart
-    let n = lesser(pairs, 16);
+    let n = lesser(pairs, MAX_PAIRS);
     let mut i: usize = 0;
     while i < n {
         let pair = levels[i];
@@ -30,10 +36,10 @@ pub fn partner_of(levels: [[u8; 2]; 16], pairs: usize, level: u8) -> Partner
 }
 
 // Whether the first `count` pairs rise strictly on both sides and the others are zero; that each number is at most 255 is what its type says.
-pub fn levels_sound(levels: [[u8; 2]; 16], count: usize) -> bool
+pub fn levels_sound(levels: Levels, count: usize) -> bool
     ensures { λ r. ⌜ r ≡ pairsSound levels count ⌝ }
 {
-    let n = lesser(count, 16);
+    let n = lesser(count, MAX_PAIRS);
     if !pairs_rise(levels, n) {
         return false;
     }
@@ -47,7 +53,7 @@ fn wide(x: u8) -> u16
     x as u16
 }
 
-fn pairs_rise(levels: [[u8; 2]; 16], count: usize) -> bool
+fn pairs_rise(levels: Levels, count: usize) -> bool
     requires { ⌜ count ≤ 16 ⌝ }
     ensures { λ r. ⌜ (r ≡ levelsRise 0 0 (take count levels)) × (r ≡ true → levelNumbers (take count levels) ≡ true) ⌝ }
 {
@@ -71,13 +77,13 @@ fn pairs_rise(levels: [[u8; 2]; 16], count: usize) -> bool
     true
 }
 
-fn pairs_unused(levels: [[u8; 2]; 16], count: usize) -> bool
+fn pairs_unused(levels: Levels, count: usize) -> bool
     requires { ⌜ count ≤ 16 ⌝ }
     ensures { λ r. ⌜ r ≡ unusedPairs (drop count levels) ⌝ }
 {
     let mut rest: u16 = 0;
     let mut i = count;
-    while i < 16 {
+    while i < MAX_PAIRS {
         let pair = levels[i];
         rest = rest | pair_word(pair[0], pair[1]);
         i += 1;

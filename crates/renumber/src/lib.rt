@@ -4,6 +4,7 @@ ghost use Prim.Native.Nat.{_≤_};
 ghost use lib.ListN.{length, take};
 ghost use Rattle.keys.specs.Keys.{keyRuns};
 ghost use Rattle.renumber.specs.Renumber.{notRenumbered, fitted, renumberedOf};
+use levels::Levels;
 use carry::MOST_RUNS;
 use carry::carry;
 use keys::label_keys;
@@ -19,7 +20,7 @@ pub struct Renumbered {
 }
 
 // The label renumbered by the table, or the first refusal of 2, 16 and 18.
-pub fn renumber(label: Label, table: Table, levels: [[u8; 2]; 16]) -> Renumbered
+pub fn renumber(label: Label, table: Table, levels: Levels) -> Renumbered
     ensures { λ r. ⌜ r ≡ renumberedOf label table levels ⌝ }
 {
     if !label.well_formed() {

@@ -1,6 +1,6 @@
 -- Document 02, Wish 7: the decision of a box of many ports. A route chooses the port that a datagram leaves by; what is decided then is the two-port decision for that pair.
 use mathlib.Core.Bool.{Bool, true, false, not, _&&_}
-use mathlib.Core.List.{List, [], _∷_}
+use mathlib.Core.List.{List, [], _∷_, _++_}
 use mathlib.Core.Option.{Option, none}
 use Prim.Native.Nat.{ℕ}
 use lib.Dec.{ltb}
@@ -10,7 +10,7 @@ use Rattle.leaving.specs.Kept.{keptOf}
 use Rattle.decision.specs.declared.Facts.{Facts}
 use Rattle.decision.specs.declared.Decision.{Decision}
 use Rattle.decision.specs.Decision.{Refusal, silenced, decided}
-use Rattle.arrival.specs.Checks.{silent, barred, when, firstOf, walkCheck, requiredCheck, optionCheck, badBasicCheck, missingBasicCheck, basicRangeCheck, rangeCheck}
+use Rattle.arrival.specs.Checks.{silent, barred, when, firstOf, optionChecks, rangeCheck}
 use Rattle.forwarding.specs.Crossing.{Forwarding, sizes, leavingBasicCheck, numberCheck, leavingCheck, spellingCheck, crossing, leavingLabel, leavingOption}
 use Rattle.forwarding.specs.Forward.{optionOctets, leavingCount, written}
 use Rattle.filetable.specs.declared.Renumbering.{Renumbering}
@@ -102,19 +102,14 @@ abbrev pub routingChecks : Routing → List (Option Refusal)
 routingChecks b =
     sizes (chosenPair b)  -- 1
     ∷ setCheck b  -- 2
-    ∷ walkCheck (arrivingPort b) (b .area)  -- 3, 4, 5
-    ∷ requiredCheck (arrivingPort b) (b .area)  -- 6
-    ∷ optionCheck (arrivingPort b) (b .area)  -- 7 to 13
-    ∷ badBasicCheck (arrivingPort b) (b .area)  -- 19
-    ∷ missingBasicCheck (arrivingPort b) (b .area)  -- 20
-    ∷ basicRangeCheck (arrivingPort b) (b .area) 9  -- 21, the arriving port
-    ∷ leavingBasicBy (chosen b) (chosenPair b)  -- 21, the leaving port
+    ∷ (optionChecks (arrivingPort b) (b .area) 9  -- 3 to 13, 19 to 21 at the arriving port
+    ++ (leavingBasicBy (chosen b) (chosenPair b)  -- 21, the leaving port
     ∷ rangeCheck (arrivingPort b) (b .area) 9  -- 14
     ∷ routeCheck b  -- 22
     ∷ numberCheck (crossing (chosenPair b))  -- 16
     ∷ leavingCheck (crossing (chosenPair b))  -- 17
     ∷ spellingCheck (crossing (chosenPair b)) (keptOf (b .area))  -- 18
-    ∷ []
+    ∷ []))
 
 unfoldable pub routingOf : Routing → Decision
 routingOf b = decided (silenced (b .facts)) (firstOf (routingChecks b)) (leavingLabel (crossing (chosenPair b))) (leavingCount (chosenPair b))
