@@ -1,4 +1,4 @@
-//! The proved library. `inglebreek_forward_batch` (crates/batch/src/lib.rt) has an equation for every input, and asks nothing of its
+//! The proved library. `inglebreek_forward_batch` (crates/export_batch/src/lib.rt) has an equation for every input, and asks nothing of its
 //! caller but that what is lent does not overlap: the borrows below see to that.
 
 use crate::frame::Facts;

@@ -8,13 +8,13 @@ use native.Mathlib.Omega.{arith}
 use borrow.Author.Tests.{le-ltb, le-leb}
 use lib.ListN.{length, getD, length-append, List·getD-append}
 use lib.Seq.{drop-append-seam}
-use Rattle.kinds.specs.declared.Kind.the-variants.{Cipso}
-use Rattle.kinds.specs.declared.Size.the-variants.{Whole}
-use Rattle.turn.specs.declared.Place.the-variants.{Nowhere, At}
-use Rattle.turn.specs.declared.Turn.the-variants.{On}
-use Rattle.kinds.specs.Kinds.{kindOf, sizeOf}
+use Rattle.area.specs.declared.Kind.the-variants.{Cipso}
+use Rattle.area.specs.declared.Size.the-variants.{Whole}
+use Rattle.area.specs.declared.Place.the-variants.{Nowhere, At}
+use Rattle.area.specs.declared.Turn.the-variants.{On}
+use Rattle.area.specs.Kinds.{kindOf, sizeOf}
 use Rattle.area.specs.Area.{metFrom, metOf, judged, walkOf}
-use Rattle.turn.specs.Turn.{turnOf}
+use Rattle.area.specs.Turn.{turnOf}
 use Rattle.area.proofs.Laws.{walk-turn, afterTurn}
 
 pub label-first : (on : Bool) (o rest : List ℕ) → getD o 0 0 ≡ 134 → getD o 1 0 ≡ length o → 2 ≤ length o

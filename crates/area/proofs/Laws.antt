@@ -8,19 +8,19 @@ use native.Mathlib.Omega.{arith}
 use lib.ListN.{length, getD, take, drop, length-drop, drop-of-length-le}
 use lib.Seq.{getD-drop, drop-drop}
 use Rattle.lists.proofs.Laws.{tail-is}
-use Rattle.kinds.proofs.Laws.{size-whole}
-use Rattle.kinds.specs.declared.Kind.{Kind}
-use Rattle.kinds.specs.declared.Kind.the-variants.{End, NoOperation, Basic, Extended, Cipso, Other}
-use Rattle.kinds.specs.declared.Size.{Size}
-use Rattle.kinds.specs.declared.Size.the-variants.{Whole, Bad}
-use Rattle.turn.specs.declared.Place.{Place}
-use Rattle.turn.specs.declared.Place.the-variants.{Nowhere, At}
-use Rattle.turn.specs.declared.Walk.{Walk}
-use Rattle.turn.specs.declared.Walk.the-variants.{Sound, Refused}
-use Rattle.turn.specs.declared.Turn.{Turn}
-use Rattle.turn.specs.declared.Turn.the-variants.{Done, On}
-use Rattle.kinds.specs.Kinds.{kindOf, sizeOf}
-use Rattle.turn.specs.Turn.{judge, turnOf}
+use Rattle.area.proofs.KindLaws.{size-whole}
+use Rattle.area.specs.declared.Kind.{Kind}
+use Rattle.area.specs.declared.Kind.the-variants.{End, NoOperation, Basic, Extended, Cipso, Other}
+use Rattle.area.specs.declared.Size.{Size}
+use Rattle.area.specs.declared.Size.the-variants.{Whole, Bad}
+use Rattle.area.specs.declared.Place.{Place}
+use Rattle.area.specs.declared.Place.the-variants.{Nowhere, At}
+use Rattle.area.specs.declared.Walk.{Walk}
+use Rattle.area.specs.declared.Walk.the-variants.{Sound, Refused}
+use Rattle.area.specs.declared.Turn.{Turn}
+use Rattle.area.specs.declared.Turn.the-variants.{Done, On}
+use Rattle.area.specs.Kinds.{kindOf, sizeOf}
+use Rattle.area.specs.Turn.{judge, turnOf}
 use Rattle.area.specs.Area.{Met, spanOf, frontOf, metFrom, metOf, judged, walkOf, WholeAt, placedIn}
 use Rattle.area.specs.Meets.{StandIn}
 use Rattle.area.specs.Stages.{isMet, octetOf, placeOf}

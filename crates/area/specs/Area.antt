@@ -6,16 +6,16 @@ use mathlib.Core.Bool.{Bool, not, _||_}
 use mathlib.Core.Option.{Option, none, some}
 use lib.Dec.{ltb, eqb}
 use lib.ListN.{length, getD, take, drop}
-use Rattle.kinds.specs.declared.Kind.{Kind}
-use Rattle.kinds.specs.declared.Kind.the-variants.{End, NoOperation, Basic, Extended, Cipso, Other}
-use Rattle.kinds.specs.declared.Size.{Size}
-use Rattle.kinds.specs.declared.Size.the-variants.{Whole, Bad}
-use Rattle.turn.specs.declared.Place.{Place}
-use Rattle.turn.specs.declared.Place.the-variants.{Nowhere, At}
-use Rattle.turn.specs.declared.Walk.{Walk}
-use Rattle.turn.specs.declared.Walk.the-variants.{Sound, Refused}
-use Rattle.kinds.specs.Kinds.{kindOf, sizeOf}
-use Rattle.turn.specs.Turn.{judge}
+use Rattle.area.specs.declared.Kind.{Kind}
+use Rattle.area.specs.declared.Kind.the-variants.{End, NoOperation, Basic, Extended, Cipso, Other}
+use Rattle.area.specs.declared.Size.{Size}
+use Rattle.area.specs.declared.Size.the-variants.{Whole, Bad}
+use Rattle.area.specs.declared.Place.{Place}
+use Rattle.area.specs.declared.Place.the-variants.{Nowhere, At}
+use Rattle.area.specs.declared.Walk.{Walk}
+use Rattle.area.specs.declared.Walk.the-variants.{Sound, Refused}
+use Rattle.area.specs.Kinds.{kindOf, sizeOf}
+use Rattle.area.specs.Turn.{judge}
 
 -- 1: over 40 octets, or not a multiple of 4
 abbrev pub badSize : ℕ → Bool
@@ -56,7 +56,7 @@ metFrom (t ∷ r) zero at =
     frontOf (kindOf t) (sizeOf (t ∷ r)) at
     ++ elim (spanOf (kindOf t) (sizeOf (t ∷ r))) [ Whole n ↦ metFrom r (pred n) (suc at) | Bad ↦ [] ]
 
--- the options that the walk meets, in order; the kept options (`leaving`) are among them
+-- the options that the walk meets, in order; the kept options (`area_leaving`) are among them
 unfoldable pub metOf : List ℕ → List Met
 metOf area = metFrom area 0 0
 

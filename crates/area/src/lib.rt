@@ -1,14 +1,121 @@
+// The options of an IPv4 header (RFC 791; document 01, "The order of checks"): an option's type, and its length.
+// One option of the walk over an options area (document 01, "The order of checks"; document 02, Wish 3): 3, 4 and 5, and the places of the options 134 and 130.
 // The options area of an IPv4 header (RFC 791; document 01, "The order of checks"): its size, and the walk.
-use kinds::read_kind;
-use kinds::read_size;
-use turn::Place;
-use turn::Turn;
-use turn::Walk;
-use turn::take_turn;
 ghost use mathlib.Core.Path.{_≡_};
+ghost use Rattle.area.specs.Kinds.{kindOf, sizeOf};
+ghost use Rattle.area.specs.Turn.{basicTurn, turnOf};
 ghost use Rattle.area.specs.Area.{badSize, walkOf};
 ghost use Rattle.area.specs.Stages.{isMet, octetOf, placeOf};
 ghost use Prim.Native.Nat.{_<_};
+
+// The types of options that the walk tells apart: 0, 1, 130 (basic security), 133 (extended security), 134, and all others.
+pub enum Kind {
+    End,
+    NoOperation,
+    Basic,
+    Extended,
+    Cipso,
+    Other,
+}
+
+// The length of an option: whole, or missing, under 2 or past the area.
+pub enum Size {
+    Whole(usize),
+    Bad,
+}
+
+// The type of an option, by its first octet.
+pub fn read_kind(octet: u8) -> Kind
+    ensures { λ r. ⌜ r ≡ kindOf octet ⌝ }
+{
+    match octet {
+        0 => Kind::End,
+        1 => Kind::NoOperation,
+        130 => Kind::Basic,
+        133 => Kind::Extended,
+        134 => Kind::Cipso,
+        2..=129 | 131..=132 | 135..=255 => Kind::Other,
+    }
+}
+
+// The length of the option that the octets start with.
+pub fn read_size(rest: &[u8]) -> Size
+    ensures { λ r. ⌜ r ≡ sizeOf (now (rest .entry)) ⌝ }
+{
+    if rest.len() < 2 {
+        return Size::Bad;
+    }
+    let n = rest[1] as usize;
+    if n < 2 {
+        return Size::Bad;
+    }
+    if n <= rest.len() {
+        Size::Whole(n)
+    } else {
+        Size::Bad
+    }
+}
+
+// Where an option is: nowhere, or at an octet of the area.
+pub enum Place {
+    Nowhere,
+    At(usize),
+}
+
+// What the walk answers: the places of the option 134 and of the option 130, or a refusal (3, 4 or 5) with the octet of the option's type.
+pub enum Walk {
+    Sound(Place, Place),
+    Refused(u8, usize),
+}
+
+// What one option makes of the walk: it is done, or goes on over some octets.
+pub enum Turn {
+    Done(Walk),
+    On(usize, Place, Place),
+}
+
+// One option of the walk, which stands at an octet: within it 3 comes first, then 4, then 5. `on` says whether option 130 is read; `label` and
+// `basic` are the places of the options 134 and 130 that were met before.
+pub fn take_turn(on: bool, kind: Kind, size: Size, at: usize, label: Place, basic: Place) -> Turn
+    ensures { λ r. ⌜ r ≡ turnOf on kind size at label basic ⌝ }
+{
+    match kind {
+        Kind::End => Turn::Done(Walk::Sound(label, basic)),
+        Kind::NoOperation => Turn::On(1, label, basic),
+        Kind::Basic => match size {
+            Size::Bad => Turn::Done(Walk::Refused(3, at)),
+            Size::Whole(n) => take_basic(on, n, at, label, basic),
+        },
+        Kind::Extended => match size {
+            Size::Bad => Turn::Done(Walk::Refused(3, at)), // 3 before 4
+            Size::Whole(_) => Turn::Done(Walk::Refused(4, at)),
+        },
+        Kind::Cipso => match size {
+            Size::Bad => Turn::Done(Walk::Refused(3, at)),
+            Size::Whole(n) => match label {
+                Place::Nowhere => Turn::On(n, Place::At(at), basic),
+                Place::At(_) => Turn::Done(Walk::Refused(5, at)),
+            },
+        },
+        Kind::Other => match size {
+            Size::Bad => Turn::Done(Walk::Refused(3, at)),
+            Size::Whole(n) => Turn::On(n, label, basic),
+        },
+    }
+}
+
+// A whole option 130 of n octets.
+fn take_basic(on: bool, n: usize, at: usize, label: Place, basic: Place) -> Turn
+    ensures { λ r. ⌜ r ≡ basicTurn on n at label basic ⌝ }
+{
+    if !on {
+        return Turn::Done(Walk::Refused(4, at));
+    }
+    match basic {
+        Place::Nowhere => Turn::On(n, label, Place::At(at)),
+        Place::At(_) => Turn::Done(Walk::Refused(5, at)),
+    }
+}
 
 // Check 1 of an area of n octets: over 40, or not a multiple of 4.
 pub fn bad_area(n: usize) -> bool

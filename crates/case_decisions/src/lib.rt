@@ -18,8 +18,8 @@ use case_fields::take_wide_table;
 use case_lines::put_broken;
 use case_lines::put_decision;
 use case_lines::put_lent;
-use delivery::deliver;
-use gateway::forward;
+use deliver::deliver;
+use forward::forward;
 
 // Entries 6 and 8: `all` tells whether five facts are stated or a mark.
 pub fn ask_forward(case: &[u8], at: usize, all: bool, out: &mut [u8], n: usize) -> usize {

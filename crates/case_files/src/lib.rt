@@ -9,11 +9,11 @@ use case_fields::take_wide_port;
 use case_lines::put_broken;
 use case_lines::put_part;
 use case_routes::take_tables;
-use file::read_file;
-use fileset::Set;
-use fileset::empty_set;
-use filewrite::Written;
-use filewrite::write_file;
+use file_read::read_file;
+use file_set::Set;
+use file_set::empty_set;
+use file_write::Written;
+use file_write::write_file;
 use text::put_next;
 use text::put_word;
 

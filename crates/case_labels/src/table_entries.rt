@@ -3,9 +3,9 @@ use case_fields::levels_at;
 use case_fields::take_limited;
 use case_fields::take_wide_table;
 use case_lines::put_broken;
-use reverse::Head;
-use reverse::reverse_levels;
-use reverse::reverse_rows;
+use renumber_reverse::Head;
+use renumber_reverse::reverse_levels;
+use renumber_reverse::reverse_rows;
 use text::put_decimal;
 use text::put_next;
 

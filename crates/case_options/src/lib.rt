@@ -1,7 +1,6 @@
 // Entries 4, 5, 13, 14, 17 and 24 of the program `cases`: one option spelled and read, option 130 read and written, and a bitmap read by the table of octets.
-use basic_option::read_basic;
-use basic_option::write_basic;
-use bitmap::read_bitmap;
+use basic::read_basic;
+use basic::write_basic;
 use case_fields::LONGEST;
 use case_fields::TakenLabel;
 use case_fields::octets_of;
@@ -16,8 +15,9 @@ use case_lines::put_label;
 use case_lines::put_lent;
 use label::Label;
 use option::Spellings;
-use reading::read_option;
-use spelling::spell_label;
+use option_read::read_option;
+use option_read_bitmap::read_bitmap;
+use option_spell::spell_label;
 use text::put_decimal;
 use text::put_next;
 

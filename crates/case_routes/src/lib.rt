@@ -11,12 +11,12 @@ use case_fields::take_wide_port;
 use case_fields::take_wide_table;
 use case_fields::take_word;
 use decision::Facts;
-use fileset::empty_port;
-use fileset::empty_table;
-use filetable::LevelPair;
-use filetable::Renumbering;
+use file_set::empty_port;
+use file_set::empty_table;
+use file_table::LevelPair;
+use file_table::Renumbering;
 use port::Port;
-use tables::Tables;
+use table_choose::Tables;
 
 // The ports of a case: the first `count` are used.
 pub struct TakenPorts {

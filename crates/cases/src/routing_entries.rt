@@ -2,8 +2,8 @@
 ghost use mathlib.Core.Path.{_≡_};
 ghost use Prim.Native.Nat.{_≤_};
 ghost use lib.ListN.{length, take};
-ghost use Rattle.routing.specs.Routing.{routingOf, routedOutput};
-ghost use Rattle.routing.specs.Stages.{routingFor};
+ghost use Rattle.route_decide.specs.Routing.{routingOf, routedOutput};
+ghost use Rattle.route_decide.specs.Stages.{routingFor};
 use case_fields::LONGEST;
 use case_fields::octets_of;
 use case_lines::put_broken;
@@ -20,8 +20,8 @@ use case_routes::take_tables;
 use decision::Decision;
 use decision::Facts;
 use port::Port;
-use routing::decide;
-use tables::Tables;
+use route_decide::decide;
+use table_choose::Tables;
 
 // Lends the first `n` of the ports. No function that makes a slice of a local array of structs is covered, so this one is proved by a walk of its MIR, by hand,
 // and has no more in it than it must.

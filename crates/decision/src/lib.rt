@@ -1,7 +1,7 @@
 // What is decided of a datagram, what is decided on the way to it, and when the report of a refusal stays silent (document 01, "The order of checks";
 // document 02, Wish 2).
-use keys::to_label;
 use label::Label;
+use label_keys::to_label;
 ghost use mathlib.Core.Path.{_≡_};
 ghost use mathlib.Core.Bool.{cond};
 ghost use lib.Dec.{eqb};

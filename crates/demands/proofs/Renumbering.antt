@@ -14,10 +14,10 @@ use Rattle.label.proofs.Bools.{never, and-right, all-below, below-all, implies-
 use Rattle.label.proofs.Runs.{covers-top}
 use Rattle.label.proofs.Labels.{formed}
 use Rattle.table.specs.declared.Table.{Table}
-use Rattle.levels.specs.declared.Partner.{Partner}
-use Rattle.levels.specs.declared.Partner.the-variants.{Level, Missing}
+use Rattle.table_levels.specs.declared.Partner.{Partner}
+use Rattle.table_levels.specs.declared.Partner.the-variants.{Level, Missing}
 use Rattle.table.specs.Table.{usedRows, tableSound}
-use Rattle.levels.specs.Levels.{partnerOf}
+use Rattle.table_levels.specs.Levels.{partnerOf}
 use Rattle.table.specs.Numbers.{hasNumber, numbered}
 use Rattle.renumber.specs.declared.Renumbered.{Renumbered}
 use Rattle.renumber.specs.Renumber.{notRenumbered, renumberedAs, imageRuns, renumberedOf}

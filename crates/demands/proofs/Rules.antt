@@ -13,30 +13,30 @@ use borrow.Author.Tests.{eqb-true}
 use Rattle.label.specs.declared.Label.{Label}
 use Rattle.option.specs.Option.{domainOf, isEven}
 use Rattle.option.specs.Index.{firstTrue, pairsOf}
-use Rattle.reading.specs.Reading.{Check, check, notRead, badIn, countIn, badPlace, tagChecks, labelIn, readingBy, readingFor}
-use Rattle.reading.specs.Reading as reading
-use Rattle.reading.specs.declared.Reading.{Reading}
-use Rattle.kinds.specs.declared.Kind.{Kind}
-use Rattle.kinds.specs.declared.Kind.the-variants.{End, NoOperation, Basic, Extended, Cipso, Other}
-use Rattle.kinds.specs.declared.Size.{Size}
-use Rattle.kinds.specs.declared.Size.the-variants.{Whole, Bad}
-use Rattle.turn.specs.declared.Place.{Place}
-use Rattle.turn.specs.declared.Place.the-variants.{Nowhere, At}
-use Rattle.kinds.specs.Kinds.{kindOf}
+use Rattle.option_read.specs.Reading.{Check, check, notRead, badIn, countIn, badPlace, tagChecks, labelIn, readingBy, readingFor}
+use Rattle.option_read.specs.Reading as reading
+use Rattle.option_read.specs.declared.Reading.{Reading}
+use Rattle.area.specs.declared.Kind.{Kind}
+use Rattle.area.specs.declared.Kind.the-variants.{End, NoOperation, Basic, Extended, Cipso, Other}
+use Rattle.area.specs.declared.Size.{Size}
+use Rattle.area.specs.declared.Size.the-variants.{Whole, Bad}
+use Rattle.area.specs.declared.Place.{Place}
+use Rattle.area.specs.declared.Place.the-variants.{Nowhere, At}
+use Rattle.area.specs.Kinds.{kindOf}
 use Rattle.area.specs.Area.{Met, metOf, judged, walkOf, octetsAt, WholeAt}
-use Rattle.kinds.proofs.Laws.{cipso-octet, basic-octet}
+use Rattle.area.proofs.KindLaws.{cipso-octet, basic-octet}
 use Rattle.area.proofs.Laws.{sound-placed}
-use Rattle.basic_option.specs.Option.{basicLevel, basicFlags, basicValid}
-use Rattle.basic_option.specs.Alone.{basicFound, basicBad, basicReading}
-use Rattle.leaving.specs.Kept.{keptOf}
+use Rattle.basic.specs.Option.{basicLevel, basicFlags, basicValid}
+use Rattle.basic.specs.Alone.{basicFound, basicBad, basicReading}
+use Rattle.area_leaving.specs.Kept.{keptOf}
 use Rattle.port.specs.declared.Port.{Port}
 use Rattle.decision.specs.Decision.{Refusal, silenced, decided}
-use Rattle.arrival.specs.Checks.{faulty, when, firstOf, walkAt, walkRefusal, walkCheck, placeIn, basicIn, optionAt, requiredBy, requiredCheck, optionBy, optionCheck, badBasicBy, badBasicCheck, arrivingBasic, missingBasicBy, missingBasicCheck, basicRangeCheck, rangeCheck}
-use Rattle.delivery.specs.Delivery.{Delivery, deliverySizes, deliveryRecords, hostCheck, deliverChecks, deliverOf}
-use Rattle.arrival.proofs.First.{orElse, first-append}
-use Rattle.arrival.proofs.Arrival.{whole-inside}
-use Rattle.forwarding.specs.Crossing.{Forwarding, sizes, records, leavingBasicCheck, crossing, numberCheck, leavingCheck, spellingCheck}
-use Rattle.forwarding.specs.Forward.{forwardChecks, forwardOf}
+use Rattle.arrive.specs.Checks.{faulty, when, firstOf, walkAt, walkRefusal, walkCheck, placeIn, basicIn, optionAt, requiredBy, requiredCheck, optionBy, optionCheck, badBasicBy, badBasicCheck, arrivingBasic, missingBasicBy, missingBasicCheck, basicRangeCheck, rangeCheck}
+use Rattle.deliver.specs.Delivery.{Delivery, deliverySizes, deliveryRecords, hostCheck, deliverChecks, deliverOf}
+use Rattle.arrive.proofs.First.{orElse, first-append}
+use Rattle.arrive.proofs.Arrival.{whole-inside}
+use Rattle.forward_rules.specs.Crossing.{Forwarding, sizes, records, leavingBasicCheck, crossing, numberCheck, leavingCheck, spellingCheck}
+use Rattle.forward_rules.specs.Forward.{forwardChecks, forwardOf}
 use Rattle.demands.specs.Rules.{Rule, rule, isAt, octetAt, labelRules, rangeRule, arrivingBasicRule, forwardInputs, deliverInputs, leavingBasicRule, crossingRules, hostRules, byOption, forwardTests, deliverTests, NoRule, FirstRule, reportOf, Follows, passes, stops, StandsAt, BadAt, OrderOfChecks}
 use Rattle.demands.proofs.Second.{forwarded-passes, delivered-passes}
 

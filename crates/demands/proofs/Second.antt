@@ -12,19 +12,19 @@ use borrow.Author.Tests.{eqb-true, eqb-false, eq-eqb, ne-eqb, le-ltb, ltb-false}
 use Rattle.label.specs.declared.Label.{Label}
 use Rattle.label.specs.Label.{wellFormed, inRange}
 use Rattle.label.proofs.Bools.{and-left, and-right, or-none}
-use Rattle.keys.specs.Range.{setInRange}
+use Rattle.label_keys.specs.Range.{setInRange}
 use Rattle.option.specs.Option.{Octets}
 use Rattle.option.specs.Spelling.{spelledOf}
 use Rattle.option.proofs.OneSpelling.{one-spelling}
-use Rattle.reading.specs.declared.Reading.{Reading}
-use Rattle.reading.specs.Reading.{found, readingFor}
-use Rattle.reading.proofs.Theorems.{reads}
-use Rattle.turn.specs.declared.Place.{Place}
-use Rattle.turn.specs.declared.Place.the-variants.{Nowhere, At}
-use Rattle.turn.specs.declared.Walk.{Walk}
-use Rattle.turn.specs.declared.Walk.the-variants.{Sound, Refused}
+use Rattle.option_read.specs.declared.Reading.{Reading}
+use Rattle.option_read.specs.Reading.{found, readingFor}
+use Rattle.option_read.proofs.Theorems.{reads}
+use Rattle.area.specs.declared.Place.{Place}
+use Rattle.area.specs.declared.Place.the-variants.{Nowhere, At}
+use Rattle.area.specs.declared.Walk.{Walk}
+use Rattle.area.specs.declared.Walk.the-variants.{Sound, Refused}
 use Rattle.area.proofs.Laws.{sound-placed}
-use Rattle.leaving.specs.Kept.{keptOf, roundUp, leavingOf}
+use Rattle.area_leaving.specs.Kept.{keptOf, roundUp, leavingOf}
 use Rattle.port.specs.declared.Port.{Port}
 use Rattle.port.specs.Port.{portSound, hostSound, lowestOut, highestOut}
 use Rattle.port.proofs.Laws.{sound, range-formed, default-in}
@@ -36,17 +36,17 @@ use Rattle.renumber.proofs.Theorems.{renumbering, agrees}
 use Rattle.decision.specs.declared.Decision.{Decision}
 use Rattle.decision.specs.Decision.{Refusal, silenced, refused, decided}
 use Rattle.area.specs.Area.{badArea}
-use Rattle.arrival.specs.Checks.{silent, barred, firstOf, NoneApplies, walkAt, walkCheck, optionAt, requiredBy, requiredCheck, optionBy, optionCheck, labelBy, arrivingLabel, rangeCheck, arrivalChecks}
-use Rattle.delivery.specs.Delivery.{Delivery, deliverySizes, deliveryRecords, hostCheck, deliverChecks, deliverOf}
+use Rattle.arrive.specs.Checks.{silent, barred, firstOf, NoneApplies, walkAt, walkCheck, optionAt, requiredBy, requiredCheck, optionBy, optionCheck, labelBy, arrivingLabel, rangeCheck, arrivalChecks}
+use Rattle.deliver.specs.Delivery.{Delivery, deliverySizes, deliveryRecords, hostCheck, deliverChecks, deliverOf}
 use Rattle.decision.specs.Decision as decision
-use Rattle.arrival.proofs.First.{Real, real-first, real-when, first-none, none-first, when-none, first-append, not-false-yes, real-else}
-use Rattle.arrival.proofs.Arrival.{placed-framed, octets-part, Held, arrival-held, arrival-real, in-range-held}
-use Rattle.delivery.proofs.Deliveries.{deliver-done}
-use Rattle.forwarding.specs.Crossing.{noRoom, Forwarding, sameDomain, Crossing, crossing, stays, leavingLabel, leavingOption, sizes, records, numberCheck, leavingCheck, leavingLevel, leavingRuns}
-use Rattle.forwarding.specs.Forward.{forwardChecks, forwardOf, outputOf}
-use Rattle.forwarding.specs.Crossing.{crossingChecks}
-use Rattle.forwarding.proofs.Crossings.{label-stays, stays-inside, stays-outside, Crossed, crossed, crossed-carried, crosses-passed, default-is}
-use Rattle.forwarding.proofs.Forwards.{reachChecks, recordsTest, Passed, forward-passed, passed-formed, forward-real, forward-fits, forward-done, forward-range, forward-none, kept-fits, leaving-spelled, leaving-none, reach-arrival, forward-refused}
+use Rattle.arrive.proofs.First.{Real, real-first, real-when, first-none, none-first, when-none, first-append, not-false-yes, real-else}
+use Rattle.arrive.proofs.Arrival.{placed-framed, octets-part, Held, arrival-held, arrival-real, in-range-held}
+use Rattle.deliver.proofs.Deliveries.{deliver-done}
+use Rattle.forward_rules.specs.Crossing.{noRoom, Forwarding, sameDomain, Crossing, crossing, stays, leavingLabel, leavingOption, sizes, records, numberCheck, leavingCheck, leavingLevel, leavingRuns}
+use Rattle.forward_rules.specs.Forward.{forwardChecks, forwardOf, outputOf}
+use Rattle.forward_rules.specs.Crossing.{crossingChecks}
+use Rattle.forward_rules.proofs.Crossings.{label-stays, stays-inside, stays-outside, Crossed, crossed, crossed-carried, crosses-passed, default-is}
+use Rattle.forward_rules.proofs.Forwards.{reachChecks, recordsTest, Passed, forward-passed, passed-formed, forward-real, forward-fits, forward-done, forward-range, forward-none, kept-fits, leaving-spelled, leaving-none, reach-arrival, forward-refused}
 use Rattle.demands.proofs.Basic.{octets-at, basic-arrives, basic-passes, Unbarred, arrives-unbarred, passes-unbarred, passes-sent}
 use Rattle.demands.specs.Demands.{AreaSound, LabelOf, own, assigned, Forwards, Delivers, Demand2, earlierChecks}
 

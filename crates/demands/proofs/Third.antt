@@ -16,23 +16,23 @@ use Rattle.option.specs.Permitted.{usual, Permitted}
 use Rattle.option.specs.Spelling.{padded, spelledOf}
 use Rattle.option.specs.Theorems.{Spells, Shortest}
 use Rattle.option.proofs.OneSpelling.{one-spelling, usual-spelling, spelled-or-none}
-use Rattle.reading.proofs.Theorems.{reads}
-use Rattle.forms.specs.Spelled.{lacking, lengthOf}
-use Rattle.spelling.specs.Spelling.{spellingAnswer, spellingOut}
-use Rattle.spelling.proofs.Theorems.{spelling-alone}
-use Rattle.turn.specs.declared.Place.the-variants.{At}
-use Rattle.leaving.specs.Kept.{keptOf, roundUp, leavingOf}
+use Rattle.option_read.proofs.Theorems.{reads}
+use Rattle.option_form.specs.Spelled.{lacking, lengthOf}
+use Rattle.option_spell.specs.Spelling.{spellingAnswer, spellingOut}
+use Rattle.option_spell.proofs.Theorems.{spelling-alone}
+use Rattle.area.specs.declared.Place.the-variants.{At}
+use Rattle.area_leaving.specs.Kept.{keptOf, roundUp, leavingOf}
 use Rattle.port.specs.declared.Port.{Port}
 use Rattle.port.specs.declared.Host.{Host}
 use Rattle.decision.specs.declared.Decision.{Decision}
 use Rattle.decision.specs.Decision.{Refusal, silenced, decided}
-use Rattle.arrival.specs.Checks.{barred, when, firstOf, badBasicCheck, arrivingBasic, missingBasicBy, missingBasicCheck, basicPasses, basicRangeCheck, arrivingLabel, rangeCheck}
-use Rattle.delivery.specs.Delivery.{Delivery, deliverySizes, deliveryRecords, hostCheck, deliverOf}
-use Rattle.forwarding.specs.Crossing.{Forwarding, sizes, records, leavingBasicCheck, Crossing, crossing, numberCheck, leavingCheck, spellingCheck, leavingLabel, leavingOption}
-use Rattle.forwarding.specs.Forward.{forwardChecks, forwardOf, written, outputOf}
-use Rattle.forwarding.proofs.Forwards.{forward-passed}
+use Rattle.arrive.specs.Checks.{barred, when, firstOf, badBasicCheck, arrivingBasic, missingBasicBy, missingBasicCheck, basicPasses, basicRangeCheck, arrivingLabel, rangeCheck}
+use Rattle.deliver.specs.Delivery.{Delivery, deliverySizes, deliveryRecords, hostCheck, deliverOf}
+use Rattle.forward_rules.specs.Crossing.{Forwarding, sizes, records, leavingBasicCheck, Crossing, crossing, numberCheck, leavingCheck, spellingCheck, leavingLabel, leavingOption}
+use Rattle.forward_rules.specs.Forward.{forwardChecks, forwardOf, written, outputOf}
+use Rattle.forward_rules.proofs.Forwards.{forward-passed}
 use Rattle.demands.specs.Demands.{own, MeansAt, Alike, AlikeDelivered, Demand3}
-use Rattle.leaving.proofs.Again.{basicFrom}
+use Rattle.area_leaving.proofs.Again.{basicFrom}
 use Rattle.demands.proofs.Basic.{basic-kept}
 use Rattle.demands.proofs.Second.{Reads, label-reads, forwarded-passes, demand2}
 

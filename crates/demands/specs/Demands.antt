@@ -15,23 +15,23 @@ use Rattle.option.specs.declared.Spellings.{Spellings}
 use Rattle.option.specs.Permitted.{usual, Permitted}
 use Rattle.option.specs.Spelling.{padded}
 use Rattle.option.specs.Theorems.{Spells, Shortest}
-use Rattle.reading.specs.Reading.{found, readingOf}
-use Rattle.spelling.specs.Spelling.{spellingAnswer, spellingOut}
-use Rattle.turn.specs.declared.Place.{Place}
-use Rattle.turn.specs.declared.Place.the-variants.{Nowhere, At}
-use Rattle.turn.specs.declared.Walk.the-variants.{Sound}
-use Rattle.basic_option.specs.Option.{BasicMeans}
+use Rattle.option_read.specs.Reading.{found, readingOf}
+use Rattle.option_spell.specs.Spelling.{spellingAnswer, spellingOut}
+use Rattle.area.specs.declared.Place.{Place}
+use Rattle.area.specs.declared.Place.the-variants.{Nowhere, At}
+use Rattle.area.specs.declared.Walk.the-variants.{Sound}
+use Rattle.basic.specs.Option.{BasicMeans}
 use Rattle.basic.specs.Theorems.{BasicPermitted}
-use Rattle.leaving.specs.Kept.{keptOf, roundUp, leavingOf}
+use Rattle.area_leaving.specs.Kept.{keptOf, roundUp, leavingOf}
 use Rattle.port.specs.declared.Port.{Port}
 use Rattle.port.specs.Port.{portSound, hostSound}
 use Rattle.table.specs.Table.{tableSound}
 use Rattle.renumber.specs.Theorems.{Far}
 use Rattle.decision.specs.Decision.{Refusal, silenced, refused, done}
-use Rattle.arrival.specs.Checks.{NoneApplies, walkAt, optionAt, badBasicCheck, optionChecks, rangeCheck}
-use Rattle.delivery.specs.Delivery.{Delivery, deliverySizes, deliveryRecords, deliverChecks, deliverOf}
-use Rattle.forwarding.specs.Crossing.{Forwarding, sizes, records, leavingBasicCheck, crossing, numberCheck}
-use Rattle.forwarding.specs.Forward.{forwardChecks, forwardOf, outputOf}
+use Rattle.arrive.specs.Checks.{NoneApplies, walkAt, optionAt, badBasicCheck, optionChecks, rangeCheck}
+use Rattle.deliver.specs.Delivery.{Delivery, deliverySizes, deliveryRecords, deliverChecks, deliverOf}
+use Rattle.forward_rules.specs.Crossing.{Forwarding, sizes, records, leavingBasicCheck, crossing, numberCheck}
+use Rattle.forward_rules.specs.Forward.{forwardChecks, forwardOf, outputOf}
 
 -- Demand 1: "Bad input gets the first refusal that applies in document 01's order, with its ICMP type, code and pointer, and the output buffer
 -- is untouched."

@@ -17,9 +17,9 @@ use Rattle.table.specs.declared.Table.{Table}
 use Rattle.decision.specs.declared.Decision.{Decision}
 use Rattle.decision.specs.declared.Facts.{Facts}
 use Rattle.decision.specs.Decision.{silenced, noFact}
-use Rattle.forwarding.specs.Crossing.{Forwarding}
-use Rattle.forwarding.specs.Forward.{forwardOf, outputOf}
-use Rattle.delivery.specs.Delivery.{Delivery, deliverOf}
+use Rattle.forward_rules.specs.Crossing.{Forwarding}
+use Rattle.forward_rules.specs.Forward.{forwardOf, outputOf}
+use Rattle.deliver.specs.Delivery.{Delivery, deliverOf}
 
 -- A label of domain 5 with at most one run; the all-zero label.
 abbrev pub bare : ℕ → Label

@@ -1,9 +1,9 @@
 // Labels renumbered by tables that scatter them: each line has the number, then the domain, the level, the count of runs and the runs.
-use carry::MOST_RUNS;
-use keys::Look;
 use label::Label;
 use label::Run;
+use label_keys::Look;
 use renumber::Renumbered;
+use renumber_keys::MOST_RUNS;
 use table::Row;
 use table::Table;
 
@@ -126,10 +126,10 @@ fn refused(number: u8) -> Renumbered {
 
 // Whether a level and the runs of the first n keys lie between two labels.
 fn between(keys: &[u32], n: usize, level: u8, lowest: Label, highest: Label) -> bool {
-    match keys::look_between(keys, n, level, lowest, highest) {
+    match label_keys::look_between(keys, n, level, lowest, highest) {
         Look::Within => true,
         Look::Outside => false,
-        Look::Open => keys::runs_between(keys, n, lowest, highest),
+        Look::Open => label_keys::runs_between(keys, n, lowest, highest),
     }
 }
 
@@ -142,9 +142,9 @@ fn toward(
     highest: Label,
 ) -> Renumbered {
     let mut own = [0u32; 120];
-    keys::label_keys(label, &mut own);
+    label_keys::label_keys(label, &mut own);
     let mut far = [0u32; MOST_RUNS];
-    let carried = carry::carry(&own, label.count, label.level, table, levels, &mut far);
+    let carried = renumber_keys::carry(&own, label.count, label.level, table, levels, &mut far);
     if carried.number != 0 {
         return refused(carried.number);
     }
@@ -155,7 +155,7 @@ fn toward(
     if Label::MAX_RUNS < n {
         return refused(18);
     }
-    let there = keys::to_label(&far, n, table.to, carried.level);
+    let there = label_keys::to_label(&far, n, table.to, carried.level);
     Renumbered {
         number: 0,
         label: there,

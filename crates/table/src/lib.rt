@@ -8,11 +8,11 @@ ghost use lib.ListN.{length, drop, replicate};
 ghost use Rattle.table.specs.Table.{targetEnd, unusedRows, tableSound};
 ghost use Rattle.table.specs.Order.{orderOf};
 ghost use Rattle.table.specs.Stages.{fieldsSound, fewEnd, wordsZero, RowsRise, RowsOrder};
-use levels::Levels;
-use levels::levels_sound;
-use order::sort_keys;
-use rows::row_rises;
-use rows::targets_apart;
+use lists_sort::sort_keys;
+use table_levels::Levels;
+use table_levels::levels_sound;
+use table_rows::row_rises;
+use table_rows::targets_apart;
 
 // The categories from low to high go to those from target on.
 pub struct Row {

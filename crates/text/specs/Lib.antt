@@ -1,2 +1,4 @@
 pub mod Put
 pub mod Text
+pub mod Line
+pub mod Theorems
