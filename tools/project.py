@@ -69,7 +69,8 @@ def purpose(crate):
         if not line.startswith("// "):
             break
         said.append(line[3:])
-    text = " ".join(said)
+    # the papers that it cites are left out
+    text = re.sub(r" \((?:document|docs/|RFC|wish|Wish)[^()]*\)", "", " ".join(said))
     return re.split(r"(?<=[a-z0-9)\"])\. |\.$", text)[0]
 
 
