@@ -4,7 +4,8 @@ import os
 import re
 import sys
 
-ROOT = os.path.dirname(os.path.dirname(os.path.abspath(__file__)))
+from common import ROOT
+
 Crate = collections.namedtuple("Crate", "name uses family")
 
 
@@ -15,18 +16,6 @@ def read(path):
 
 def exists(path):
     return os.path.exists(os.path.join(ROOT, path))
-
-
-def arguments(usage, *known):
-    """The one argument that was given, or none; any other is refused in a line."""
-    given = sys.argv[1:]
-    if given == ["--help"]:
-        print(usage)
-        sys.exit(0)
-    if len(given) > 1 or any(word not in known for word in given):
-        print(usage.splitlines()[-1], file=sys.stderr)
-        sys.exit(2)
-    return given[0] if given else None
 
 
 def store(path, text, check):
