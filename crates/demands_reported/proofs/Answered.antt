@@ -22,9 +22,9 @@ use Rattle.area.proofs.Laws.{area-refused, sound-placed}
 use Rattle.arrive.specs.Checks.{silent as silentAs, faulty, optionAt, when, firstOf, walkAt, walkRefusal, walkCheck, placeIn, requiredBy, requiredCheck, optionBy, optionCheck}
 use Rattle.arrive.proofs.Arrival.{placed-framed}
 use Rattle.arrive.proofs.Pointer.{reading-number}
-use Rattle.message.proofs.Theorems.{octets-take, octets-drop}
+use Rattle.option.proofs.Octets.{octets-take, octets-drop}
 use Rattle.message_reply.specs.Reply.{padded, replyArea}
-use Rattle.message_reply.proofs.Walk.{sound-open}
+use Rattle.area.proofs.Open.{sound-open}
 use Rattle.message_reply.proofs.Theorems.{replies}
 use Rattle.message_build.specs.declared.Report.{Report}
 use Rattle.message_build.specs.Build.{silent, unanswered, areaOf, sent}

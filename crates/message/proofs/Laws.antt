@@ -11,18 +11,11 @@ use lib.Dec.{leb, eqb}
 use lib.ListN.{length, getD, take, drop, length-append, length-take, length-drop}
 use lib.Seq.{take-all, take-at, drop-at, length-take-le, getD-take, drop-drop}
 use Rattle.lists.specs.Lists.{paint, copied}
-use Rattle.lists.proofs.Laws.{tail-is, copied-whole, paint-two, paint-length, Back, back-written}
+use Rattle.lists.proofs.Laws.{tail-is, copied-whole, paint-two, paint-length, Back, back-copied}
 use Rattle.message_checksum.specs.Checksum.{wordsIn, onesFrom, checksumOf}
 use Rattle.message_checksum.proofs.Laws.{blank-checksum}
 use Rattle.message.specs.Message.{octetsWith, messageOf, reports, headerLength, wholeHeader, kindIn, codeIn, checkIn, pointerIn, blanked, isMessage, notRead, partsOf, writtenOf, messageAfter}
 use Rattle.message.specs.Stages.{wholeQuote, threeZeros, checkSet}
-
--- a list copied over a part of another from a place on
-pub back-copied : (w : ℕ) (xs out part : List ℕ) → w + length xs ≤ length out → part ≡ copied xs (take (length out - w) (drop w out))
-    → Back w (length out) out part ≡ paint w xs out
-back-copied w xs out part h e =
-    let l : length (take (length out - w) (drop w out)) ≡ length out - w = length-take-le (length out - w) (drop w out) (rw length-drop (omega arith)) in
-    back-written w (length out) out part xs h (omega arith) (e ∙ copied-whole xs (take (length out - w) (drop w out)) (omega arith))
 
 -- The message with its checksum field zero, written by three copies.
 module _ (kind code pointer : ℕ) (header payload out : List ℕ) (h : 8 + length header + length payload ≤ length out) where

@@ -9,7 +9,9 @@ use borrow.Author.Tests.{le-leb, leb-true, eq-eqb, eqb-true}
 use lib.Dec.{leb, eqb}
 use lib.ListN.{length, getD, take, drop, length-take, length-drop, take-append-drop, List·getD-append}
 use lib.Seq.{take-all, take-at, drop-at}
+use Rattle.label.proofs.Bools.{and-left, and-right}
 use Rattle.option.specs.Option.{Octets}
+use Rattle.option.proofs.Octets.{octet-at, octets-append, octets-take, octets-drop}
 use Rattle.message_checksum.specs.Checksum.{onesSum, checksumOf}
 use Rattle.message_checksum.proofs.Theorems.{sums-to-ones}
 use Rattle.message.specs.Message.{partsOf, octetsWith, messageOf, reports, headerLength, wholeHeader, isMessage, kindIn, codeIn, pointerIn, headerIn, payloadIn}
@@ -18,41 +20,17 @@ use Rattle.message.specs.Examples.{WorkedMessages}
 use Rattle.message.specs.Theorems.{Reported, Built, GivenBack, Messages}
 use Rattle.message.proofs.Laws.{Accepted, accepted, accepting, quote, header-is}
 
-both : (a b : Bool) → (a && b) ≡ true → (a ≡ true) × (b ≡ true)
-both true b e = (refl, e)
-both false b e = absurd (let z : _≡_ {A = ℕ} 0 1 = cc in omega arith)
-
--- Octets of parts.
-octets-append : (a b : List ℕ) → Octets a → Octets b → Octets (a ++ b)
-octets-append [] b h k = k
-octets-append (x ∷ a) b h k = (h .0, octets-append a b (h .1) k)
-
-pub octets-take : (n : ℕ) (a : List ℕ) → Octets a → Octets (take n a)
-octets-take zero a h = tt
-octets-take (suc n) [] h = tt
-octets-take (suc n) (x ∷ a) h = (h .0, octets-take n a (h .1))
-
-pub octets-drop : (n : ℕ) (a : List ℕ) → Octets a → Octets (drop n a)
-octets-drop zero a h = h
-octets-drop (suc n) [] h = tt
-octets-drop (suc n) (x ∷ a) h = octets-drop n a (h .1)
-
-octet-at : (a : List ℕ) (i : ℕ) → Octets a → getD a i 0 < 256
-octet-at [] i h = omega arith
-octet-at (x ∷ a) zero h = h .0
-octet-at (x ∷ a) (suc i) h = octet-at a i (h .1)
-
 -- What is quoted behind a whole header.
 module _ (header payload : List ℕ) (w : wholeHeader header ≡ true) where
   pub whole-least : 20 ≤ length header
   whole-least =
-      let p = both (leb 20 (headerLength header)) (eqb (length header) (headerLength header)) (sym (header-is header) ∙ w) in
-      let a : 20 ≤ headerLength header = leb-true _ _ (p .0) in
-      let b : length header ≡ headerLength header = eqb-true _ _ (p .1) in
+      let p : (leb 20 (headerLength header) && eqb (length header) (headerLength header)) ≡ true = sym (header-is header) ∙ w in
+      let a : 20 ≤ headerLength header = leb-true _ _ (and-left (leb 20 (headerLength header)) (eqb (length header) (headerLength header)) p) in
+      let b : length header ≡ headerLength header = eqb-true _ _ (and-right (leb 20 (headerLength header)) (eqb (length header) (headerLength header)) p) in
       omega arith
 
   whole-length : length header ≡ headerLength header
-  whole-length = eqb-true _ _ (both (leb 20 (headerLength header)) (eqb (length header) (headerLength header)) (sym (header-is header) ∙ w) .1)
+  whole-length = eqb-true _ _ (and-right (leb 20 (headerLength header)) (eqb (length header) (headerLength header)) (sym (header-is header) ∙ w))
 
   quote-length : headerLength (header ++ payload) ≡ length header
   quote-length = ap (λ (x : ℕ). 4 * (x % 16)) (List·getD-append header payload 0 0 (omega (arith, whole-least))) ∙ sym whole-length
@@ -107,11 +85,10 @@ word-octets a b h = (omega arith, omega arith)
 only-by : (o : List ℕ) → Octets o → Accepted o → o ≡ messageOf (kindIn o) (codeIn o) (pointerIn o) (headerIn o) (payloadIn o)
 unfolding messageOf
 only-by (a ∷ b ∷ c ∷ d ∷ p ∷ x ∷ y ∷ z ∷ q) oct t =
-    let u = both (eqb x 0) (eqb y 0 && eqb z 0) (t .zeros) in
-    let v = both (eqb y 0) (eqb z 0) (u .1) in
-    let ex : 0 ≡ x = sym (eqb-true x 0 (u .0)) in
-    let ey : 0 ≡ y = sym (eqb-true y 0 (v .0)) in
-    let ez : 0 ≡ z = sym (eqb-true z 0 (v .1)) in
+    let u : (eqb y 0 && eqb z 0) ≡ true = and-right (eqb x 0) (eqb y 0 && eqb z 0) (t .zeros) in
+    let ex : 0 ≡ x = sym (eqb-true x 0 (and-left (eqb x 0) (eqb y 0 && eqb z 0) (t .zeros))) in
+    let ey : 0 ≡ y = sym (eqb-true y 0 (and-left (eqb y 0) (eqb z 0) u)) in
+    let ez : 0 ≡ z = sym (eqb-true z 0 (and-right (eqb y 0) (eqb z 0) u)) in
     let k = quote q (t .quoted) in
     let n : ℕ = headerLength q in
     let l : length (drop (headerLength q) q) ≤ 8 = rw length-drop (k .few) in
@@ -134,7 +111,7 @@ only-by [] oct t = absurd (omega (arith, t .long))
 -- the quoted header of what was accepted is whole
 whole-quoted : (q : List ℕ) → wholeQuote q ≡ true → wholeHeader (take (headerLength q) q) ≡ true
 unfolding wholeQuote
-whole-quoted q e = both (wholeHeader (take (headerLength q) q)) (leb (length (drop (headerLength q) q)) 8) e .0
+whole-quoted q e = and-left (wholeHeader (take (headerLength q) q)) (leb (length (drop (headerLength q) q)) 8) e
 
 built : (o : List ℕ) → Octets o → isMessage o ≡ true → Built o
 built o oct e =

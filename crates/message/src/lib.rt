@@ -1,8 +1,8 @@
 // ICMP messages that report a refusal (document 02, Wish 9; RFC 792): written, and read.
-use message_checksum::add_octets;
-use message_checksum::make_checksum;
 use lists::copy_octets;
 use lists::lesser;
+use message_checksum::add_octets;
+use message_checksum::make_checksum;
 ghost use mathlib.Core.Path.{_≡_};
 ghost use mathlib.Core.Bool.{true};
 ghost use mathlib.Core.List.{_++_};

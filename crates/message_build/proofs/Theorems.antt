@@ -14,7 +14,8 @@ use Rattle.option.specs.Option.{goodBody, valid}
 use Rattle.message_checksum.specs.Checksum.{onesSum, checksumOf}
 use Rattle.message.specs.Message.{messageOf, reports, wholeHeader}
 use Rattle.message.proofs.Theorems.{given-back}
-use Rattle.message_reply.specs.Reply.{openWalk, replyOf, replyArea}
+use Rattle.area.specs.Area.{openWalk}
+use Rattle.message_reply.specs.Reply.{replyOf, replyArea}
 use Rattle.message_reply.specs.Theorems.{Bars}
 use Rattle.message_reply.proofs.Theorems.{replies}
 use Rattle.message_build.specs.declared.Report.{Report}

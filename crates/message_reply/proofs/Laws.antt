@@ -18,12 +18,10 @@ use Rattle.area.specs.declared.Place.the-variants.{Nowhere, At}
 use Rattle.area.specs.declared.Walk.{Walk}
 use Rattle.area.specs.declared.Walk.the-variants.{Sound, Refused}
 use Rattle.area.specs.declared.Kind.the-variants.{Cipso}
-use Rattle.area.specs.Area.{WholeAt}
-use Rattle.arrive.proofs.Arrival.{placed-framed}
-use Rattle.arrive.specs.Checks.{optionAt}
+use Rattle.area.specs.Area.{openWalk, optionAt, WholeAt}
+use Rattle.area.proofs.Laws.{whole-inside, open-placed}
 use Rattle.message_reply.specs.declared.Reply.the-variants.{Barred, Copied}
-use Rattle.message_reply.specs.Reply.{openWalk, replyAt, replyOf}
-use Rattle.message_reply.proofs.Walk.{open-placed}
+use Rattle.message_reply.specs.Reply.{replyAt, replyOf}
 
 -- an option of fewer than 10 octets is not valid
 pub short-invalid : (o : List ℕ) → length o < 10 → valid o ≡ false
@@ -58,7 +56,7 @@ copied-inside area at n e = go (openWalk area) refl
     by p true h q =
         let a : p ≡ at = cc in
         let c : getD area (p + 1) 0 ≡ n = cc in
-        omega (arith, placed-framed area p h .inside)
+        omega (arith, whole-inside Cipso area p h .inside)
     by p false h q = absurd (let z : _≡_ {A = ℕ} 0 1 = cc in omega arith)
 
     go : (w : Walk) → openWalk area ≡ w → at + n ≤ length area
@@ -68,4 +66,4 @@ copied-inside area at n e = go (openWalk area) refl
         let a : 0 ≡ at = cc in
         let c : 0 ≡ n = cc in
         omega arith
-    go (Sound (At p) basic) q = by p (valid (optionAt p area)) (open-placed area (At p) basic q) (sym (reply-sound area (At p) basic q) ∙ e)
+    go (Sound (At p) basic) q = by p (valid (optionAt p area)) (open-placed area (At p) basic q .0) (sym (reply-sound area (At p) basic q) ∙ e)

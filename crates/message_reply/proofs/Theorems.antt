@@ -10,16 +10,15 @@ use Rattle.area.specs.declared.Place.{Place}
 use Rattle.area.specs.declared.Place.the-variants.{Nowhere, At}
 use Rattle.area.specs.declared.Walk.{Walk}
 use Rattle.area.specs.declared.Walk.the-variants.{Sound, Refused}
-use Rattle.area.specs.Area.{metFrom, metOf}
-use Rattle.arrive.specs.Checks.{optionAt}
+use Rattle.area.specs.Area.{metFrom, metOf, openWalk, optionAt}
+use Rattle.area.proofs.Open.{open-refused, open-alike}
 use Rattle.area_leaving.specs.Kept.{roundUp}
 use Rattle.option.specs.Option.{goodBody, valid}
 use Rattle.message_reply.specs.declared.Reply.{Reply}
 use Rattle.message_reply.specs.declared.Reply.the-variants.{Barred, Copied}
-use Rattle.message_reply.specs.Reply.{openWalk, replyOf, padded, replied, replyArea}
+use Rattle.message_reply.specs.Reply.{replyOf, padded, replied, replyArea}
 use Rattle.message_reply.specs.Theorems.{Bars, broken, invalid, Replies}
 use Rattle.message_reply.specs.Examples.{WorkedReplies}
-use Rattle.message_reply.proofs.Walk.{open-refused, open-alike}
 use Rattle.message_reply.proofs.Laws.{reply-refused, reply-sound}
 
 pub padded-length : (o : List ℕ) → length (padded o) ≡ roundUp (length o)

@@ -1,46 +1,25 @@
 -- Document 02, Wish 9: the options area of the reply to a datagram, by the options area of that datagram's header: its valid option 134, copied.
 use Prim.Native.Nat.{ℕ, _+_, _-_}
-use mathlib.Core.Bool.{true, cond}
-use mathlib.Core.List.{List, [], _∷_, _++_}
+use mathlib.Core.Bool.{cond}
+use mathlib.Core.List.{List, _++_}
 use mathlib.Core.Option.{Option, none, some}
 use lib.ListN.{length, getD, take, drop, replicate}
-use Rattle.area.specs.declared.Kind.{Kind}
-use Rattle.area.specs.declared.Kind.the-variants.{End, NoOperation, Basic, Extended, Cipso, Other}
 use Rattle.area.specs.declared.Place.{Place}
 use Rattle.area.specs.declared.Place.the-variants.{Nowhere, At}
 use Rattle.area.specs.declared.Walk.{Walk}
 use Rattle.area.specs.declared.Walk.the-variants.{Sound, Refused}
-use Rattle.area.specs.Area.{Met, metOf, judged}
-use Rattle.arrive.specs.Checks.{optionAt}
+use Rattle.area.specs.Area.{openWalk, optionAt}
 use Rattle.area_leaving.specs.Kept.{roundUp}
 use Rattle.option.specs.Option.{valid}
 use Rattle.message_reply.specs.declared.Reply.{Reply}
 use Rattle.message_reply.specs.declared.Reply.the-variants.{Barred, Copied}
-
--- check 4 left out: an option 133 is passed over like any other
-abbrev pub spared : Kind → Kind
-spared End = End
-spared NoOperation = NoOperation
-spared Basic = Basic
-spared Extended = Other
-spared Cipso = Cipso
-spared Other = Other
-
-abbrev pub sparing : List Met → List Met
-sparing [] = []
-sparing (m ∷ ms) = record { kind = spared (m .kind); at = m .at; size = m .size } ∷ sparing ms
-
--- the walk, check 4 left out: 3 or 5 and the option that it met them at, or the places of the options 134 and 130; an option 130 is passed over, a
--- second one is 5
-unfoldable pub openWalk : List ℕ → Walk
-openWalk area = judged true (sparing (metOf area)) Nowhere Nowhere
 
 -- without an option 134 no octet is copied; a valid one is, from its place on; where it is not valid, nothing is sent
 abbrev pub replyAt : Place → List ℕ → Reply
 replyAt Nowhere area = Copied 0 0
 replyAt (At p) area = cond (valid (optionAt p area)) (Copied p (getD area (p + 1) 0)) Barred
 
--- nothing is sent where the walk meets 3 or 5
+-- nothing is sent where the walk, check 4 left out, meets 3 or 5
 unfoldable pub replyOf : List ℕ → Reply
 replyOf area = elim (openWalk area) [ Sound label basic ↦ replyAt label area | Refused n at ↦ Barred ]
 

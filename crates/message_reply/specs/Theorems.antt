@@ -9,10 +9,9 @@ use lib.ListN.{length}
 use Rattle.area.specs.declared.Place.{Place}
 use Rattle.area.specs.declared.Place.the-variants.{Nowhere, At}
 use Rattle.area.specs.declared.Walk.the-variants.{Sound, Refused}
-use Rattle.area.specs.Area.{walkOf}
-use Rattle.arrive.specs.Checks.{optionAt}
+use Rattle.area.specs.Area.{walkOf, openWalk, optionAt}
 use Rattle.option.specs.Option.{valid}
-use Rattle.message_reply.specs.Reply.{openWalk, padded, replyArea}
+use Rattle.message_reply.specs.Reply.{padded, replyArea}
 
 -- an area that bars a reply: its walk, check 4 left out, meets 3 or 5, or meets an option 134 that is not valid
 pub data Bars (area : List ℕ) : Type 0 where

@@ -1,11 +1,7 @@
 // The options area of a reply (document 02, Wish 9): which octets of the offending header's area are copied.
-use area::Kind;
 use area::Place;
-use area::Turn;
 use area::Walk;
-use area::read_kind;
-use area::read_size;
-use area::take_turn;
+use area::walk_open;
 use option_read::read_keys;
 ghost use mathlib.Core.Path.{_≡_};
 ghost use mathlib.Core.Bool.{true};
@@ -16,7 +12,7 @@ ghost use Rattle.area.specs.Area.{WholeAt};
 ghost use Rattle.area.specs.declared.Place.the-variants.{At};
 ghost use Rattle.option.specs.Option.{domainOf, valid};
 ghost use Rattle.option_read.specs.Reading.{framed};
-ghost use Rattle.message_reply.specs.Reply.{spared, openWalk, replyAt, replyOf};
+ghost use Rattle.message_reply.specs.Reply.{replyAt, replyOf};
 
 // What is copied: nothing is sent at all, or the octets from a place of the area on, none where the header has no option 134.
 pub enum Reply {
@@ -36,48 +32,6 @@ pub fn find_reply(area: &[u8]) -> Reply
             Place::At(at) => copy_at(area, at),
         },
     }
-}
-
-// Check 4 left out: an option 133 is passed over like any other.
-fn spare(kind: Kind) -> Kind
-    ensures { λ r. ⌜ r ≡ spared kind ⌝ }
-{
-    match kind {
-        Kind::End => Kind::End,
-        Kind::NoOperation => Kind::NoOperation,
-        Kind::Basic => Kind::Basic,
-        Kind::Extended => Kind::Other,
-        Kind::Cipso => Kind::Cipso,
-        Kind::Other => Kind::Other,
-    }
-}
-
-// The walk over an area, check 4 left out.
-fn walk_open(area: &[u8]) -> Walk
-    ensures { λ r. ⌜ r ≡ openWalk (now (area .entry)) ⌝ }
-{
-    let mut at = 0;
-    let mut label = Place::Nowhere;
-    let mut basic = Place::Nowhere;
-    while at < area.len() {
-        let rest = &area[at..];
-        match take_turn(
-            true,
-            spare(read_kind(rest[0])),
-            read_size(rest),
-            at,
-            label,
-            basic,
-        ) {
-            Turn::Done(w) => return w,
-            Turn::On(n, l, b) => {
-                at = at + n;
-                label = l;
-                basic = b;
-            }
-        }
-    }
-    Walk::Sound(label, basic)
 }
 
 // The option 134 at an octet, if it is valid.

@@ -3,28 +3,39 @@ use mathlib.Core.Path.{_≡_, sym, ap, _∙_}
 use native.Mathlib.Omega.{arith}
 use borrow.Author.Needs.{needs}
 use mathlib.Core.Bool.{true, false}
+use lib.ListN.{getD}
 use Rattle.option.specs.Option.{valid}
 use Rattle.option_read.specs.Reading.{framed}
-use Rattle.arrive.specs.Checks.{optionAt}
-use Rattle.arrive.proofs.Arrival.{Framed, placed-framed, slice-is}
+use Rattle.option_read.proofs.Checks.{parts-framed}
+use Rattle.area.specs.declared.Kind.the-variants.{Cipso}
+use Rattle.area.specs.Area.{optionAt}
+use Rattle.area.proofs.KindLaws.{cipso-octet}
+use Rattle.area.proofs.Laws.{Inside, whole-inside, slice-is}
 use Rattle.message_reply.proofs.copy_at.Statement.{statement}
 use Rattle.message_reply.proofs.copy_at.Tie as tie
 
 -- the option lies in the area
-framed-at : (c : tie.Start) → Framed (c .args .area .now) (c .args .at)
-framed-at c = placed-framed (c .args .area .now) (c .args .at) (c .pre)
+inside-at : (c : tie.Start) → Inside Cipso (c .args .area .now) (c .args .at)
+inside-at c = whole-inside Cipso (c .args .area .now) (c .args .at) (c .pre)
+
+-- and is framed
+framed-at : (c : tie.Start) → framed (optionAt (c .args .at) (c .args .area .now)) ≡ true
+framed-at c =
+    let i = inside-at c in
+    let o = optionAt (c .args .at) (c .args .area .now) in
+    parts-framed o (record { long = omega (arith, i .least, i .size); kind = cipso-octet (getD o 0 0) (i .first); size = i .second })
 
 add-next : tie.Need-add-next
-add-next c = let f = framed-at (c .before) in omega (arith, f .inside, f .least)
+add-next c = let f = inside-at (c .before) in omega (arith, f .inside, f .least)
 
 shared-slice-read-n : tie.Need-shared-slice-read-n
-shared-slice-read-n c = let f = framed-at (c .before .before) in omega (arith, f .inside, f .least)
+shared-slice-read-n c = let f = inside-at (c .before .before) in omega (arith, f .inside, f .least)
 
 cast-n : tie.Need-cast-n
-cast-n c = let f = framed-at (c .before .before) in omega (arith, f .inside)
+cast-n c = let f = inside-at (c .before .before) in omega (arith, f .inside)
 
 add-end : tie.Need-add-end
-add-end c = let f = framed-at (c .before .before) in omega (arith, f .inside)
+add-end c = let f = inside-at (c .before .before) in omega (arith, f .inside)
 
 sub-is-valid : tie.Need-sub-is-valid
 sub-is-valid c = search needs
@@ -33,10 +44,10 @@ part-is-valid-start : tie.Need-part-is-valid-start
 part-is-valid-start c = search needs
 
 part-is-valid-end : tie.Need-part-is-valid-end
-part-is-valid-end c = let f = framed-at (c .before .before) in omega (arith, f .inside)
+part-is-valid-end c = let f = inside-at (c .before .before) in omega (arith, f .inside)
 
 is-valid-requires : tie.Need-is-valid-requires
-is-valid-requires c κs = let s = c .before .before .before in ap framed (slice-is (s .args .at) (s .args .area .now)) ∙ framed-at s .framed
+is-valid-requires c κs = let s = c .before .before .before in ap framed (slice-is (s .args .at) (s .args .area .now)) ∙ framed-at s
 
 returns : tie.Need-returns
 returns c =

@@ -4,8 +4,8 @@ use borrow.Author.Needs.{needs}
 use Rattle.area.specs.declared.Place.{Place}
 use Rattle.area.specs.declared.Place.the-variants.{Nowhere, At}
 use Rattle.area.specs.declared.Walk.the-variants.{Sound}
-use Rattle.message_reply.specs.Reply.{openWalk}
-use Rattle.message_reply.proofs.Walk.{open-placed}
+use Rattle.area.specs.Area.{openWalk}
+use Rattle.area.proofs.Laws.{open-placed}
 use Rattle.message_reply.proofs.Laws.{reply-refused, reply-sound}
 use Rattle.message_reply.proofs.find_reply.Statement.{statement}
 use Rattle.message_reply.proofs.find_reply.Tie as tie
@@ -38,7 +38,7 @@ copy-at-requires : tie.Need-copy-at-requires
 copy-at-requires c κs =
     let m = c .before in
     let l = m .before .before .before in
-    open-placed (l .before .before .before .before .args .area .now) (At (m .label2 .given .0 .0)) (l .label .given .0 .1 .0) (met m)
+    open-placed (l .before .before .before .before .args .area .now) (At (m .label2 .given .0 .0)) (l .label .given .0 .1 .0) (met m) .0
 
 returns : tie.Need-returns
 returns c =

@@ -2,7 +2,7 @@
 use mathlib.Core.Path.{sym}
 use native.Mathlib.Omega.{arith}
 use borrow.Author.Needs.{needs}
-use Rattle.arrive.proofs.Arrival.{octets-of}
+use Rattle.option.proofs.Octets.{octets-of}
 use Rattle.message_reply.proofs.Laws.{short-invalid, read-valid}
 use Rattle.message_reply.proofs.is_valid.Statement.{statement}
 use Rattle.message_reply.proofs.is_valid.Tie as tie
