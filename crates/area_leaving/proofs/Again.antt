@@ -23,7 +23,7 @@ use Rattle.area.proofs.Basic.{basicFront, basicAmong, met-once, walk-basic}
 use Rattle.area.proofs.KindLaws.{size-whole, whole-size}
 use Rattle.area.proofs.Laws.{behind, met-turn, walk-turn, afterTurn}
 use Rattle.area.proofs.Meets.{next-octet}
-use Rattle.area.proofs.Front.{label-first}
+use Rattle.area.proofs.Front.{zeros-met, label-first}
 use Rattle.area_leaving.specs.declared.Next.the-variants.{Over}
 use Rattle.area_leaving.specs.Kept.{keptAmong, keptOf}
 use Rattle.area_leaving.specs.Stages.{overOf, nextOf}
@@ -110,12 +110,6 @@ basic-kept area o rest at s e = kept-front area o rest at Basic s e (length o) r
 
 label-kept : (area o rest : List ℕ) (at : ℕ) → Starts o Cipso → drop at area ≡ o ++ rest → keptFrom area at ≡ keptFrom area (at + length o)
 label-kept area o rest at s e = kept-front area o rest at Cipso s e 0 refl
-
--- zeros end the walk
-zeros-met : (z at : ℕ) → metFrom (replicate z 0) 0 at ≡ []
-unfolding metFrom
-zeros-met zero at = refl
-zeros-met (suc z) at = refl
 
 -- nothing was met before an option 130
 abbrev pub Free : Option (List ℕ) → Place → Type 0

@@ -4,16 +4,18 @@ use mathlib.Core.Path.{_≡_, refl, sym, ap, _∙_}
 use mathlib.Core.Bool.{Bool, true, false, cond}
 use mathlib.Core.List.{List, [], _∷_}
 use mathlib.Core.Option.{none, some}
-use Rattle.message.specs.Message.{messageOf, wholeHeader, headerIn}
+use Rattle.message_checksum.specs.Checksum.{onesSum, checksumOf}
+use Rattle.message.specs.Message.{messageOf, wholeHeader, isMessage, headerIn}
 use Rattle.message.proofs.Theorems.{given-back}
 use Rattle.memory.specs.declared.Memory.{Memory}
 use Rattle.memory.specs.declared.Recall.{Recall}
 use Rattle.memory.specs.Memory.{holds, noted, memoryOf, stands, answered, noteOf}
-use Rattle.memory.specs.Theorems.{note, clear, Said}
+use Rattle.memory.specs.Theorems.{note, clear, Said, told}
 use Rattle.memory.proofs.Laws.{of-stands, note-refused}
 use Rattle.memory.proofs.Theorems.{Plain, after-plain, says-alike, after-alike, note-alike, nothing}
 use Rattle.memory_message.specs.Complaint.{complains, destinationIn, unread, complaintOf}
-use Rattle.memory_message.specs.Theorems.{Event, call, message, listThen, listTells, told, memoryThen, memoryTells, listStory, memoryStory, Complaints}
+use Rattle.memory_message.specs.Theorems.{Event, call, message, listThen, listTells, memoryThen, memoryTells, listStory, memoryStory, listLeft, memoryLeft, Complaints}
+use Rattle.memory_message.specs.Examples.{WorkedComplaints}
 use Rattle.memory_message.proofs.Laws.{complaint-unsound, complaint-unread, complaint-noted}
 
 -- one message on the memory of a list
@@ -31,7 +33,7 @@ module _ (o : List ℕ) (xs : List ℕ) (p : Plain xs) where
       go true e = complaint-noted o (memoryOf xs) stood e ∙ note-alike (destinationIn (headerIn o)) xs p
       go false e = complaint-unread o (memoryOf xs) stood e
 
-  tells-by : (b : Bool) → told b (cond b heard (unread (memoryOf xs))) ≡ cond b (record { number = 0; known = some (holds xs (destinationIn (headerIn o))) }) (record { number = 25; known = none })
+  tells-by : (b : Bool) → told (cond b heard (unread (memoryOf xs))) ≡ cond b (record { number = 0; known = some (holds xs (destinationIn (headerIn o))) }) (record { number = 25; known = none })
   tells-by true = refl
   tells-by false = refl
 
@@ -45,7 +47,7 @@ module _ (o : List ℕ) (xs : List ℕ) (p : Plain xs) where
 
 tells-alike : (e : Event) (xs : List ℕ) → Plain xs → memoryTells e (memoryOf xs) ≡ listTells e xs
 tells-alike (call c) xs p = says-alike c xs p
-tells-alike (message o) xs p = ap (told (complains o)) (message-alike o xs p) ∙ tells-by o xs p (complains o)
+tells-alike (message o) xs p = ap told (message-alike o xs p) ∙ tells-by o xs p (complains o)
 
 then-alike : (e : Event) (xs : List ℕ) → Plain xs → memoryThen e (memoryOf xs) ≡ memoryOf (listThen e xs)
 then-alike (call c) xs p = after-alike c xs p
@@ -58,6 +60,10 @@ then-plain (message o) xs p = plain-by o xs p (complains o)
 story-alike : (es : List Event) (xs : List ℕ) → Plain xs → memoryStory es (memoryOf xs) ≡ listStory es xs
 story-alike [] xs p = refl
 story-alike (e ∷ es) xs p = (λ i. tells-alike e xs p i ∷ memoryStory es (then-alike e xs p i)) ∙ ap (λ (l : List Said). listTells e xs ∷ l) (story-alike es (listThen e xs) (then-plain e xs p))
+
+left-alike : (es : List Event) (xs : List ℕ) → Plain xs → memoryLeft es (memoryOf xs) ≡ memoryOf (listLeft es xs)
+left-alike [] xs p = refl
+left-alike (e ∷ es) xs p = ap (memoryLeft es) (then-alike e xs p) ∙ left-alike es (listThen e xs) (then-plain e xs p)
 
 -- the message of refusal 6 is a complaint
 module _ (header payload : List ℕ) (w : wholeHeader header ≡ true) where
@@ -80,6 +86,11 @@ pub complaints : Complaints
 complaints =
     record {
       story = λ m es. ap (λ (l : List Said). listTells (call clear) [] ∷ l) (story-alike es [] nothing);
+      left = λ m es. left-alike es [] nothing;
       noting = λ header payload m w. built-noted header payload w m;
       first = λ o m e. complaint-unsound o m e;
     }
+
+pub worked : WorkedComplaints
+unfolding onesSum checksumOf isMessage complains stands noteOf complaintOf
+worked = refl

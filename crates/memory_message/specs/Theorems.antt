@@ -1,15 +1,13 @@
 -- Document 02, Wish 13: what is proved of complaints.
 use Prim.Native.Nat.{ℕ}
 use mathlib.Core.Path.{_≡_}
-use mathlib.Core.Bool.{true, false}
 use mathlib.Core.List.{List, [], _∷_}
-use mathlib.Core.Bool.{Bool, cond}
+use mathlib.Core.Bool.{true, false, cond}
 use mathlib.Core.Option.{none, some}
 use Rattle.message.specs.Message.{messageOf, wholeHeader, headerIn}
 use Rattle.memory.specs.declared.Memory.{Memory}
-use Rattle.memory.specs.declared.Recall.{Recall}
-use Rattle.memory.specs.Memory.{holds, noted, unsound, stands, noteOf}
-use Rattle.memory.specs.Theorems.{Call, clear, Said, listAfter, listSays, memoryAfter, memorySays}
+use Rattle.memory.specs.Memory.{holds, noted, memoryOf, unsound, stands, noteOf}
+use Rattle.memory.specs.Theorems.{Call, clear, Said, listAfter, listSays, told, memoryAfter, memorySays}
 use Rattle.memory_message.specs.Complaint.{complains, destinationIn, complaintOf}
 
 -- a call of the memory, or a message
@@ -27,18 +25,14 @@ listTells (call c) xs = listSays c xs
 listTells (message o) xs =
     cond (complains o) (record { number = 0; known = some (holds xs (destinationIn (headerIn o))) }) (record { number = 25; known = none })
 
--- the memory, by the functions' contracts; a refusal says nothing of the address
-abbrev pub told : Bool → Recall → Said
-told true r = record { number = r .number; known = some (r .known) }
-told false r = record { number = r .number; known = none }
-
+-- the memory, by the functions' contracts
 abbrev pub memoryThen : Event → Memory → Memory
 memoryThen (call c) m = memoryAfter c m
 memoryThen (message o) m = complaintOf o m .memory
 
 abbrev pub memoryTells : Event → Memory → Said
 memoryTells (call c) m = memorySays c m
-memoryTells (message o) m = told (complains o) (complaintOf o m)
+memoryTells (message o) m = told (complaintOf o m)
 
 abbrev pub listStory : List Event → List ℕ → List Said
 listStory [] xs = []
@@ -48,9 +42,18 @@ abbrev pub memoryStory : List Event → Memory → List Said
 memoryStory [] m = []
 memoryStory (e ∷ es) m = memoryTells e m ∷ memoryStory es (memoryThen e m)
 
+abbrev pub listLeft : List Event → List ℕ → List ℕ
+listLeft [] xs = xs
+listLeft (e ∷ es) xs = listLeft es (listThen e xs)
+
+abbrev pub memoryLeft : List Event → Memory → Memory
+memoryLeft [] m = m
+memoryLeft (e ∷ es) m = memoryLeft es (memoryThen e m)
+
 pub record Complaints : Type 0 where
-  -- from clear, any sequence of calls and messages replies as the plain list would
+  -- from clear, whatever the memory was, any sequence of calls and messages replies as the plain list would, and leaves the memory of that list
   pub story : (m : Memory) (es : List Event) → memoryStory (call clear ∷ es) m ≡ listStory (call clear ∷ es) []
+  pub left : (m : Memory) (es : List Event) → memoryLeft (call clear ∷ es) m ≡ memoryOf (listLeft es [])
   -- the message that the box builds for refusal 6 notes the destination of the header that it is about
   pub noting : (header payload : List ℕ) (m : Memory) → wholeHeader header ≡ true → complaintOf (messageOf 12 1 134 header payload) m ≡ noteOf (destinationIn header) m
   -- a memory that stands for no list is 2 first, whatever the octets

@@ -1,27 +1,29 @@
 -- The theorems of `specs/Theorems.antt`.
 use Prim.Native.Nat.{ℕ, _≤_}
-use mathlib.Core.Path.{_≡_, refl, sym, ap, _∙_}
+use mathlib.Core.Path.{_≡_, refl, sym, ap, subst, _∙_}
 use mathlib.Core.Bool.{Bool, true, false, cond, not, _||_}
-use mathlib.Core.List.{List}
+use mathlib.Core.List.{List, []}
 use mathlib.Core.Logic.{_⊎_, inl, inr}
 use mathlib.Core.Option.{Option, none, some}
 use native.Mathlib.Omega.{arith}
 use borrow.Author.Tests.{ltb-false}
 use lib.Dec.{ltb}
 use lib.ListN.{length}
-use Rattle.area.specs.Area.{metFrom, metOf}
 use Rattle.option.specs.Option.{goodBody, valid}
 use Rattle.message_checksum.specs.Checksum.{onesSum, checksumOf}
 use Rattle.message.specs.Message.{messageOf, reports, wholeHeader}
 use Rattle.message.proofs.Theorems.{given-back}
-use Rattle.area.specs.Area.{openWalk}
+use Rattle.area.specs.declared.Place.{Place}
+use Rattle.area.specs.declared.Place.the-variants.{Nowhere, At}
+use Rattle.area.specs.declared.Walk.the-variants.{Sound}
+use Rattle.area.specs.Area.{metFrom, metOf, openWalk, optionAt}
 use Rattle.message_reply.specs.Reply.{replyOf, replyArea}
-use Rattle.message_reply.specs.Theorems.{Bars}
+use Rattle.message_reply.specs.Theorems.{Bars, Carries, unlabelled, labelled}
 use Rattle.message_reply.proofs.Theorems.{replies}
 use Rattle.message_build.specs.declared.Report.{Report}
-use Rattle.message_build.specs.Build.{silent, unsound, unanswered, areaOf, sent, messageBy, refused, goes, roomFor, outcome}
+use Rattle.message_build.specs.Build.{silent, unsound, unanswered, areaOf, sent, messageBy, Outcome, refused, goes, roomFor, outcome, messageLeft, optionsLeft}
 use Rattle.message_build.specs.Examples.{WorkedAnswers}
-use Rattle.message_build.specs.Theorems.{GoesOut, Answers}
+use Rattle.message_build.specs.Theorems.{GoesOut, Labelled, Answers}
 use Rattle.message_build.proofs.Laws.{unsound-header, sound-silent, unsound-report, sound-header, sent-quiet, sent-reply, out-unsound, out-none, out-some}
 
 -- When nothing is sent.
@@ -122,14 +124,43 @@ module _ (r : Report) (header payload : List ℕ) (room space : ℕ) (message op
       by false none u f = absurd (never-refused 0 e (out-none r header payload room space u f))
       by false (some o) u f = heard u o f (silent r) (unanswered (r .number)) refl refl
 
+  -- what the reply carries, by what the header's area has
+  carried-label : (at : ℕ) (basic : Place) → outcome r header payload room space ≡ goes message options → openWalk (areaOf header) ≡ Sound (At at) basic
+      → Labelled (areaOf header) at options
+  carried-label at basic e w = go (replies .carries (areaOf header) options reply)
+    where
+      reply : replyArea (areaOf header) ≡ some options
+      reply = goes-out e .reply
+
+      go : Carries (areaOf header) options → Labelled (areaOf header) at options
+      go (unlabelled b x y) = absurd (let k : Sound Nowhere b ≡ Sound (At at) basic = sym x ∙ w in let q : Nowhere ≡ At at = cc in let z : _≡_ {A = ℕ} 0 1 = cc in omega arith)
+      go (labelled p b x v y s) =
+          let k : Sound (At p) b ≡ Sound (At at) basic = sym x ∙ w in
+          let i : p ≡ at = cc in
+          record {
+            readable = subst (λ (j : ℕ). valid (optionAt j (areaOf header)) ≡ true) i v;
+            same = s ∙ ap (λ (j : ℕ). optionAt j (areaOf header)) i;
+            met = y;
+            sized = replies .sized (areaOf header) options reply;
+          }
+
+  carried-none : (basic : Place) → outcome r header payload room space ≡ goes message options → openWalk (areaOf header) ≡ Sound Nowhere basic → options ≡ []
+  carried-none basic e w = let k : some options ≡ some [] = sym (goes-out e .reply) ∙ replies .bare (areaOf header) basic w in cc
+
+untouched-by : (o : Outcome) (n : ℕ) (message options : List ℕ) → o ≡ refused n → (messageLeft o message ≡ message) × (optionsLeft o options ≡ options)
+untouched-by o n message options e = (ap (λ (x : Outcome). messageLeft x message) e, ap (λ (x : Outcome). optionsLeft x options) e)
+
 pub answers : Answers
 answers =
     record {
       nothing = λ r header. (to-quiet r header, from-quiet r header);
       two = λ r header. (to-wrong r header, from-wrong r header);
+      untouched = untouched-by;
+      labelled = λ r header payload room space message options at basic. carried-label r header payload room space message options at basic;
+      unlabelled = λ r header payload room space message options basic. carried-none r header payload room space message options basic;
       out = goes-out;
     }
 
 pub worked : WorkedAnswers
 unfolding onesSum checksumOf messageOf metFrom metOf openWalk goodBody valid replyOf replyArea unsound sent outcome
-worked = refl
+worked = (refl, refl)

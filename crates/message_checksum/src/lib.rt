@@ -32,7 +32,8 @@ fn add_words(x: u16, y: u16) -> u16
     if sum < 65536 {
         return sum as u16;
     }
-    (sum - 65535) as u16
+    // the carry comes back in at the lowest
+    ((sum + 1) % 65536) as u16
 }
 
 // The word whose first octet is at a place.
