@@ -33,7 +33,7 @@ pub extern "C" fn inglebreek_build_message(
         code: code,
         pointer: pointer,
     };
-    let built = build_message(report, header, payload, &mut message[..], &mut options[..]);
+    let built = build_message(report, header, payload, message, options);
     *written = built.message;
     *carried = built.options;
     built.number
