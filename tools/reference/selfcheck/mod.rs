@@ -3,6 +3,7 @@
 mod basic;
 mod boxes;
 mod files;
+mod messages;
 mod permitted;
 mod renumbering;
 
@@ -405,6 +406,7 @@ pub fn run() -> bool {
     basic::basic(&mut tally);
     permitted::permitted(&mut tally);
     boxes::boxes(&mut tally);
+    messages::messages(&mut tally);
     renumbering::renumbering(&mut tally);
     walks(&mut tally);
     parsing(&mut tally);
