@@ -29,6 +29,9 @@
 //   21 read a message   n (2), n octets                                     25; or 0, type, code, pointer, header and data in hex
 //   22 reverse          wide table, room (2, at most 1024 rows)             number, from, to, pair count, each pair, row count, each row
 //   24 bitmap    n (1), n octets                                            number, count, low and high of each run
+//   25 memory    count (1), stored (1, at most 64), that many addresses (4), then calls: 1 note, 2 ask, 3 forget (each with an
+//                address, 4), 4 clear, 5 message (n (2), n octets)          for each call its number and YES, NO or -; then the
+//                                                                           count and the addresses, at most 64
 //
 //   label    domain (4), level (1), count (1), stored (1, at most 120), that many runs of low (2) and high (2)
 //   port     domain (4), lowest label, highest label, required (1), assigned label
@@ -56,6 +59,7 @@ use crate::decision::{deliver, forward, forward_in_box, Decision, Facts};
 use crate::entries::{Entries, BASIC_GROUP, DEFAULT_GROUP, GROUPS, SPELLINGS_GROUP};
 use crate::file::{self, Refusal, SetRecord, Unwritten, MAX_PORTS, MAX_TABLES};
 use crate::label::{HeldLabel, Run, MAX_RUNS};
+use crate::memory::{Call, MemoryRecord, MAX_DESTINATIONS};
 use crate::messages::{self, Report};
 use crate::option::{read_alone, read_bitmap_alone, spell_alone, ALL_SPELLINGS, PLAIN_SPELLINGS};
 use crate::records::{renumber_alone, reverse, HostRecord, PortRecord, Row, TableRecord, MAX_LEVEL_PAIRS, MAX_ROWS};
@@ -83,6 +87,14 @@ pub const BUILD_MESSAGE: u8 = 20;
 pub const READ_MESSAGE: u8 = 21;
 pub const REVERSE: u8 = 22;
 pub const BITMAP: u8 = 24;
+pub const MEMORY: u8 = 25;
+
+/// The calls of a memory.
+pub const NOTE: u8 = 1;
+pub const ASK: u8 = 2;
+pub const FORGET: u8 = 3;
+pub const CLEAR: u8 = 4;
+pub const MESSAGE: u8 = 5;
 
 pub const MAX_OUTPUT: usize = 512;
 pub const MAX_FILE_OUTPUT: usize = 65_535;
@@ -158,6 +170,7 @@ pub enum Case {
     ReadMessage(Vec<u8>),
     Reverse(TableRecord, usize),
     Bitmap(Vec<u8>),
+    Memory(Box<MemoryRecord>, Vec<Call>),
 }
 
 /// Takes fields from the front of a case. None where a field is cut off or a number is over its limit.
@@ -389,6 +402,30 @@ impl<'a> Fields<'a> {
         })
     }
 
+    fn memory(&mut self) -> Option<MemoryRecord> {
+        let mut memory = MemoryRecord { count: self.one()?, ..MemoryRecord::CLEAR };
+        for place in 0..self.stored(MAX_DESTINATIONS)? {
+            memory.places[place] = self.four()?;
+        }
+        Some(memory)
+    }
+
+    /// Calls up to the end of the case.
+    fn calls(&mut self) -> Option<Vec<Call>> {
+        let mut calls = Vec::new();
+        while !self.rest.is_empty() {
+            calls.push(match self.one()? {
+                NOTE => Call::Note(self.four()?),
+                ASK => Call::Ask(self.four()?),
+                FORGET => Call::Forget(self.four()?),
+                CLEAR => Call::Clear,
+                MESSAGE => Call::Message(self.long_octets()?),
+                _ => return None,
+            });
+        }
+        Some(calls)
+    }
+
     fn deliver_wide(&mut self) -> Option<DeliverCase> {
         Some(DeliverCase { port: self.wide_port()?, host: self.host()?, facts: self.facts()?, area: self.counted_octets()? })
     }
@@ -424,6 +461,7 @@ pub fn parse(octets: &[u8], entries: &Entries) -> Option<Case> {
         READ_MESSAGE => Case::ReadMessage(fields.long_octets()?),
         REVERSE => Case::Reverse(fields.wide_table()?, fields.long_stored(MAX_ROOM)?),
         BITMAP => Case::Bitmap(fields.counted_octets()?),
+        MEMORY => Case::Memory(Box::new(fields.memory()?), fields.calls()?),
         _ => return None,
     };
     if fields.rest.is_empty() {
@@ -624,6 +662,29 @@ impl Encoder {
         self.output(case.output);
     }
 
+    fn memory(&mut self, memory: &MemoryRecord) {
+        let stored = self.stored(memory.needed(), MAX_DESTINATIONS);
+        self.octets.extend([memory.count, stored as u8]);
+        for address in &memory.places[..stored] {
+            self.four(*address);
+        }
+    }
+
+    fn call(&mut self, call: &Call) {
+        let (kind, address) = match call {
+            Call::Note(address) => (NOTE, *address),
+            Call::Ask(address) => (ASK, *address),
+            Call::Forget(address) => (FORGET, *address),
+            Call::Clear => return self.octets.push(CLEAR),
+            Call::Message(message) => {
+                self.octets.push(MESSAGE);
+                return self.long_octets(message);
+            }
+        };
+        self.octets.push(kind);
+        self.four(address);
+    }
+
     fn deliver_wide(&mut self, case: &DeliverCase) {
         self.wide_port(&case.port);
         self.host(&case.host);
@@ -737,6 +798,13 @@ pub fn encode(case: &Case, spare: usize) -> Vec<u8> {
         Case::Bitmap(octets) => {
             encoder.octets.push(BITMAP);
             encoder.counted_octets(octets);
+        }
+        Case::Memory(memory, calls) => {
+            encoder.octets.push(MEMORY);
+            encoder.memory(memory);
+            for call in calls {
+                encoder.call(call);
+            }
         }
     }
     encoder.octets
@@ -978,6 +1046,18 @@ pub fn answer(case: &Case) -> String {
             line.number(number as usize);
             line.number(runs.len());
             line.runs(&runs);
+        }
+        Case::Memory(memory, calls) => {
+            let mut memory = memory.clone();
+            for call in calls {
+                let reply = memory.call(call);
+                line.number(reply.number as usize);
+                line.word(reply.was_in.map_or("-", yes_or_no));
+            }
+            line.number(memory.count as usize);
+            for address in &memory.places[..MAX_DESTINATIONS.min(memory.count as usize)] {
+                line.number(*address as usize);
+            }
         }
     }
     line.text

@@ -4,7 +4,7 @@
 // the reference gives that answer. So every number of every entry is hit often, whatever the seed. Slots for unsound records and
 // ill-formed labels take the clauses in turn.
 //
-//   labels, reading, bitmaps, files, reverse, forward, deliver, wide, boxes, messages, broken     cases of one kind each
+//   labels, reading, bitmaps, files, reverse, forward, deliver, wide, boxes, messages, memories, broken     cases of one kind each
 //   sets, spellings, ranges, tables, drafts, basic     good parts of cases
 //   unsound, faults                             ways to spoil them
 //   sample_records                              records for the sample program
@@ -19,6 +19,7 @@ mod faults;
 mod files;
 mod forward;
 mod labels;
+mod memories;
 mod messages;
 mod random;
 mod ranges;
@@ -37,8 +38,8 @@ use std::io::{self, Write};
 
 use crate::cases::{
     encode, line_of, Case, BITMAP, BROKEN, BUILD_MESSAGE, CONTAINS, DELIVER, DELIVER_FACTS, DELIVER_WIDE, FORWARD, FORWARD_FACTS,
-    FORWARD_WIDE, IN_BOX, READ, READ_AND_WRITE, READ_BASIC, READ_FILE, READ_MESSAGE, RENUMBER, REVERSE, SPELL, SPELL_PERMITTED, WITHIN,
-    WRITE_BASIC, WRITE_FILE,
+    FORWARD_WIDE, IN_BOX, MEMORY, READ, READ_AND_WRITE, READ_BASIC, READ_FILE, READ_MESSAGE, RENUMBER, REVERSE, SPELL, SPELL_PERMITTED,
+    WITHIN, WRITE_BASIC, WRITE_FILE,
 };
 use crate::decision::Facts;
 use crate::entries::Entries;
@@ -51,6 +52,7 @@ use deliver::*;
 use files::*;
 use forward::*;
 use labels::*;
+use memories::*;
 use messages::*;
 use reading::*;
 use reverse::*;
@@ -99,6 +101,7 @@ const ANSWERS: &[(u8, &str, &[&str])] = &[
     (READ_MESSAGE, "read a message", &["0", "25"]),
     (REVERSE, "reverse", &["0", "2", "24"]),
     (BITMAP, "bitmap", &["0", "10"]),
+    (MEMORY, "memory", &["0", "2", "25"]),
 ];
 
 enum Made {
@@ -278,6 +281,13 @@ fn all_slots() -> Vec<Slot> {
         slot(REVERSE, 1, "24", reverse_short_room),
         slot(BITMAP, 3, "0", bitmap_read),
         slot(BITMAP, 1, "10", bitmap_long),
+        free_slot(MEMORY, 4, memory_calls),
+        slot(MEMORY, 3, "0", memory_one_call),
+        slot(MEMORY, 2, "0", memory_filled),
+        slot(MEMORY, 2, "2", memory_ill_formed),
+        slot(MEMORY, 1, "25", memory_other_message),
+        slot(MEMORY, 1, "0", memory_message),
+        free_slot(MEMORY, 1, memory_alone),
         slot(READ_BASIC, 2, "0", basic_read),
         slot(READ_BASIC, 2, "19", basic_bad),
         free_slot(READ_BASIC, 1, basic_changed),

@@ -3,6 +3,7 @@
 mod basic;
 mod boxes;
 mod files;
+mod memories;
 mod messages;
 mod permitted;
 mod renumbering;
@@ -407,6 +408,7 @@ pub fn run() -> bool {
     permitted::permitted(&mut tally);
     boxes::boxes(&mut tally);
     messages::messages(&mut tally);
+    memories::memories(&mut tally);
     renumbering::renumbering(&mut tally);
     walks(&mut tally);
     parsing(&mut tally);
