@@ -10,6 +10,9 @@ use crate::file_entries::ask_write;
 use crate::label_entries::ask_contains;
 use crate::label_entries::ask_renumber;
 use crate::label_entries::ask_within;
+use crate::memory_entries::ask_memory;
+use crate::message_entries::ask_build;
+use crate::message_entries::ask_message;
 use crate::option_entries::ask_bitmap;
 use crate::option_entries::ask_read;
 use crate::option_entries::ask_read_basic;
@@ -44,8 +47,11 @@ pub fn answer(case: &[u8], out: &mut [u8], n: usize) -> usize {
         16 => ask_wide_deliver(case, at, out, n),
         17 => ask_spell_permitted(case, at, out, n),
         18 => ask_decide(case, at, out, n),
+        20 => ask_build(case, at, out, n),
+        21 => ask_message(case, at, out, n),
         22 => ask_reverse(case, at, out, n),
         24 => ask_bitmap(case, at, out, n),
+        25 => ask_memory(case, at, out, n),
         _ => put_broken(out, n),
     }
 }
