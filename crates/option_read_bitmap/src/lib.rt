@@ -17,7 +17,7 @@ use option_read_octet::table;
 const BITMAP_OCTETS: usize = (Label::BITMAP_CATEGORIES / 8) as usize;
 
 // A bitmap of at most so many octets is read bit by bit: building the table takes longer (docs/DECISIONS.md has the figures).
-const SHORT_OCTETS: usize = 2;
+const SHORT_OCTETS: usize = 1;
 
 // Number 0 and how many runs there are; or the number of a refusal and 0.
 pub struct Found {
