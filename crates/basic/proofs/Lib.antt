@@ -5,3 +5,4 @@ pub mod Writing
 pub mod OptionTheorems
 pub mod Settings
 pub mod Theorems
+pub mod Examples

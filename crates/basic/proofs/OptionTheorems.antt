@@ -16,7 +16,6 @@ use Rattle.basic.specs.declared.BasicWriting.{BasicWriting}
 use Rattle.basic.specs.Levels.{isLevel}
 use Rattle.basic.specs.Option.{basicLevel, basicFlags, basicValid, BasicMeans}
 use Rattle.basic.specs.Alone.{basicFound, basicReading, flagOctetsFor, basicOption, writable, writingNumber, basicWriting, basicOut}
-use Rattle.basic.specs.Examples.{examples, Read, Written}
 use Rattle.basic.specs.OptionTheorems.{ReadsBasic, OneMeaning, ShortestBasic, WritesBasic}
 use Rattle.basic.proofs.Levels.{level-octet}
 use Rattle.basic.proofs.Form.{Form, bare, one, two, form, bare-valid, one-valid, two-valid}
@@ -233,13 +232,3 @@ writes-basic =
       refused = left-alone;
       sized = same-size;
     }
-
--- Examples.
-
-pub examples-read : Read examples
-unfolding basicReading basicValid isLevel
-examples-read = (refl, (refl, (refl, (refl, (refl, (refl, (refl, (refl, (refl, (refl, (refl, (refl, (refl, tt)))))))))))))
-
-pub examples-written : Written
-unfolding flagOctetsFor
-examples-written = (refl, refl, refl, refl)

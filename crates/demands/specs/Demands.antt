@@ -4,7 +4,7 @@
 use mathlib.Core.Path.{_≡_}
 use mathlib.Core.Bool.{true, false}
 use mathlib.Core.List.{List, [], _∷_, _++_}
-use mathlib.Core.Logic.{_⊎_, _↔_}
+use mathlib.Core.Logic.{_↔_}
 use mathlib.Core.Option.{Option, none, some}
 use Prim.Native.Nat.{ℕ, _+_, _%_, _≤_}
 use lib.ListN.{length, take}
@@ -28,7 +28,7 @@ use Rattle.port.specs.Port.{portSound, hostSound}
 use Rattle.table.specs.Table.{tableSound}
 use Rattle.renumber.specs.Theorems.{Far}
 use Rattle.decision.specs.Decision.{Refusal, silenced, refused, done}
-use Rattle.arrive.specs.Checks.{NoneApplies, walkAt, optionAt, badBasicCheck, optionChecks, rangeCheck}
+use Rattle.arrive.specs.Checks.{NoneApplies, walkAt, optionAt, badBasicCheck, arrivingLabel, optionChecks, rangeCheck}
 use Rattle.deliver.specs.Delivery.{Delivery, deliverySizes, deliveryRecords, deliverChecks, deliverOf}
 use Rattle.forward_rules.specs.Crossing.{Forwarding, sizes, records, leavingBasicCheck, crossing, numberCheck}
 use Rattle.forward_rules.specs.Forward.{forwardChecks, forwardOf, outputOf}
@@ -130,6 +130,11 @@ earlierChecks f =
     ∷ numberCheck (crossing f)
     ∷ []))
 
+-- its label, renumbered: the same with equal domains, else the label in the far domain
+pub record Becomes (f : Forwarding) (m : Label) : Type 0 where
+  pub stays : f .arriving .domain ≡ f .leaving .domain → arrivingLabel (f .arriving) (f .area) ≡ m
+  pub numbered : (f .arriving .domain ≡ f .leaving .domain → ⊥) → Far (arrivingLabel (f .arriving) (f .area)) (f .table) (f .levels) m
+
 pub record Demand2 : Type 0 where
   -- forwarded only when the conditions hold
   pub only : (f : Forwarding) → Octets (f .area) → forwardOf f .number ≡ 0
@@ -141,7 +146,9 @@ pub record Demand2 : Type 0 where
   -- "On such a port a datagram past all earlier checks is forwarded exactly when its renumbered label equals the default label; otherwise 17": 18
   -- isn't given, since the kept options always fit
   pub facing : (f : Forwarding) → f .leaving .unlabelled ≡ true → NoneApplies (earlierChecks f)
-      → ((forwardOf f .number ≡ 0) × (forwardOf f .label ≡ f .leaving .default)) ⊎ (forwardOf f .number ≡ 17)
+      → ((forwardOf f .number ≡ 0) ↔ Becomes f (f .leaving .default))
+      × ((Becomes f (f .leaving .default) → ⊥) → forwardOf f .number ≡ 17)
+      × (forwardOf f .number ≡ 0 → forwardOf f .label ≡ f .leaving .default)
   -- delivered exactly when none of the refusals applies, and with which label
   pub delivered : (d : Delivery) → Octets (d .area) → deliverOf d .number ≡ 0 → (l : Label) × Delivers d l
   pub delivers : (d : Delivery) (l : Label) → Delivers d l → deliverOf d ≡ done l 0

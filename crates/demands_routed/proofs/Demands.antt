@@ -1,6 +1,6 @@
 -- The statements of `specs/Demands.antt`, from those of the two-port decision.
 use mathlib.Core.Path.{_≡_, refl, sym, _∙_, ap}
-use mathlib.Core.Bool.{true, not}
+use mathlib.Core.Bool.{true, false, not}
 use mathlib.Core.List.{List, [], _∷_, _++_}
 use mathlib.Core.Option.{Option, none, some}
 use Prim.Native.Nat.{ℕ, _≤_}
@@ -9,20 +9,30 @@ use Rattle.label.specs.declared.Label.{Label}
 use Rattle.label.specs.Label.{inRange, zeroLabel}
 use Rattle.port.specs.declared.Port.{Port}
 use Rattle.decision.specs.declared.Decision.{Decision}
-use Rattle.decision.specs.Decision.{Refusal, silenced, decided}
-use Rattle.arrive.specs.Checks.{barred, when, firstOf, badBasicCheck, arrivingBasic, missingBasicBy, missingBasicCheck, basicPasses, basicRangeCheck, rangeCheck, arrivalChecks}
-use Rattle.arrive.proofs.First.{orElse, first-append}
+use Rattle.decision.specs.Decision.{Refusal, silenced, refused, decided}
+use Rattle.arrive.specs.Checks.{barred, when, firstOf, NoneApplies, badBasicCheck, arrivingBasic, missingBasicBy, missingBasicCheck, basicPasses, basicRangeCheck, rangeCheck, arrivalChecks}
+use Rattle.arrive.proofs.First.{orElse, first-append, none-first}
 use Rattle.forward_rules.specs.Crossing.{sizes}
 use Rattle.route.specs.declared.Route.{Route}
 use Rattle.route.specs.declared.Chosen.{Chosen}
 use Rattle.route.specs.declared.Chosen.the-variants.{NoRoute, By}
-use Rattle.route_ports.specs.Ports.{portAt}
+use Rattle.route.specs.Route.{routesOf, matches, longest}
+use Rattle.route.specs.Theorems.{Listed, Decides}
+use Rattle.route.proofs.Longest.{longest-match}
+use Rattle.route_ports.specs.Ports.{portAt, domainsOf}
+use Rattle.table_choose.specs.Tables.{usedTables}
+use Rattle.table_choose.specs.Theorems.{NoneFor}
+use Rattle.table_choose.proofs.Theorems.{first-table}
+use Rattle.file_table.specs.declared.Renumbering.{Renumbering}
+use Rattle.label.proofs.Bools.{never}
 use Rattle.file_table.specs.TableFormat.{levelsOf}
-use Rattle.route_decide.specs.Routing.{Routing, boxSound, chosen, arrivingPort, chosenPair, tableBetween, noRoute, routingOf, routedOutput}
-use Rattle.route_decide.specs.Demands.{pairBy}
-use Rattle.route_decide.proofs.Decides.{records-none, routed-of, output-of, unrouted-of}
-use Rattle.route_decide.proofs.Demands.{passes-of}
+use Rattle.route_decide.specs.Routing.{Routing, boxSound, chosen, arrivingPort, pairBy, chosenPair, tableBetween, noRoute, routingChecks, routingOf, routedOutput}
+use Rattle.route_decide.proofs.Decides.{routes-of, records-none, routed-of, output-of, unrouted-of}
+use Rattle.demands_routed.proofs.Passing.{passes-of}
 use Rattle.demands.specs.Demands.{own, MeansAt, Alike}
+use Rattle.demands.specs.Crosses.{beforeNumbers}
+use Rattle.demands.proofs.First.{first-is}
+use Rattle.demands.proofs.Crosses.{crosses}
 use Rattle.demands.proofs.Second.{label-reads, demand2}
 use Rattle.demands.proofs.Third.{basic-alike, demand3}
 use Rattle.demands_routed.specs.Demands.{RoutedAlike, BoxDemands}
@@ -106,16 +116,62 @@ module _ (b c : Routing) (l : Label) (a : RoutedAlike b c l) where
       ∙ demand3 .written (pairBy b (p .route)) (pairBy c (p .route)) l out out′ (pair-alike (p .route) (p .matched)) h h′ (p .forwarded)
       ∙ sym (ap (take 40) (output-of c (a .sound .1) (p .route) (sym chosen-alike ∙ p .matched) out′))
 
+-- of a sound set, the route that decides is the one chosen
+module _ (b : Routing) (e : boxSound b ≡ true) where
+  decides-chosen : (r : Route) → Decides (b .destination) (routesOf (b .routes)) r → chosen b ≡ By r
+  unfolding chosen
+  decides-chosen r d = go (longest (b .destination) (routesOf (b .routes))) refl
+    where
+      go : (c : Chosen) → longest (b .destination) (routesOf (b .routes)) ≡ c → longest (b .destination) (routesOf (b .routes)) ≡ By r
+      go NoRoute p = absurd (never (sym (d .hits) ∙ longest-match .unmatched (b .destination) (routesOf (b .routes)) p r (d .listed)))
+      go (By s) p =
+          p
+          ∙ ap By (longest-match .only (b .destination) (domainsOf (b .ports)) (b .routes) s r (routes-of b e) (longest-match .chosen (b .destination) (routesOf (b .routes)) s p) d)
+
+  chosen-decides : (r : Route) → chosen b ≡ By r → Decides (b .destination) (routesOf (b .routes)) r
+  unfolding chosen
+  chosen-decides r c = longest-match .chosen (b .destination) (routesOf (b .routes)) r c
+
+  unmatched-is : sizes (chosenPair b) ≡ none → NoneApplies (arrivalChecks (arrivingPort b) (b .area) 9)
+      → ((s : Route) → Listed s (routesOf (b .routes)) → matches s (b .destination) ≡ false)
+      → routingOf b ≡ decided (silenced (b .facts)) (some noRoute) zeroLabel 0
+  unfolding chosen
+  unmatched-is s n u =
+      let checks : List (Option Refusal) = arrivalChecks (arrivingPort b) (b .area) 9 in
+      unrouted-of b e (longest-match .unchosen (b .destination) (routesOf (b .routes)) u)
+      ∙ ap (λ (x : Option Refusal). decided (silenced (b .facts)) (firstOf (x ∷ (checks ++ (some noRoute ∷ [])))) zeroLabel 0) s
+      ∙ ap (λ (x : Option Refusal). decided (silenced (b .facts)) x zeroLabel 0)
+      (first-append checks (some noRoute ∷ []) ∙ ap (λ (x : Option Refusal). orElse x (some noRoute)) (none-first checks n))
+
+  tableless-is : (r : Route) → Decides (b .destination) (routesOf (b .routes)) r
+      → (arrivingPort b .domain ≡ portAt (b .ports) (r .port) .domain → ⊥)
+      → NoneFor (arrivingPort b .domain) (portAt (b .ports) (r .port) .domain) (usedTables (b .tables))
+      → NoneApplies (beforeNumbers (pairBy b r))
+      → routingOf b .number ≡ 16
+  tableless-is r d apart without n =
+      let from : ℕ = arrivingPort b .domain in
+      let t = first-table .missing from (portAt (b .ports) (r .port) .domain) (usedTables (b .tables)) without in
+      ap (λ (z : Decision). z .number) (routed-of b e r (decides-chosen r d))
+      ∙ crosses .sixteen (pairBy b r) apart n .1 (λ v h. first-table .other from (sym (ap (λ (z : Renumbering). z .table .from) t) ∙ h .from))
+
+refused-first : (b : Routing) (x : Refusal) (out : List ℕ) → firstOf (routingChecks b) ≡ some x → (routingOf b ≡ refused (silenced (b .facts)) x) × (routedOutput b out ≡ out)
+unfolding routingOf routedOutput
+refused-first b x out e = (rw e, rw e)
+
 pub box-demands : BoxDemands
 box-demands =
     record {
+      first = λ b x out h. refused-first b x out (first-is (routingChecks b) x h);
+      unmatched = λ b e s n u. unmatched-is b e s n u;
+      tableless = λ b r e d apart without n. tableless-is b e r d apart without n;
       only = λ b o z.
           let p = passes-of b z in
           let q = demand2 .only (pairBy b (p .route)) o (p .forwarded) in
-          (p .route, q .0, q .1, q .2, record { sound = p .sound; matched = p .matched; forwards = q .3 });
+          (p .route, q .0, q .1, q .2, record { sound = p .sound; matched = chosen-decides b (p .sound) (p .route) (p .matched); forwards = q .3 });
       always = λ b r l m s out f.
           let q = demand2 .always (pairBy b r) l m s out (f .forwards) in
-          (routed-of b (f .sound) r (f .matched) ∙ q .0, output-of b (f .sound) r (f .matched) out ∙ q .1);
+          let c = decides-chosen b (f .sound) r (f .matched) in
+          (routed-of b (f .sound) r c ∙ q .0, output-of b (f .sound) r c out ∙ q .1);
       decided = λ b c l a. decided-by b c l a (chosen b) refl;
       written = λ b c l out out′ a h h′ z. written-by b c l a out out′ h h′ z;
     }

@@ -1,1 +1,4 @@
+pub mod Passing
 pub mod Demands
+pub mod Limits
+pub mod Worked

@@ -19,7 +19,7 @@ use Rattle.option.proofs.Pieces.{joined-good, bits-falling}
 use Rattle.option.proofs.Bridge.{set-joined}
 use Rattle.label_keys.specs.Keys.{keyRun, keyRuns, runKey}
 use Rattle.option_read_bitmap.specs.Stages.{headed, Ends}
-use Rattle.option_read_octet.proofs.Table.{firstLow}
+use Rattle.option_read_octet.proofs.Rule.{firstLow}
 use Rattle.option_read_bitmap.proofs.Join.{shiftRun, shifted, joinRuns, push-apart, push-touch, set-top}
 
 -- Keys of runs.
@@ -88,11 +88,13 @@ headed-length h b (p ∷ ps) = ap suc (length-map ps (λ q. b + q))
 canon-bits : (f : ℕ → Bool) (n : ℕ) → Canon 0 (setRuns f n)
 canon-bits f n = rw (set-joined f n) (joined-good n (bitPieces f n) (bits-falling f n) .0)
 
-pub most-runs : (f : ℕ → Bool) (i : ℕ) → length (setRuns f (8 * i)) ≤ 4 * i
-most-runs f i =
-    let n : ℕ = 8 * i in
+pub most-bits : (f : ℕ → Bool) (n : ℕ) → 2 * length (setRuns f n) ≤ n + 1
+most-bits f n =
     let g = joined-good n (bitPieces f n) (bits-falling f n) in
     omega (arith, ap length (set-joined f n), canon-length n 0 (joined (bitPieces f n)) (g .0) (g .1) zero-le)
+
+pub most-runs : (f : ℕ → Bool) (i : ℕ) → length (setRuns f (8 * i)) ≤ 4 * i
+most-runs f i = omega (arith, most-bits f (8 * i))
 
 -- the last run of a list
 pub record Final (rs : List Run) : Type 0 where

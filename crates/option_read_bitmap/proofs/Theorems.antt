@@ -7,6 +7,7 @@ use lib.Seq.{take-at}
 use native.Mathlib.Omega.{arith}
 use borrow.Author.Tests.{lt-ltb, le-ltb}
 use Rattle.label.specs.declared.Run.{Run}
+use Rattle.label.specs.Runs.{joined}
 use Rattle.label.specs.Label.{labelOf}
 use Rattle.label.proofs.Canon.{Below, below-weaken}
 use Rattle.label_keys.proofs.Keys.{keys-back}
@@ -17,7 +18,7 @@ use Rattle.option.proofs.Bridge.{set-joined}
 use Rattle.label_keys.specs.Keys.{keyRuns, runKey}
 use Rattle.option_read_bitmap.specs.Bitmap.{bitmapRuns, bitmapNumber, bitmapFound, inPlace, bitmapKeys}
 use Rattle.option_read_bitmap.specs.declared.Found.{Found}
-use Rattle.option_read_bitmap.specs.Theorems.{Agree}
+use Rattle.option_read_bitmap.specs.Theorems.{Answer, Agree}
 use Rattle.option_read_bitmap.proofs.Step.{most-runs}
 
 -- the runs of a bitmap lie below its length, and a list with room holds them
@@ -45,9 +46,6 @@ module _ (b : List ℕ) (h : length b ≤ 30) where
 
 -- What each way out answers.
 
-abbrev pub Answer : List ℕ → List ℕ → Found → List ℕ → Type 0
-Answer b ks f ks′ = (f ≡ bitmapFound b (length ks)) × (ks′ ≡ bitmapKeys b ks)
-
 module _ (b ks : List ℕ) where
   pub found-short : length ks < 120 → Answer b ks (record { number = 1; count = 0 }) ks
   unfolding bitmapFound bitmapKeys
@@ -61,9 +59,10 @@ module _ (b ks : List ℕ) where
       → Answer b ks (record { number = 0; count = n }) ks′
   found-all room h n ks′ e = (ap (λ (k : ℕ). record { number = 0; count = k }) (e .0) ∙ sym (bitmap-found b h ks room), e .1 ∙ sym (bitmap-keys b h ks room))
 
-pub agree : Agree
+read-means : (d v : ℕ) (b ks : List ℕ) → length b ≤ 30 → 120 ≤ length ks
+    → labelOf d v (keyRuns (take (bitmapFound b (length ks) .count) (bitmapKeys b ks))) ≡ labelOf d v (joined (pieces 1 b))
 unfolding pieces
-agree d v b ks h room =
+read-means d v b ks h room =
     let n : ℕ = 8 * length b in
     let rs : List Run = bitmapRuns b in
     let keys : take (length rs) (inPlace rs ks) ≡ map runKey rs = take-at (map runKey rs) (drop (length rs) ks) (length rs) (length-map rs runKey) in
@@ -71,3 +70,13 @@ agree d v b ks h room =
     let same : keyRuns (take (bitmapFound b (length ks) .count) (bitmapKeys b ks)) ≡ rs =
     (λ i. keyRuns (take (count i) (bitmap-keys b h ks room i))) ∙ ap keyRuns keys ∙ keys-back rs (bitmap-below b h) in
     ap (labelOf d v) (same ∙ set-joined (bitAt b) n)
+
+pub agree : Agree
+agree =
+    record {
+      same = λ b ks f g ks′ ks″ p q. (p .0 ∙ sym (q .0), p .1 ∙ sym (q .1));
+      means = λ d v b ks f ks′ h room p.
+          (ap (λ (r : Found). r .number) (p .0 ∙ bitmap-found b h ks room), (λ i. labelOf d v (keyRuns (take (p .0 i .count) (p .1 i)))) ∙ read-means d v b ks h room);
+      long = λ b ks f ks′ h room p. let e = found-long b ks room h in (p .0 ∙ sym (e .0), p .1 ∙ sym (e .1));
+      short = λ b ks f ks′ h p. let e = found-short b ks h in (p .0 ∙ sym (e .0), p .1 ∙ sym (e .1));
+    }

@@ -3,8 +3,8 @@ use Prim.Native.Nat.{ℕ, suc, _+_, _-_, _*_, _/_, _%_, _≤_, _<_}
 use mathlib.Core.Path.{_≡_, refl, ap, sym, _∙_}
 use mathlib.Core.List.{List, [], _∷_, _++_, map}
 use mathlib.Core.Logic.{_⊎_, ⊎-elim}
-use lib.ListN.{length, getD, take, drop, set, length-set, length-map, take-append-drop}
-use lib.Seq.{sets, length-sets, take-at, getD-at, getD-take, getD-set-same, take-take, length-take-le, drop-drop}
+use lib.ListN.{length, getD, take, set, length-set}
+use lib.Seq.{sets, getD-set-same, length-take-le}
 use native.Mathlib.Omega.{arith}
 use Rattle.label.specs.declared.Run.{Run}
 use Rattle.label.specs.Runs.{topOf}
@@ -14,11 +14,11 @@ use Rattle.option.specs.Index.{setRuns}
 use Rattle.option_read_bitmap.specs.declared.Last.{Last}
 use Rattle.label_keys.specs.Keys.{keyRuns, runKey}
 use Rattle.option_read_octet.specs.Entry.{partOf, countIn, partsIn, octetRuns, Right}
-use Rattle.option_read_bitmap.specs.Bitmap.{bitmapRuns, inPlace}
-use Rattle.option_read_bitmap.specs.Stages.{headed, Ends, LastKey, Stands}
-use Rattle.option_read_octet.proofs.Table.{firstLow, firstHigh, octet-some, octet-first, octet-later}
+use Rattle.option_read_bitmap.specs.Stages.{headed, Ends, Stands, Turn}
+use Rattle.option_read_octet.proofs.Rule.{firstLow, firstHigh, octet-some, octet-first, octet-later}
 use Rattle.option_read_bitmap.proofs.Join.{shifted, joinRuns, octet-joined, set-top}
-use Rattle.option_read_bitmap.proofs.Step.{keys-append, apart-keys, touch-keys, stored-count, stored-keys, stored-rest, headed-length, most-runs, Final, final, final-low, ends-next}
+use Rattle.option_read_bitmap.proofs.Step.{apart-keys, touch-keys, headed-length, most-runs, ends-next}
+use Rattle.option_read_bitmap.proofs.LastRun.{Put, written, last-there, fin, front-keys, touching, key-there, last-small}
 
 -- The stores of an entry's keys, one by one.
 last-stored : (ks : List ℕ) (at i v n : ℕ) → i ≡ at → length ks ≡ n → at < n → v ≡ getD (set ks at v) i 0
@@ -68,14 +68,7 @@ module _ (ks : List ℕ) (at h b e : ℕ) where
       let z : at + 3 ≡ suc (suc (suc at)) = omega arith in
       rw (u, v, w, y, n, s, t, z)
 
--- what writing the keys leaves
-abbrev pub Put : List ℕ → ℕ → ℕ → ℕ → List ℕ → List ℕ → Last → Type 0
-Put ks at n bit vs ks′ r = (r .count ≡ at + n) × (r .bit ≡ bit) × LastKey ks′ r × (ks′ ≡ sets ks at vs)
-
-abbrev pub Turn : List ℕ → ℕ → List ℕ → Last → List ℕ → Last → Type 0
-Turn b i ks s ks′ s′ = Stands b (i + 1) ks′ s′ × (s .count ≤ s′ .count) × (drop (s′ .count) ks′ ≡ drop (s′ .count) ks) × (length ks′ ≡ length ks)
-
-module _ (b : List ℕ) (i e : ℕ) (ks : List ℕ) (s : Last) (inside : i < length b) (short : length b ≤ 30) (right : Right (getD b i 0) e) (st : Stands b i ks s) (places : 120 ≤ length ks) where
+module _ (b : List ℕ) (i e : ℕ) (ks : List ℕ) (s : Last) (inside : i < length b) (short : length b ≤ 30) (right : Right (getD b i 0) e) (st : Stands b (8 * i) ks s) (places : 120 ≤ length ks) where
   abbrev xs : List Run
   xs = setRuns (bitAt b) (8 * i)
 
@@ -98,7 +91,7 @@ module _ (b : List ℕ) (i e : ℕ) (ks : List ℕ) (s : Last) (inside : i < len
   parts-length = length-take-le (countIn e) (partOf e ∷ partOf (e / 8) ∷ partOf (e / 64) ∷ partOf (e / 512) ∷ []) (right .few)
 
   -- an octet 0 changes nothing
-  pub turn-zero : getD b i 0 ≡ 0 → Turn b i ks s ks (record { count = s .count; key = s .key; bit = 0 })
+  pub turn-zero : getD b i 0 ≡ 0 → Turn b (8 * (i + 1)) ks s ks (record { count = s .count; key = s .key; bit = 0 })
   turn-zero z =
       let none : setRuns (bitAt b) (8 * (i + 1)) ≡ xs =
       ap (setRuns (bitAt b)) next-place ∙ octet-joined b i ∙ ap (λ (x : ℕ). joinRuns xs (shifted (8 * i) (octetRuns x))) z in
@@ -116,33 +109,21 @@ module _ (b : List ℕ) (i e : ℕ) (ks : List ℕ) (s : Last) (inside : i < len
         length-keys (p ∷ ps) = ap suc (length-keys ps)
 
     -- the keys are written from a place on
-    written : (at head base : ℕ) → at ≤ s .count → s .count ≤ at + 1
+    put : (at head base : ℕ) → at ≤ s .count → s .count ≤ at + 1
         → map runKey (setRuns (bitAt b) (8 * (i + 1))) ≡ take at ks ++ headed head base (partsIn e)
-        → (ks′ : List ℕ) (r : Last) → Put ks at (countIn e) (x % 2) (headed head base (partsIn e)) ks′ r → Turn b i ks s ks′ r
-    written at head base lo hi w ks′ r p =
-        let vs : List ℕ = headed head base (partsIn e) in
-        let zs : List ℕ = map runKey (setRuns (bitAt b) (8 * (i + 1))) in
-        let room : at + countIn e ≤ length ks = omega (arith, few-keys, right .few) in
-        let long : length vs ≡ countIn e = headed-length head base (partsIn e) ∙ parts-length in (
-          record {
-            count-is = p .0 ∙ stored-count ks vs zs at (countIn e) room long w ∙ length-map (setRuns (bitAt b) (8 * (i + 1))) runKey;
-            keys-are = (λ j. take (p .0 j) (p .3 j)) ∙ stored-keys ks vs zs at (countIn e) room long w;
-            ends = rw (p .1) (next-ends x octet);
-            key-is = p .2;
-          },
-          omega (arith, p .0, some-runs),
-          (λ j. drop (p .0 j) (p .3 j)) ∙ stored-rest ks vs zs at (countIn e) room long w ∙ ap (λ (m : ℕ). drop m ks) (sym (p .0)),
-          ap length (p .3) ∙ length-sets ks at vs,
-        )
+        → (ks′ : List ℕ) (r : Last) → Put ks at (countIn e) (x % 2) (headed head base (partsIn e)) ks′ r → Turn b (8 * (i + 1)) ks s ks′ r
+    put at head base lo hi w ks′ r p =
+        written b (8 * i) ks s st (8 * (i + 1)) at (countIn e) (x % 2) (headed head base (partsIn e)) (omega (arith, some-runs)) (omega (arith, few-keys, right .few))
+        (headed-length head base (partsIn e) ∙ parts-length) (next-ends x octet) w ks′ r p
 
     base-is : i * 524296 ≡ 8 * i * 65537
     base-is = omega arith
 
     -- the octet's first run does not touch the last one
     pub turn-apart : (s .bit + x / 128 ≡ 2 → ⊥)
-        → (ks′ : List ℕ) (r : Last) → Put ks (s .count) (countIn e) (x % 2) (headed (i * 524296) (i * 524296) (partsIn e)) ks′ r → Turn b i ks s ks′ r
+        → (ks′ : List ℕ) (r : Last) → Put ks (s .count) (countIn e) (x % 2) (headed (i * 524296) (i * 524296) (partsIn e)) ks′ r → Turn b (8 * (i + 1)) ks s ks′ r
     turn-apart t =
-        written (s .count) (i * 524296) (i * 524296) (omega arith) (omega arith)
+        put (s .count) (i * 524296) (i * 524296) (omega arith) (omega arith)
         (ap (λ (z : List Run). map runKey z) next-runs ∙ rw (base-is, st .keys-are) (apart-keys (8 * i) xs (partsIn e) away))
       where
         first : firstLow (keyRuns (partsIn e)) ≡ firstLow (octetRuns x)
@@ -157,47 +138,21 @@ module _ (b : List ℕ) (i e : ℕ) (ks : List ℕ) (s : Last) (inside : i < len
       bit-one = omega (arith, st .ends .small)
 
       pub some-keys : 0 < s .count
-      some-keys = omega (arith, st .count-is, st .ends .touches bit-one .0)
-
-      fin : Final xs
-      fin = final xs (st .ends .touches bit-one .0)
-
-      front-count : length (map runKey (fin .front)) ≡ s .count - 1
-      front-count = omega (arith, length-map (fin .front) runKey, fin .count, st .count-is)
-
-      keys-split : take (s .count) ks ≡ map runKey (fin .front) ++ runKey (fin .last) ∷ []
-      keys-split = st .keys-are ∙ ap (λ (z : List Run). map runKey z) (fin .is) ∙ keys-append (fin .front) (fin .last ∷ [])
-
-      last-key : getD ks (s .count - 1) 0 ≡ runKey (fin .last)
-      last-key =
-          sym (getD-take (s .count) ks (s .count - 1) 0 (omega (arith, some-keys)))
-          ∙ ap (λ (z : List ℕ). getD z (s .count - 1) 0) keys-split
-          ∙ getD-at (map runKey (fin .front)) (runKey (fin .last)) [] 0 (s .count - 1) front-count
-
-      front-keys : take (s .count - 1) ks ≡ map runKey (fin .front)
-      front-keys =
-          sym (take-take (s .count - 1) (s .count) ks (omega arith))
-          ∙ ap (take (s .count - 1)) keys-split
-          ∙ take-at (map runKey (fin .front)) (runKey (fin .last) ∷ []) (s .count - 1) front-count
-
-      touching : fin .last .high + 1 ≡ 8 * i
-      touching = omega (arith, fin .top, st .ends .touches bit-one .1)
-
-      key-there : s .key ≡ runKey (fin .last)
-      key-there = st .key-is some-keys ∙ last-key
+      some-keys = last-there b (8 * i) ks s st bit-one
 
       pub low-key : s .key ≤ 90000000
-      low-key = omega (arith, key-there, touching, final-low (bitAt b) (8 * i) fin)
+      low-key = last-small b (8 * i) ks s st bit-one (omega arith)
 
-      pub turn-touch : (ks′ : List ℕ) (r : Last) → Put ks (s .count - 1) (countIn e) (x % 2) (headed (s .key + 1) (i * 524296) (partsIn e)) ks′ r → Turn b i ks s ks′ r
+      pub turn-touch : (ks′ : List ℕ) (r : Last) → Put ks (s .count - 1) (countIn e) (x % 2) (headed (s .key + 1) (i * 524296) (partsIn e)) ks′ r → Turn b (8 * (i + 1)) ks s ks′ r
       turn-touch =
+          let f = fin b (8 * i) ks s st bit-one in
           let first : firstLow (keyRuns (partsIn e)) ≡ 0 = ap firstLow same-octet ∙ octet-first x small full (omega (arith, st .ends .small)) in
-          let runs : setRuns (bitAt b) (8 * (i + 1)) ≡ joinRuns (fin .front ++ fin .last ∷ []) (shifted (8 * i) (keyRuns (partsIn e))) =
-          next-runs ∙ ap (λ (z : List Run). joinRuns z (shifted (8 * i) (keyRuns (partsIn e)))) (fin .is) in
-          let key : s .key + 1 ≡ runKey (fin .last) + 1 = ap (λ (z : ℕ). z + 1) key-there in
-          written (s .count - 1) (s .key + 1) (i * 524296) (omega arith) (omega (arith, some-keys))
+          let runs : setRuns (bitAt b) (8 * (i + 1)) ≡ joinRuns (f .front ++ f .last ∷ []) (shifted (8 * i) (keyRuns (partsIn e))) =
+          next-runs ∙ ap (λ (z : List Run). joinRuns z (shifted (8 * i) (keyRuns (partsIn e)))) (f .is) in
+          let key : s .key + 1 ≡ runKey (f .last) + 1 = ap (λ (z : ℕ). z + 1) (key-there b (8 * i) ks s st bit-one) in
+          put (s .count - 1) (s .key + 1) (i * 524296) (omega arith) (omega (arith, some-keys))
           (ap (λ (z : List Run). map runKey z) runs
-          ∙ rw (key, front-keys, base-is) (touch-keys (8 * i) (fin .front) (fin .last) (partsIn e) (omega (arith, parts-length, some-runs)) first touching))
+          ∙ rw (key, front-keys b (8 * i) ks s st bit-one, base-is) (touch-keys (8 * i) (f .front) (f .last) (partsIn e) (omega (arith, parts-length, some-runs)) first (touching b (8 * i) ks s st bit-one)))
 
   -- an octet of ones goes on from the last run
   module _ (x : ℕ) (octet : x ≡ getD b i 0) (small : x < 256) (ones : s .bit + x ≡ 256) where
@@ -228,40 +183,10 @@ module _ (b : List ℕ) (i e : ℕ) (ks : List ℕ) (s : Last) (inside : i < len
             ap (λ (k : ℕ). k ∷ []) v
         single (p ∷ o ∷ ps) q = let n : suc (suc (length (keyRuns ps))) ≡ 1 = ap length q in absurd (omega arith)
 
-    pub turn-ones : Turn b i ks s (set ks (s .count - 1) (s .key + 8)) (record { count = s .count; key = s .key + 8; bit = 1 })
+    pub turn-ones : Turn b (8 * (i + 1)) ks s (set ks (s .count - 1) (s .key + 8)) (record { count = s .count; key = s .key + 8; bit = 1 })
     turn-ones =
         let one : countIn e ≡ 1 = sym parts-length ∙ ap length ones-parts in
         let moved : s .key + 8 ≡ s .key + 1 + 7 = omega arith in
         let bit : 1 ≡ x % 2 = omega (arith, ones-is) in
         turn-touch x octet small ones-full ones-touch _ _
         (omega (arith, one, ones-keys), bit, λ h. sym (getD-set-same ks (s .count - 1) (s .key + 8) 0 (omega (arith, few-keys, places))), rw (ones-parts, moved))
-
--- before the first octet
-pub stands-start : (b ks : List ℕ) → Stands b 0 ks (record { count = 0; key = 0; bit = 0 })
-stands-start b ks =
-    record {
-      count-is = refl;
-      keys-are = refl;
-      ends = record { small = omega arith; touches = λ t. absurd (omega arith); apart = λ t n. absurd (omega arith) };
-      key-is = λ h. absurd (omega arith);
-    }
-
--- what stays from one place on stays from a later one on
-pub stays : (m n : ℕ) (xs ys zs : List ℕ) → m ≤ n → drop n xs ≡ drop n ys → drop m ys ≡ drop m zs → drop n xs ≡ drop n zs
-stays m n xs ys zs h e f =
-    let k : m + (n - m) ≡ n = omega arith in
-    let more : (l : List ℕ) → drop (n - m) (drop m l) ≡ drop n l = λ l. drop-drop (n - m) m l ∙ ap (λ (j : ℕ). drop j l) k in
-    e ∙ sym (more ys) ∙ ap (drop (n - m)) f ∙ more zs
-
--- after the last one
-pub stands-end : (b ks rest : List ℕ) (i : ℕ) (s : Last) → i ≡ length b → Stands b i ks s → drop (s .count) ks ≡ drop (s .count) rest
-    → (s .count ≡ length (bitmapRuns b)) × (ks ≡ inPlace (bitmapRuns b) rest)
-stands-end b ks rest i s e st d =
-    let place : 8 * i ≡ 8 * length b = omega arith in
-    let runs : setRuns (bitAt b) (8 * i) ≡ bitmapRuns b = ap (setRuns (bitAt b)) place in
-    let count : s .count ≡ length (bitmapRuns b) = st .count-is ∙ ap length runs in
-    let keys : ks ≡ map runKey (bitmapRuns b) ++ drop (length (bitmapRuns b)) rest =
-    sym (take-append-drop (s .count) ks)
-    ∙ ap (λ (z : List ℕ). z ++ drop (s .count) ks) (st .keys-are ∙ ap (λ (z : List Run). map runKey z) runs)
-    ∙ ap (λ (z : List ℕ). map runKey (bitmapRuns b) ++ z) (d ∙ ap (λ (j : ℕ). drop j rest) count) in
-    (count, keys)

@@ -1,14 +1,15 @@
--- How the engine goes, octet by octet; no public contract names this.
+-- How the engines go, bit by bit and octet by octet; no public contract names this.
 use mathlib.Core.Path.{_≡_}
 use mathlib.Core.List.{List, [], _∷_, map}
 use Prim.Native.Nat.{ℕ, _+_, _-_, _*_, _≤_, _<_}
-use lib.ListN.{length, getD, take}
+use lib.ListN.{length, getD, take, drop}
 use Rattle.label.specs.declared.Run.{Run}
 use Rattle.label.specs.Runs.{topOf}
 use Rattle.label_keys.specs.Keys.{runKey}
 use Rattle.option.specs.Bitmap.{bitAt}
 use Rattle.option.specs.Index.{setRuns}
 use Rattle.option_read_bitmap.specs.declared.Last.{Last}
+use Rattle.option_read_bitmap.specs.Bitmap.{bitmapRuns, inPlace}
 
 -- keys moved up: the first by one number, the others by another
 abbrev pub headed : ℕ → ℕ → List ℕ → List ℕ
@@ -25,9 +26,17 @@ pub record Ends (rs : List Run) (c bit : ℕ) : Type 0 where
 abbrev pub LastKey : List ℕ → Last → Type 0
 LastKey ks s = 0 < s .count → s .key ≡ getD ks (s .count - 1) 0
 
--- the first i octets are read: the keys of their runs are written
-pub record Stands (b : List ℕ) (i : ℕ) (ks : List ℕ) (s : Last) : Type 0 where
-  pub count-is : s .count ≡ length (setRuns (bitAt b) (8 * i))
-  pub keys-are : take (s .count) ks ≡ map runKey (setRuns (bitAt b) (8 * i))
-  pub ends : Ends (setRuns (bitAt b) (8 * i)) (8 * i) (s .bit)
+-- the categories below c are read: the keys of their runs are written
+pub record Stands (b : List ℕ) (c : ℕ) (ks : List ℕ) (s : Last) : Type 0 where
+  pub count-is : s .count ≡ length (setRuns (bitAt b) c)
+  pub keys-are : take (s .count) ks ≡ map runKey (setRuns (bitAt b) c)
+  pub ends : Ends (setRuns (bitAt b) c) c (s .bit)
   pub key-is : LastKey ks s
+
+-- a turn of either engine: then the categories below c are read, and what stands after the keys stays
+abbrev pub Turn : List ℕ → ℕ → List ℕ → Last → List ℕ → Last → Type 0
+Turn b c ks s ks′ s′ = Stands b c ks′ s′ × (s .count ≤ s′ .count) × (drop (s′ .count) ks′ ≡ drop (s′ .count) ks) × (length ks′ ≡ length ks)
+
+-- all categories are read
+abbrev pub Filled : List ℕ → List ℕ → List ℕ → ℕ → Type 0
+Filled b ks ks′ n = (n ≡ length (bitmapRuns b)) × (ks′ ≡ inPlace (bitmapRuns b) ks)

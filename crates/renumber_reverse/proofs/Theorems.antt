@@ -1,9 +1,10 @@
 -- The theorems of `specs/Theorems.antt`.
 use mathlib.Core.Path.{_≡_, refl, sym, _∙_, ap}
-use mathlib.Core.Bool.{true}
+use mathlib.Core.Bool.{true, false}
 use mathlib.Core.List.{List}
-use Prim.Native.Nat.{ℕ}
-use lib.ListN.{take}
+use Prim.Native.Nat.{ℕ, _/_, _≤_, _<_}
+use lib.ListN.{length, take}
+use borrow.Author.Tests.{le-leb, lt-leb}
 use Rattle.label.specs.declared.Label.{Label}
 use Rattle.table.specs.declared.Row.{Row}
 use Rattle.table.specs.declared.Table.{Table}
@@ -16,8 +17,8 @@ use Rattle.table.proofs.Numbers.{has-number, number-has, one-category}
 use Rattle.renumber.specs.Renumber.{renumberedAs, renumberedOf}
 use Rattle.renumber.specs.Theorems.{Far}
 use Rattle.renumber.proofs.Theorems.{Led, led, renumbering}
-use Rattle.renumber_reverse.specs.Reverse.{turnedRows, turnedLevels, reverseTable}
-use Rattle.renumber_reverse.specs.Theorems.{TurnedRound, Reversing}
+use Rattle.renumber_reverse.specs.Reverse.{turnedRows, turnedLevels, reverseTable, reversedOf, reverseHead, withRows}
+use Rattle.renumber_reverse.specs.Theorems.{TurnedRound, Reversing, ReverseRefused}
 use Rattle.renumber_reverse.proofs.Rows.{sends-turned}
 use Rattle.renumber_reverse.proofs.Levels.{take-turned, partner-back, levels-twice}
 use Rattle.renumber_reverse.proofs.Tables.{used-few, back-used, back-sound, back-twice}
@@ -63,4 +64,13 @@ out-and-back l t ls m e =
     renumbering .found m (reverseTable t) (turnedLevels ls) l (back-sound t ls (k .sound)) (f .formed) (home t (m .domain) (f .domain)) (far-back l t ls m k f)
 
 pub reversing : Reversing
-reversing = record { sound = back-sound; twice = back-twice; pairs = levels-twice; turnedRow = turned-round; back = out-and-back }
+reversing = record { sound = back-sound; twice = back-twice; pairs = levels-twice; turned = turned-round; back = out-and-back }
+
+pub reverse-refused : ReverseRefused
+unfolding reversedOf reverseHead withRows
+reverse-refused =
+    record {
+      unsound = λ t ls was e. (rw e, rw e, rw e);
+      short = λ t ls was e h. let k = lt-leb (t .count) (length was / 3) h in (rw (e, k), rw (e, k));
+      given = λ t ls was e. (rw e, λ h. rw (e, le-leb (t .count) (length was / 3) h));
+    }

@@ -32,7 +32,7 @@ use Rattle.table_choose.specs.declared.Tables.{Tables}
 use Rattle.table_choose.specs.Tables.{usedTables, allTablesSound, tablesSound, noTableFrom}
 use Rattle.table_choose.specs.Theorems.{NoneFor}
 use Rattle.table_choose.proofs.Theorems.{first-table}
-use Rattle.route_decide.specs.Routing.{Routing, arrivingListed, boxSound, chosen, arrivingPort, leavingPort, tableBetween, between, chosenPair, setCheck, leavingBasicBy, noRoute, routeCheck, routingChecks, routingOf, routedOutput}
+use Rattle.route_decide.specs.Routing.{Routing, arrivingListed, boxSound, chosen, arrivingPort, leavingPort, tableBetween, between, pairBy, chosenPair, setCheck, leavingBasicBy, noRoute, routeCheck, routingChecks, routingOf, routedOutput}
 use Rattle.route_decide.proofs.Lists.{skip, cut, refuses, writes-nothing}
 
 -- the parts of a sound set
@@ -54,6 +54,9 @@ module _ (b : Routing) (e : boxSound b ≡ true) where
   last-of : (arrivingListed b && routesSound (domainsOf (b .ports)) (b .routes)) ≡ true
   last-of = and-right (tablesSound (b .tables)) (arrivingListed b && routesSound (domainsOf (b .ports)) (b .routes)) rest-of
 
+  pub routes-of : routesSound (domainsOf (b .ports)) (b .routes) ≡ true
+  routes-of = and-right (arrivingListed b) (routesSound (domainsOf (b .ports)) (b .routes)) last-of
+
   pub arriving-sound : portSound (arrivingPort b) ≡ true
   arriving-sound = sound-at (b .ports) ports-of (b .arriving) (ltb-true (b .arriving) (length (b .ports)) (and-left (arrivingListed b) (routesSound (domainsOf (b .ports)) (b .routes)) last-of))
 
@@ -64,15 +67,12 @@ module _ (b : Routing) (e : boxSound b ≡ true) where
       let m : length (domainsOf (b .ports)) ≡ length (b .ports) = length-map (b .ports) (λ (q : Port). q .domain) in
       sound-at (b .ports) ports-of (r .port) (omega arith)
 
-  abbrev pairBy : Route → Forwarding
-  pairBy r = between (arrivingPort b) (portAt (b .ports) (r .port)) (b .tables) (b .facts) (b .area) (b .room)
-
   -- no record that the two-port decision reads is unsound
-  pub records-none : (r : Route) → chosen b ≡ By r → records (pairBy r) ≡ none
+  pub records-none : (r : Route) → chosen b ≡ By r → records (pairBy b r) ≡ none
   unfolding records
   records-none r c =
       let t = first-table .sound (arrivingPort b .domain) (portAt (b .ports) (r .port) .domain) (usedTables (b .tables)) tables-of in
-      rw (arriving-sound, leaving-sound r c, t, or-true (sameDomain (pairBy r)))
+      rw (arriving-sound, leaving-sound r c, t, or-true (sameDomain (pairBy b r)))
     where
       or-true : (x : Bool) → (x || true) ≡ true
       or-true true = refl
@@ -90,7 +90,7 @@ module _ (b : Routing) (e : boxSound b ≡ true) where
     -- the checks of the two-port decision, before and from 16 on
     abbrev front : List (Option Refusal)
     front =
-        sizes (pairBy r)
+        sizes (pairBy b r)
         ∷ none
         ∷ walkCheck (arrivingPort b) (b .area)
         ∷ requiredCheck (arrivingPort b) (b .area)
@@ -98,24 +98,24 @@ module _ (b : Routing) (e : boxSound b ≡ true) where
         ∷ badBasicCheck (arrivingPort b) (b .area)
         ∷ missingBasicCheck (arrivingPort b) (b .area)
         ∷ basicRangeCheck (arrivingPort b) (b .area) 9
-        ∷ leavingBasicCheck (pairBy r)
+        ∷ leavingBasicCheck (pairBy b r)
         ∷ rangeCheck (arrivingPort b) (b .area) 9
         ∷ []
 
     abbrev back : List (Option Refusal)
-    back = numberCheck (crossing (pairBy r)) ∷ leavingCheck (crossing (pairBy r)) ∷ spellingCheck (crossing (pairBy r)) (keptOf (b .area)) ∷ []
+    back = numberCheck (crossing (pairBy b r)) ∷ leavingCheck (crossing (pairBy b r)) ∷ spellingCheck (crossing (pairBy b r)) (keptOf (b .area)) ∷ []
 
-    first-routed : firstOf (routingChecks b) ≡ firstOf (forwardChecks (pairBy r))
+    first-routed : firstOf (routingChecks b) ≡ firstOf (forwardChecks (pairBy b r))
     first-routed =
         let here : firstOf (routingChecks b) ≡ firstOf (front ++ (none ∷ back)) = rw (set-none, route-none, c) in
-        let there : firstOf (forwardChecks (pairBy r)) ≡ firstOf (front ++ back) = rw (records-none r c) in
+        let there : firstOf (forwardChecks (pairBy b r)) ≡ firstOf (front ++ back) = rw (records-none r c) in
         here ∙ skip front back ∙ sym there
 
-    pub routed-of : routingOf b ≡ forwardOf (pairBy r)
+    pub routed-of : routingOf b ≡ forwardOf (pairBy b r)
     unfolding routingOf forwardOf
     routed-of = rw (first-routed, c)
 
-    pub output-of : (out : List ℕ) → routedOutput b out ≡ outputOf (pairBy r) out
+    pub output-of : (out : List ℕ) → routedOutput b out ≡ outputOf (pairBy b r) out
     unfolding routedOutput outputOf
     output-of out = rw (first-routed, c)
 

@@ -3,4 +3,3 @@ pub mod Decides
 pub mod Unrouted
 pub mod Gone
 pub mod Theorems
-pub mod Demands

@@ -1,4 +1,3 @@
 pub mod Routing
 pub mod Stages
 pub mod Theorems
-pub mod Demands

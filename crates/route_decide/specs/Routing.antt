@@ -15,6 +15,7 @@ use Rattle.forward_rules.specs.Crossing.{Forwarding, sizes, leavingBasicCheck, 
 use Rattle.forward_rules.specs.Forward.{optionOctets, leavingCount, written}
 use Rattle.file_table.specs.declared.Renumbering.{Renumbering}
 use Rattle.file_table.specs.TableFormat.{levelsOf}
+use Rattle.route.specs.declared.Route.{Route}
 use Rattle.route.specs.declared.Chosen.{Chosen}
 use Rattle.route.specs.declared.Chosen.the-variants.{NoRoute, By}
 use Rattle.route.specs.Route.{routesOf, longest, routesSound}
@@ -72,6 +73,10 @@ between a l ts facts area room =
       area = area;
       room = room;
     }
+
+-- the forwarding to a route's port
+abbrev pub pairBy : Routing → Route → Forwarding
+pairBy b r = between (arrivingPort b) (portAt (b .ports) (r .port)) (b .tables) (b .facts) (b .area) (b .room)
 
 -- "the two-port decision for the chosen pair": what it is asked of
 abbrev pub chosenPair : Routing → Forwarding

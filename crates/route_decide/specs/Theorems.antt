@@ -11,17 +11,16 @@ use Rattle.forward_rules.specs.Crossing.{sizes, numberCheck, crossing}
 use Rattle.forward_rules.specs.Forward.{forwardOf, outputOf}
 use Rattle.route.specs.declared.Route.{Route}
 use Rattle.route.specs.declared.Chosen.the-variants.{NoRoute, By}
-use Rattle.route_ports.specs.Ports.{portAt}
 use Rattle.table_choose.specs.Tables.{usedTables}
 use Rattle.table_choose.specs.Theorems.{NoneFor}
-use Rattle.route_decide.specs.Routing.{Routing, boxSound, chosen, arrivingPort, leavingPort, between, chosenPair, noRoute, routingOf, routedOutput}
+use Rattle.route_decide.specs.Routing.{Routing, boxSound, chosen, arrivingPort, leavingPort, pairBy, chosenPair, noRoute, routingOf, routedOutput}
 
 pub record Routes : Type 0 where
   -- where a route is chosen, the decision is the two-port decision for its port, with the first table for that pair of domains; and so is the output
   pub routed : (b : Routing) (r : Route) → boxSound b ≡ true → chosen b ≡ By r
-      → routingOf b ≡ forwardOf (between (arrivingPort b) (portAt (b .ports) (r .port)) (b .tables) (b .facts) (b .area) (b .room))
+      → routingOf b ≡ forwardOf (pairBy b r)
   pub output : (b : Routing) (r : Route) (out : List ℕ) → boxSound b ≡ true → chosen b ≡ By r
-      → routedOutput b out ≡ outputOf (between (arrivingPort b) (portAt (b .ports) (r .port)) (b .tables) (b .facts) (b .area) (b .room)) out
+      → routedOutput b out ≡ outputOf (pairBy b r) out
   -- where none is chosen, 1 and the checks of the arriving port come first, and then 22; nothing is written
   pub unrouted : (b : Routing) → boxSound b ≡ true → chosen b ≡ NoRoute
       → routingOf b ≡ decided (silenced (b .facts)) (firstOf (sizes (chosenPair b) ∷ (arrivalChecks (arrivingPort b) (b .area) 9 ++ (some noRoute ∷ [])))) zeroLabel 0

@@ -1,4 +1,4 @@
--- The theorem of `specs/Demands.antt`.
+-- Forwarded only with a sound set and a route that matches.
 use mathlib.Core.Path.{_≡_, refl, sym, _∙_, ap}
 use mathlib.Core.Bool.{Bool, true, false, _||_}
 use mathlib.Core.List.{List, [], _∷_, _++_}
@@ -8,7 +8,6 @@ use native.Mathlib.Omega.{arith}
 use lib.Dec.{ltb}
 use Rattle.label.specs.declared.Label.{Label}
 use Rattle.label.specs.Label.{zeroLabel}
-use Rattle.decision.specs.declared.Facts.{Facts}
 use Rattle.decision.specs.declared.Decision.{Decision}
 use Rattle.decision.specs.Decision.{Refusal, silenced, decided}
 use Rattle.area.specs.Area.{badArea}
@@ -20,9 +19,15 @@ use Rattle.forward_rules.specs.Forward.{forwardOf}
 use Rattle.route.specs.declared.Route.{Route}
 use Rattle.route.specs.declared.Chosen.{Chosen}
 use Rattle.route.specs.declared.Chosen.the-variants.{NoRoute, By}
-use Rattle.route_decide.specs.Routing.{Routing, boxSound, chosen, arrivingPort, chosenPair, noRoute, routingOf}
-use Rattle.route_decide.specs.Demands.{pairBy, withArea, Passing, RoutedDemands}
+use Rattle.route_decide.specs.Routing.{Routing, boxSound, chosen, arrivingPort, pairBy, chosenPair, noRoute, routingOf}
 use Rattle.route_decide.proofs.Decides.{routed-of, unrouted-of, unsound-of}
+
+-- a sound set, a route chosen, and the two-port decision for its pair forwards
+pub record Passing (b : Routing) : Type 0 where
+  pub route : Route
+  pub sound : boxSound b ≡ true
+  pub matched : chosen b ≡ By route
+  pub forwarded : forwardOf (pairBy b route) .number ≡ 0
 
 -- where a check applies, and its number is not 0, the decision's number is not 0
 stops : (quiet : Bool) (x : Refusal) (o : Option Refusal) (xs : List (Option Refusal)) (l : Label) (n : ℕ) → Real o → (x .number ≡ 0 → ⊥) → Real (firstOf xs)
@@ -57,16 +62,3 @@ passes-of b z = by-set (boxSound b) refl
     by-set : (t : Bool) → boxSound b ≡ t → Passing b
     by-set true e = by-route e (chosen b) refl
     by-set false e = absurd (stops (silenced (b .facts)) (silent 2) (sizes (chosenPair b)) [] zeroLabel 0 (sizes-real b) (λ h. omega arith) tt (number (unsound-of b e) z))
-
-alike-of : (b : Routing) (r : Route) (facts : Facts) (area : List ℕ) (room : ℕ) → boxSound b ≡ true → chosen b ≡ By r
-    → forwardOf (pairBy b r) ≡ forwardOf (pairBy (withArea b facts area room) r) → routingOf b ≡ routingOf (withArea b facts area room)
-unfolding boxSound chosen
-alike-of b r facts area room e c h = routed-of b e r c ∙ h ∙ sym (routed-of (withArea b facts area room) e r c)
-
-pub demands : RoutedDemands
-demands =
-    record {
-      passes = passes-of;
-      passing = λ b p. ap (λ (d : Decision). d .number) (routed-of b (p .sound) (p .route) (p .matched)) ∙ p .forwarded;
-      alike = alike-of;
-    }
