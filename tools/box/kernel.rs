@@ -1,0 +1,87 @@
+//! What the box's own kernel has to say of an interface: its link address and MTU, and the ways on which the kernel itself would carry
+//! datagrams past the decision.
+
+use crate::routes::read_link;
+use std::fs::{read_to_string, write};
+use std::path::Path;
+
+pub struct Link {
+    pub own: [u8; 6],
+    pub mtu: usize,
+    pub up: bool,
+}
+
+fn known(name: &str, what: &str) -> Option<String> {
+    read_to_string(format!("/sys/class/net/{name}/{what}")).ok().map(|text| text.trim().to_string())
+}
+
+/// Link address and MTU of the interface with this index.
+pub fn link(name: &str, index: u32) -> Result<Link, String> {
+    let told = |what| known(name, what).ok_or(format!("{name}: /sys/class/net/{name}/{what} cannot be read"));
+    if told("ifindex")? != index.to_string() {
+        return Err(format!("{name}: /sys shows the interfaces of another network namespace"));
+    }
+    if told("type")? != "1" {
+        return Err(format!("{name} is no Ethernet interface"));
+    }
+    let mtu = told("mtu")?.parse().ok().filter(|m| (68..=65535).contains(m)).ok_or(format!("{name}: its MTU is not from 68 to 65535"))?;
+    let flags = u32::from_str_radix(told("flags")?.trim_start_matches("0x"), 16).unwrap_or(0);
+    Ok(Link { own: read_link(&told("address")?)?, mtu, up: flags & 1 == 1 })
+}
+
+fn switch(path: &str) -> bool {
+    read_to_string(format!("/proc/sys/net/{path}")).is_ok_and(|text| text.trim() != "0")
+}
+
+/// A way past the box: what it is in words, and the switch that closes it, if a switch does.
+struct Way {
+    words: String,
+    close: Option<(String, &'static str)>,
+}
+
+fn ways(name: &str) -> Vec<Way> {
+    let mut found = Vec::new();
+    let mut add = |words: String, close: Option<(String, &'static str)>| found.push(Way { words, close });
+    let v4 = format!("ipv4/conf/{name}/forwarding");
+    if !Path::new(&format!("/proc/sys/net/{v4}")).exists() {
+        add(format!("whether the kernel forwards what comes in by {name} is unknown: /proc/sys/net/{v4} is missing"), None);
+    }
+    if switch(&v4) {
+        add(format!("the kernel forwards IPv4 that comes in by {name} (net.ipv4.conf.{name}.forwarding is not 0)"), Some((v4, "0")));
+    }
+    let v6 = format!("ipv6/conf/{name}/disable_ipv6");
+    let forced = switch(&format!("ipv6/conf/{name}/force_forwarding"));
+    if (switch("ipv6/conf/all/forwarding") || forced) && Path::new(&format!("/proc/sys/net/{v6}")).exists() && !switch(&v6) {
+        add(format!("the kernel forwards IPv6 that comes in by {name} (net.ipv6.conf.all.forwarding is not 0)"), Some((v6, "1")));
+    }
+    let mpls = format!("mpls/conf/{name}/input");
+    if switch(&mpls) {
+        add(format!("the kernel forwards MPLS that comes in by {name} (net.mpls.conf.{name}.input is not 0)"), Some((mpls, "0")));
+    }
+    if switch(&format!("ipv4/conf/{name}/mc_forwarding")) {
+        add(format!("a multicast router runs on {name} (net.ipv4.conf.{name}.mc_forwarding is not 0)"), None);
+    }
+    if Path::new(&format!("/sys/class/net/{name}/master")).exists() {
+        add(format!("{name} belongs to a bridge, a bond or a virtual router, which carries frames by itself"), None);
+    }
+    found
+}
+
+/// The ways past the box that are open, in words. With `alone` those that a switch closes are closed, and told in `closed`.
+pub fn open_ways(name: &str, alone: bool, closed: &mut Vec<String>) -> Vec<String> {
+    let mut open = Vec::new();
+    for way in ways(name) {
+        match &way.close {
+            Some((path, value)) if alone && write(format!("/proc/sys/net/{path}"), value).is_ok() => {
+                closed.push(format!("{}: switched off", way.words));
+            }
+            _ => open.push(way.words),
+        }
+    }
+    open
+}
+
+/// Whether the kernel has a route by the interface, and so an address of its own: it would answer there for itself.
+pub fn speaks(name: &str) -> bool {
+    read_to_string("/proc/net/route").is_ok_and(|text| text.lines().skip(1).any(|l| l.split_whitespace().next() == Some(name)))
+}
