@@ -1,0 +1,184 @@
+# Part of tools/live: what an operator or an attacker would try on the box itself.
+
+said() { grep -q -- "$1" "$made/box"; } # a line of the box
+arrives() { # what the right host gets of one datagram from the left one: options area, octets
+    local before
+    before=$(lines "$made/right")
+    at $left "$host" send 198.51.100.10:5000 "$1" "${2:-8}" 2>/dev/null || true
+    [ "$3" = nothing ] || waits "$made/right" "$before" || true
+    [ "$3" != nothing ] || sleep 0.1
+    [ "$(tail -n +$((before + 1)) "$made/right" | cut -d' ' -f2)" = "${3/nothing/}" ]
+}
+far=860c000000090206000403e8
+
+echo
+echo "path MTU: a label of 12 octets leaves with 16"
+asked=$(at $left "$host" ask 198.51.100.10:5000 $grows 1460)
+row "1,492 octets that would be 1,496 past an MTU of 1,500: what the host's kernel tells its program" "$asked" [ "$asked" = "errno 90 type 3 code 4 word 1496" ]
+row "the message has the near domain's label, as it came" "$(tail -1 "$made/messages")" [ "$(tail -1 "$made/messages")" = "192.0.2.1 $grows 3 4 1496" ]
+row "4 octets shorter: it passes" "" arrives $grows 1456 860e000000090508000403ef03e80000
+ip -n $left route flush cache
+start $right "$made/serve" "$host" serve 198.51.100.10:6000
+server=$started
+moved=$(at $left timeout 20 "$host" transfer 198.51.100.10:6000 $grows 2000000 2>&1) || true
+holds grep -q received "$made/serve" || true
+row "2,000,000 octets over TCP: $moved" "$(tail -1 "$made/serve")" grep -q "received 2000000: all" "$made/serve"
+kill "$server" 2>/dev/null || true
+
+echo
+echo "reload: SIGHUP"
+changed=$made/gateway.bin
+cp $gateway "$changed"
+started=$gate; stop TERM
+start $middle "$made/box" "$box" "$changed" "${three[@]}"
+printf '\x02' | dd of="$changed" bs=1 seek=2 conv=notrunc 2>/dev/null
+kill -HUP "$started"; holds said REFUSED || true
+row "a file of another version" "$(grep REFUSED "$made/box" | sed "s|$made/||; s/: tools.*;/ ..;/")" said 'REFUSED gateway file .* is refused.*the old ones stay'
+row "the box goes on with the old one" "" arrives $good 8 $far
+cp $gateway "$changed"
+printf '\x05' | dd of="$changed" bs=1 seek=99 conv=notrunc 2>/dev/null # level 3 goes to 5 instead of 4
+kill -HUP "$started"; holds said RELOADED || true
+row "a good file, in which level 3 goes to 5" "$(grep RELOADED "$made/box" | sed "s|$made/||")" arrives $good 8 860c000000090206000503e8
+rm "$changed"
+kill -HUP "$started"; holds said 'No such file' || true
+row "no file at all" "$(grep 'No such' "$made/box" | sed "s|$made/||")" said 'REFUSED .*No such file.*the old ones stay'
+stop TERM
+
+echo
+echo "options: each mistake has its word, and the box does not start"
+wrong() { # what is expected, words of the box
+    local why status=0
+    why=$(at $middle timeout 2 "$box" "${@:2}" 2>&1) || status=$?
+    row "${*:3}" "$(head -1 <<<"$why")" eval "[ $status = 2 ] && grep -q -- '$1' <<<\"\$why\""
+}
+wrong 'no option of the box' $gateway "${ends[@]}" --evry 3
+wrong 'no number of seconds from 1 to 86400' $gateway "${ends[@]}" --every soon
+wrong 'interface left is given twice' $gateway --port 0 left 192.0.2.1/24 --port 1 left 198.51.100.1/24
+wrong 'no port number from 0 to 15' $gateway --port left 0 192.0.2.1/24
+wrong 'no prefix length from 0 to 32' $gateway --port 0 left 192.0.2.1/64
+wrong 'has no port 7' $gateway --port 0 left 192.0.2.1/24 --port 7 right 198.51.100.1/24
+wrong 'No such device' $gateway --port 0 left 192.0.2.1/24 --port 1 wrong 198.51.100.1/24
+wrong 'is refused' tools/live "${ends[@]}"
+wrong 'No such file' $gateway "${ends[@]}" --routes "$made/none"
+wrong 'No such file' $gateway "${ends[@]}" --metrics "$made/none/metrics"
+
+echo
+echo "the kernel's own forwarding, with an address of the kernel's on both interfaces"
+forwarding() { at $middle cat /proc/sys/net/ipv4/conf/left/forwarding; }
+forward() { at $middle sysctl -qw net.ipv4.conf.left.forwarding="$1" net.ipv4.conf.right.forwarding="$1"; }
+ip -n $middle addr add 192.0.2.1/24 dev left
+ip -n $middle addr add 198.51.100.1/24 dev right
+forward 1
+row "forwarding on, and no box: an unlabelled datagram arrives" "" arrives - 8 -
+wrong 'the kernel forwards IPv4 that comes in by left.*--alone' $gateway "${ends[@]}"
+start $middle "$made/box" "$box" $gateway "${ends[@]}" --alone
+row "--alone: it starts, and switches forwarding off" "$(grep -m 1 ALONE "$made/box" | cut -c 1-64)" [ "$(forwarding)" = 0 ]
+row "an unlabelled datagram does not arrive" "$(grep DROP "$made/box" | tail -1 | cut -d: -f2 | cut -c 2-64)" arrives - 8 nothing
+row "a label arrives renumbered, and once" "" arrives $good 8 $far
+forward 1; holds eval '[ "$(forwarding)" = 0 ]' || true
+row "switched on while the box runs: it is off again within a second" "" [ "$(forwarding)" = 0 ]
+stop TERM
+forward 0
+start $middle "$made/box" "$box" $gateway "${ends[@]}"
+row "an address of the kernel's is told of" "$(grep -m 1 WARNING "$made/box" | cut -c 1-64)" said 'WARNING the kernel has an address or a route on left'
+forward 1; holds said 'WARNING the kernel forwards' || true
+row "without --alone, switched on while the box runs: it is told" "$(grep 'WARNING the kernel f' "$made/box" | head -1 | cut -c 1-64)" said 'WARNING the kernel forwards IPv4'
+forward 0
+stop TERM
+ip -n $middle addr del 192.0.2.1/24 dev left
+ip -n $middle addr del 198.51.100.1/24 dev right
+ip -n $middle link add bridge type bridge 2>/dev/null && {
+    ip -n $middle link set left master bridge
+    wrong 'belongs to a bridge' $gateway "${ends[@]}" --alone
+    ip -n $middle link set left nomaster
+    ip -n $middle link del bridge
+} || skip "an interface that belongs to a bridge" "this kernel has no bridges"
+
+echo
+echo "output that nobody reads, and a flood of drops"
+mkfifo "$made/pipe"
+sleep 1000 <"$made/pipe" 9>&- & # holds the other end, and reads nothing
+reader=$!
+unread() { # signal
+    ip netns exec $middle "$box" $gateway "${ends[@]}" --lines 100000 --metrics "$made/metrics" >"$made/pipe" 9>&- &
+    started=$!
+    holds grep -q . "$made/metrics" || true
+    at $left "$host" flood 198.51.100.10:5000 - 18 0.5 >"$made/sent"
+    came=$(lines "$made/right")
+    for _ in 1 2 3 4 5; do at $left "$host" send 198.51.100.10:5000 $good 8; done
+    holds eval '[ $(($(lines "$made/right") - came)) -ge 5 ]' || true
+    came=$(($(lines "$made/right") - came))
+    sent=$(cut -d' ' -f2 <"$made/sent") sent=${sent%,}
+    stop "$1"
+    rm -f "$made/metrics.last"; mv "$made/metrics" "$made/metrics.last"
+}
+for signal in TERM INT; do
+    unread $signal
+    row "after $sent drops into a pipe that nobody reads: good datagrams of five that arrive" "$came" [ "$came" = 5 ]
+    row "SIG$signal ends it within a second" "after $milliseconds ms" [ $slow = no ]
+done
+kill $reader; wait $reader 2>/dev/null || true
+count() { awk -v what="$1" 'index($0, "inglebreek_" what) == 1 { n += $NF } END { print n + 0 }' "$made/metrics.last"; }
+decided=$(awk '/number="6"/ { print $NF }' "$made/metrics.last") lost=$(awk '/lost before/ { print $NF }' "$made/metrics.last")
+row "its counters are exact: $sent sent, number 6 $decided times, lost before they were taken ${lost:-0}" "lines left out: $(count lines_left_out)" [ "$sent" = $((decided + ${lost:-0})) ]
+start $middle "$made/box" "$box" $gateway "${ends[@]}" --lines 10
+at $left "$host" flood 198.51.100.10:5000 - 18 0.5 >"$made/sent"
+holds said LEFTOUT || true
+told=$(grep -c DROP "$made/box")
+row "--lines 10 and a flood of half a second: lines told" "$told; $(grep -m 1 LEFTOUT "$made/box")" eval "[ $told -le 20 ] && said LEFTOUT"
+stop TERM
+start $middle "$made/box" "$box" $gateway "${ends[@]}" --json --all --metrics "$made/metrics"
+arrives - 8 nothing || true
+arrives $good 8 $far || true
+object='^{"time":[0-9.]*,"event":"forward","in":"left","out":"right","source":"192.0.2.10","destination":"198.51.100.10","number":0,"words":"passed","type":0,"code":0,"pointer":0,"label_in":"'$good'","label_out":"'$far'"}$'
+row "--json: one object a line" "$(grep -o '"number":6,"words":"[a-z ]*"' "$made/box")" eval "grep -q '$object' '$made/box' && said '\"number\":6'"
+stop TERM
+mv "$made/metrics" "$made/metrics.last"
+row "--metrics: counters by number and direction" "$(grep -m 1 'number="6"' "$made/metrics.last" | cut -d'{' -f2)" \
+    grep -qx 'inglebreek_decisions_total{in="left",out="right",number="6",words="label missing"} 1' "$made/metrics.last"
+
+echo
+echo "an interface that goes away, and a VLAN"
+start $middle "$made/box" "$box" $gateway "${ends[@]}"
+ip -n $middle link set left down; holds said 'left is down' || true
+row "left is set down" "$(grep INTERFACE "$made/box" | tail -1)" said 'INTERFACE left is down'
+ip -n $middle link set left up; holds said 'left is up' || true
+row "and up again: datagrams pass" "$(grep INTERFACE "$made/box" | tail -1)" arrives $good 8 $far
+ip -n $middle link del left; holds said 'went away' || true
+row "left is removed" "$(grep INTERFACE "$made/box" | tail -1)" said 'INTERFACE left went away'
+put_up_host $left left $left_link $left_gate 192.0.2.10/24 192.0.2.1
+holds eval '[ "$(grep -c "left is up" "$made/box")" = 2 ]' || true
+row "another of its name comes: datagrams pass" "$(grep INTERFACE "$made/box" | tail -1)" arrives $good 8 $far
+stop TERM
+start $middle "$made/box" "$box" $gateway "${ends[@]}" --vlan 0 7
+vlan() { at $left "$host" raw wire "$(frame $good $udp)"; }
+before=$(lines "$made/right"); vlan; holds said 'not of the interface' || true
+row "--vlan 0 7: an untagged frame" "$(grep DROP "$made/box" | tail -1)" [ "$(lines "$made/right")" = "$before" ]
+type=810000080800; vlan; sleep 0.05
+row "a frame of VLAN 8" "$(grep DROP "$made/box" | tail -1)" [ "$(lines "$made/right")" = "$before" ]
+type=810000070800; vlan; waits "$made/right" "$before" || true
+row "a frame of VLAN 7 passes" "$(tail -1 "$made/right")" [ "$(tail -1 "$made/right" | cut -d' ' -f2)" = $far ]
+type=0800
+if ip -n $left link add link wire name wire.7 type vlan id 7 2>/dev/null; then
+    ip -n $left addr flush dev wire
+    ip -n $left link set wire.7 up
+    ip -n $left addr add 192.0.2.10/24 dev wire.7
+    at $right "$host" send 192.0.2.10:5000 860c000000090206000403eb 8
+    before=$(lines "$made/left")
+    row "back to VLAN 7: question and datagram leave with its tag" "$(holds grep -q 05010500031000 "$made/left"; tail -1 "$made/left")" grep -q 860b00000005010500031000 "$made/left"
+    ip -n $left link del wire.7
+    ip -n $left addr add 192.0.2.10/24 dev wire
+    ip -n $left route add default via 192.0.2.1
+else
+    skip "back to VLAN 7: question and datagram leave with its tag" "this kernel has no VLAN interfaces (8021q)"
+fi
+stop TERM
+
+echo
+echo "what is measured: the far host has a socket for it, and makes no message inside the box's sending call"
+unreachable() { at $right awk '/^Icmp:/ { n += 1; if (n == 2) print $16 }' /proc/net/snmp; }
+start $middle "$made/box" "$box" $gateway "${ends[@]}" --quiet --times --at-once 32
+before=$(unreachable)
+at $left "$host" flood 198.51.100.10:5000 $good 18 0.3 >"$made/sent"
+stop TERM
+row "a flood of 0.3 s, at most 32 at once: $(grep -o 'at once [0-9]*' "$made/box"); messages by the far host" "$(($(unreachable) - before))" eval "[ $(($(unreachable) - before)) = 0 ] && said 'at once'"
