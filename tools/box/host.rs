@@ -11,6 +11,7 @@ const USAGE: &str = "host send ADDRESS:PORT OPTIONS OCTETS [TTL]   one UDP datag
 host raw INTERFACE FRAME                     one frame, in hex
 host receive ADDRESS:PORT                    a line for each datagram: source, IP options, octets of payload
 host messages                                a line for each ICMP message: source, IP options, type, code, the word behind the checksum
+host watch                                   a line for each frame, in hex, of any interface
 host ask ADDRESS:PORT OPTIONS OCTETS         one datagram, and what the kernel reports to its socket: errno, ICMP type, code, word; or none
 host serve ADDRESS:PORT                      takes one TCP connection, and tells how many octets came
 host transfer ADDRESS:PORT OPTIONS OCTETS    so many octets over TCP with these IP options
@@ -165,6 +166,15 @@ fn messages() -> Result<()> {
     }
 }
 
+fn watch() -> Result<()> {
+    let s = unsafe { socket(17, 3, c_int::from(3u16.to_be())) };
+    println!("READY");
+    loop {
+        println!("{}", hex(&take(s, 0)?.0));
+        std::io::stdout().flush()?;
+    }
+}
+
 /// What the kernel reports is `struct sock_extended_err`: errno, origin, type, code, info.
 fn ask(to: &str, options: &str, octets: &str) -> Result<()> {
     let s = sender(options)?;
@@ -270,6 +280,7 @@ fn main() {
         ["raw", interface, frame] => raw(interface, frame),
         ["receive", at] => receive(at),
         ["messages"] => messages(),
+        ["watch"] => watch(),
         ["ask", to, options, octets] => ask(to, options, octets),
         ["serve", at] => serve(at),
         ["transfer", to, options, octets] => transfer(to, options, octets),

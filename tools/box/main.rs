@@ -400,7 +400,7 @@ impl Gateway {
             }
             if !busy {
                 let live = self.ports.iter().filter_map(|p| p.live.as_ref().map(|l| &l.interface));
-                system::wait(live, if loading.is_some() { 5 } else { 200 });
+                system::wait(live, if loading.is_some() { 5 } else { 100 });
             }
         }
         self.output.end();

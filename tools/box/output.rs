@@ -248,10 +248,10 @@ impl Output {
         }
     }
 
-    /// The last words; at most half a second is waited for those who read them.
+    /// The last words; at most 0.3 seconds are waited for those who read them.
     pub fn end(&mut self) {
         self.tell_counters();
-        let end = Instant::now() + Duration::from_millis(500);
+        let end = Instant::now() + Duration::from_millis(300);
         if let Some(writer) = &self.metrics {
             writer.finish(end);
             writer.put(self.metrics_text());

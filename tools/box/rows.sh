@@ -49,18 +49,21 @@ echo "options: each mistake has its word, and the box does not start"
 wrong() { # what is expected, words of the box
     local why status=0
     why=$(at $middle timeout 2 "$box" "${@:2}" 2>&1) || status=$?
-    row "${*:3}" "$(head -1 <<<"$why")" eval "[ $status = 2 ] && grep -q -- '$1' <<<\"\$why\""
+    row "${what:-${*:3}}" "$(head -1 <<<"$why")" eval "[ $status = 2 ] && grep -q -- '$1' <<<\"\$why\""
 }
-wrong 'no option of the box' $gateway "${ends[@]}" --evry 3
-wrong 'no number of seconds from 1 to 86400' $gateway "${ends[@]}" --every soon
+what="--evry 3" wrong 'no option of the box' $gateway "${ends[@]}" --evry 3
+what="--every soon" wrong 'no number of seconds from 1 to 86400' $gateway "${ends[@]}" --every soon
 wrong 'interface left is given twice' $gateway --port 0 left 192.0.2.1/24 --port 1 left 198.51.100.1/24
 wrong 'no port number from 0 to 15' $gateway --port left 0 192.0.2.1/24
 wrong 'no prefix length from 0 to 32' $gateway --port 0 left 192.0.2.1/64
 wrong 'has no port 7' $gateway --port 0 left 192.0.2.1/24 --port 7 right 198.51.100.1/24
 wrong 'No such device' $gateway --port 0 left 192.0.2.1/24 --port 1 wrong 198.51.100.1/24
-wrong 'is refused' tools/live "${ends[@]}"
-wrong 'No such file' $gateway "${ends[@]}" --routes "$made/none"
-wrong 'No such file' $gateway "${ends[@]}" --metrics "$made/none/metrics"
+printf 'route 10.0.0.0/8 port 1\nroute 10.0.0.0/8 port 0\nneighbour 192.0.2.9 port 0 link 02:00:00\n' >"$made/routes"
+what="--routes with one prefix twice" wrong 'line 2: a second route for 10.0.0.0/8' $gateway "${ends[@]}" --routes "$made/routes"
+sed -i 2d "$made/routes"
+what="--routes with a bad link address" wrong 'line 2: .*no host.s link address' $gateway "${ends[@]}" --routes "$made/routes"
+what="a gateway file that is none" wrong 'is refused' tools/live "${ends[@]}"
+what="--metrics in a folder that is not there" wrong 'No such file' $gateway "${ends[@]}" --metrics "$made/none/metrics"
 
 echo
 echo "the kernel's own forwarding, with an address of the kernel's on both interfaces"
@@ -70,7 +73,7 @@ ip -n $middle addr add 192.0.2.1/24 dev left
 ip -n $middle addr add 198.51.100.1/24 dev right
 forward 1
 row "forwarding on, and no box: an unlabelled datagram arrives" "" arrives - 8 -
-wrong 'the kernel forwards IPv4 that comes in by left.*--alone' $gateway "${ends[@]}"
+what="the box does not start" wrong 'the kernel forwards IPv4 that comes in by left.*--alone' $gateway "${ends[@]}"
 start $middle "$made/box" "$box" $gateway "${ends[@]}" --alone
 row "--alone: it starts, and switches forwarding off" "$(grep -m 1 ALONE "$made/box" | cut -c 1-64)" [ "$(forwarding)" = 0 ]
 row "an unlabelled datagram does not arrive" "$(grep DROP "$made/box" | tail -1 | cut -d: -f2 | cut -c 2-64)" arrives - 8 nothing
@@ -89,7 +92,7 @@ ip -n $middle addr del 192.0.2.1/24 dev left
 ip -n $middle addr del 198.51.100.1/24 dev right
 ip -n $middle link add bridge type bridge 2>/dev/null && {
     ip -n $middle link set left master bridge
-    wrong 'belongs to a bridge' $gateway "${ends[@]}" --alone
+    what="an interface that belongs to a bridge" wrong 'belongs to a bridge' $gateway "${ends[@]}" --alone
     ip -n $middle link set left nomaster
     ip -n $middle link del bridge
 } || skip "an interface that belongs to a bridge" "this kernel has no bridges"
@@ -109,12 +112,15 @@ unread() { # signal
     holds eval '[ $(($(lines "$made/right") - came)) -ge 5 ]' || true
     came=$(($(lines "$made/right") - came))
     sent=$(cut -d' ' -f2 <"$made/sent") sent=${sent%,}
+    kill -HUP "$started"
+    holds grep -q 'result="taken"} 1' "$made/metrics" && reloaded=yes || reloaded=no
     stop "$1"
     rm -f "$made/metrics.last"; mv "$made/metrics" "$made/metrics.last"
 }
 for signal in TERM INT; do
     unread $signal
     row "after $sent drops into a pipe that nobody reads: good datagrams of five that arrive" "$came" [ "$came" = 5 ]
+    row "SIGHUP is answered" "$(grep -m 1 taken "$made/metrics.last")" [ $reloaded = yes ]
     row "SIG$signal ends it within a second" "after $milliseconds ms" [ $slow = no ]
 done
 kill $reader; wait $reader 2>/dev/null || true
@@ -159,19 +165,13 @@ row "a frame of VLAN 8" "$(grep DROP "$made/box" | tail -1)" [ "$(lines "$made/r
 type=810000070800; vlan; waits "$made/right" "$before" || true
 row "a frame of VLAN 7 passes" "$(tail -1 "$made/right")" [ "$(tail -1 "$made/right" | cut -d' ' -f2)" = $far ]
 type=0800
-if ip -n $left link add link wire name wire.7 type vlan id 7 2>/dev/null; then
-    ip -n $left addr flush dev wire
-    ip -n $left link set wire.7 up
-    ip -n $left addr add 192.0.2.10/24 dev wire.7
-    at $right "$host" send 192.0.2.10:5000 860c000000090206000403eb 8
-    before=$(lines "$made/left")
-    row "back to VLAN 7: question and datagram leave with its tag" "$(holds grep -q 05010500031000 "$made/left"; tail -1 "$made/left")" grep -q 860b00000005010500031000 "$made/left"
-    ip -n $left link del wire.7
-    ip -n $left addr add 192.0.2.10/24 dev wire
-    ip -n $left route add default via 192.0.2.1
-else
-    skip "back to VLAN 7: question and datagram leave with its tag" "this kernel has no VLAN interfaces (8021q)"
-fi
+start_box=$started
+start $middle "$made/watch" "$host" watch
+at $right "$host" send 192.0.2.10:5000 860c000000090206000403eb 8
+holds grep -q "${left_gate//:/}81000007" "$made/watch" || true
+row "back to VLAN 7: what leaves, ARP's question first, has its tag" "$(grep -om 1 "^[0-9a-f]*${left_gate//:/}81000007.*" "$made/watch")" grep -q "${left_gate//:/}810000070806" "$made/watch"
+stop TERM
+started=$start_box
 stop TERM
 
 echo
