@@ -7,7 +7,7 @@ flood() {
     start $middle "$log" "${core[@]}" "$box" $gateway "${ends[@]}" --quiet --times "${limit[@]}"
     [ "${#core[@]}" -eq 0 ] || core=(taskset -c 0)
     ip netns exec $left "${core[@]}" "$host" flood 198.51.100.10:5000 "$area" "$octets" 3 >"$made/sent" 9>&-
-    stop TERM
+    end_with TERM
     sed -n 's/^COUNTERS //; s/[^0-9. ]//g; /[0-9]/p' <(grep 'decided\|at once\|nanoseconds' "$log") | paste -sd' ' |
         { read -r decided _ taken rate taking deciding share sending whole; show_row "$what" "$octets" "$together" "$decided" "$taken" "$rate" "$taking" "$deciding" "$sending" "$whole" "$share"; }
 }

@@ -29,7 +29,7 @@ echo
 echo "reload: SIGHUP"
 changed=$made/gateway.bin
 cp $gateway "$changed"
-started=$gate; stop TERM
+started=$gate; end_with TERM
 start $middle "$made/box" "$box" "$changed" "${three[@]}"
 printf '\x02' | dd of="$changed" bs=1 seek=2 conv=notrunc 2>/dev/null
 kill -HUP "$started"; holds said REFUSED || true
@@ -42,7 +42,7 @@ row "a good file, in which level 3 goes to 5" "$(grep RELOADED "$made/box" | sed
 rm "$changed"
 kill -HUP "$started"; holds said 'No such file' || true
 row "no file at all" "$(grep 'No such' "$made/box" | sed "s|$made/||")" said 'REFUSED .*No such file.*the old ones stay'
-stop TERM
+end_with TERM
 
 echo
 echo "options: each mistake has its word, and the box does not start"
@@ -80,14 +80,14 @@ row "an unlabelled datagram does not arrive" "$(grep DROP "$made/box" | tail -1 
 row "a label arrives renumbered, and once" "" arrives $good 8 $far
 forward 1; holds eval '[ "$(forwarding)" = 0 ]' || true
 row "switched on while the box runs: it is off again within a second" "" [ "$(forwarding)" = 0 ]
-stop TERM
+end_with TERM
 forward 0
 start $middle "$made/box" "$box" $gateway "${ends[@]}"
 row "an address of the kernel's is told of" "$(grep -m 1 WARNING "$made/box" | cut -c 1-64)" said 'WARNING the kernel has an address or a route on left'
 forward 1; holds said 'WARNING the kernel forwards' || true
 row "without --alone, switched on while the box runs: it is told" "$(grep 'WARNING the kernel f' "$made/box" | head -1 | cut -c 1-64)" said 'WARNING the kernel forwards IPv4'
 forward 0
-stop TERM
+end_with TERM
 ip -n $middle addr del 192.0.2.1/24 dev left
 ip -n $middle addr del 198.51.100.1/24 dev right
 ip -n $middle link add bridge type bridge 2>/dev/null && {
@@ -100,7 +100,7 @@ ip -n $middle link add bridge type bridge 2>/dev/null && {
 echo
 echo "output that nobody reads, and a flood of drops"
 mkfifo "$made/pipe"
-sleep 1000 <"$made/pipe" 9>&- & # holds the other end, and reads nothing
+sleep 100 <"$made/pipe" 9>&- & # holds the other end, and reads nothing
 reader=$!
 unread() { # signal
     ip netns exec $middle "$box" $gateway "${ends[@]}" --lines 100000 --metrics "$made/metrics" >"$made/pipe" 9>&- &
@@ -114,7 +114,7 @@ unread() { # signal
     sent=$(cut -d' ' -f2 <"$made/sent") sent=${sent%,}
     kill -HUP "$started"
     holds grep -q 'result="taken"} 1' "$made/metrics" && reloaded=yes || reloaded=no
-    stop "$1"
+    end_with "$1"
     rm -f "$made/metrics.last"; mv "$made/metrics" "$made/metrics.last"
 }
 for signal in TERM INT; do
@@ -132,13 +132,13 @@ at $left "$host" flood 198.51.100.10:5000 - 18 0.5 >"$made/sent"
 holds said LEFTOUT || true
 told=$(grep -c DROP "$made/box")
 row "--lines 10 and a flood of half a second: lines told" "$told; $(grep -m 1 LEFTOUT "$made/box")" eval "[ $told -le 20 ] && said LEFTOUT"
-stop TERM
+end_with TERM
 start $middle "$made/box" "$box" $gateway "${ends[@]}" --json --all --metrics "$made/metrics"
 arrives - 8 nothing || true
 arrives $good 8 $far || true
 object='^{"time":[0-9.]*,"event":"forward","in":"left","out":"right","source":"192.0.2.10","destination":"198.51.100.10","number":0,"words":"passed","type":0,"code":0,"pointer":0,"label_in":"'$good'","label_out":"'$far'"}$'
 row "--json: one object a line" "$(grep -o '"number":6,"words":"[a-z ]*"' "$made/box")" eval "grep -q '$object' '$made/box' && said '\"number\":6'"
-stop TERM
+end_with TERM
 mv "$made/metrics" "$made/metrics.last"
 row "--metrics: counters by number and direction" "$(grep -m 1 'number="6"' "$made/metrics.last" | cut -d'{' -f2)" \
     grep -qx 'inglebreek_decisions_total{in="left",out="right",number="6",words="label missing"} 1' "$made/metrics.last"
@@ -155,7 +155,7 @@ row "left is removed" "$(grep INTERFACE "$made/box" | tail -1)" said 'INTERFACE 
 put_up_host $left left $left_link $left_gate 192.0.2.10/24 192.0.2.1
 holds eval '[ "$(grep -c "left is up" "$made/box")" = 2 ]' || true
 row "another of its name comes: datagrams pass" "$(grep INTERFACE "$made/box" | tail -1)" arrives $good 8 $far
-stop TERM
+end_with TERM
 start $middle "$made/box" "$box" $gateway "${ends[@]}" --vlan 0 7
 vlan() { at $left "$host" raw wire "$(frame $good $udp)"; }
 before=$(lines "$made/right"); vlan; holds said 'not of the interface' || true
@@ -170,9 +170,9 @@ start $middle "$made/watch" "$host" watch
 at $right "$host" send 192.0.2.10:5000 860c000000090206000403eb 8
 holds grep -q "${left_gate//:/}81000007" "$made/watch" || true
 row "back to VLAN 7: what leaves, ARP's question first, has its tag" "$(grep -om 1 "^[0-9a-f]*${left_gate//:/}81000007.*" "$made/watch")" grep -q "${left_gate//:/}810000070806" "$made/watch"
-stop TERM
+end_with TERM
 started=$start_box
-stop TERM
+end_with TERM
 
 echo
 echo "what is measured: the far host has a socket for it, and makes no message inside the box's sending call"
@@ -180,5 +180,5 @@ unreachable() { at $right awk '/^Icmp:/ { n += 1; if (n == 2) print $16 }' /proc
 start $middle "$made/box" "$box" $gateway "${ends[@]}" --quiet --times --at-once 32
 before=$(unreachable)
 at $left "$host" flood 198.51.100.10:5000 $good 18 0.3 >"$made/sent"
-stop TERM
+end_with TERM
 row "a flood of 0.3 s, at most 32 at once: $(grep -o 'at once [0-9]*' "$made/box"); messages by the far host" "$(($(unreachable) - before))" eval "[ $(($(unreachable) - before)) = 0 ] && said 'at once'"
