@@ -11,53 +11,40 @@ const VLAN: u16 = 0x8100;
 /// The types that begin a tag: VLAN, a provider's, and what older equipment took for that.
 const TAGS: [u16; 3] = [VLAN, 0x88a8, 0x9100];
 
-/// Why a frame is dropped without a number.
-#[derive(Clone, Copy, Debug, PartialEq, Eq)]
-pub enum Fault {
-    Short,
-    Joined,
-    OtherHost,
-    Tagged,
-    OtherVlan,
-    OtherType,
-    Arp,
-    Unready,
-    Version,
-    HeaderLength,
-    TotalLength,
-    Checksum,
-    OwnAddress,
-    NoRoute,
-    Group,
-    TimeToLive,
-    Mtu,
-    Unanswered,
-    Unsent,
-    Overrun,
+macro_rules! faults {
+    ($($name:ident $words:literal)*) => {
+        /// Why a frame is dropped without a number.
+        #[derive(Clone, Copy, Debug, PartialEq, Eq)]
+        pub enum Fault {
+            $($name),*
+        }
+        /// The words of each, in its place.
+        pub const FAULTS: &[&str] = &[$($words),*];
+    };
 }
 
-pub const FAULTS: [(Fault, &str); 20] = [
-    (Fault::Short, "frame cut short"),
-    (Fault::Joined, "longer than the arriving interface's MTU: receive offload joins frames"),
-    (Fault::OtherHost, "for another host's link address"),
-    (Fault::Tagged, "VLAN tag where the interface has none"),
-    (Fault::OtherVlan, "not of the interface's VLAN"),
-    (Fault::OtherType, "neither IPv4 nor ARP"),
-    (Fault::Arp, "ARP that is damaged or not of this network"),
-    (Fault::Unready, "transport checksum left to the sender's interface, which did not write it"),
-    (Fault::Version, "not IP version 4"),
-    (Fault::HeaderLength, "header length too small or past the frame"),
-    (Fault::TotalLength, "total length too small or past the frame"),
-    (Fault::Checksum, "wrong header checksum"),
-    (Fault::OwnAddress, "for the box's own address"),
-    (Fault::NoRoute, "no route to the destination"),
-    (Fault::Group, "broadcast or multicast, which does not leave"),
-    (Fault::TimeToLive, "time to live run out"),
-    (Fault::Mtu, "longer than the leaving interface's MTU"),
-    (Fault::Unanswered, "next hop does not answer ARP"),
-    (Fault::Unsent, "not taken by the leaving interface"),
-    (Fault::Overrun, "lost before it was looked at: too many waited"),
-];
+faults! {
+    Short "frame cut short"
+    Joined "longer than the arriving interface's MTU: receive offload joins frames"
+    OtherHost "for another host's link address"
+    Tagged "VLAN tag where the interface has none"
+    OtherVlan "not of the interface's VLAN"
+    OtherType "neither IPv4 nor ARP"
+    Arp "ARP that is damaged or not of this network"
+    Unready "transport checksum left to the sender's interface, which did not write it"
+    Version "not IP version 4"
+    HeaderLength "header length too small or past the frame"
+    TotalLength "total length too small or past the frame"
+    Checksum "wrong header checksum"
+    OwnAddress "for the box's own address"
+    NoRoute "no route to the destination"
+    Group "broadcast or multicast, which does not leave"
+    TimeToLive "time to live run out"
+    Mtu "longer than the leaving interface's MTU"
+    Unanswered "next hop does not answer ARP"
+    Unsent "not taken by the leaving interface"
+    Overrun "lost before it was looked at: too many waited"
+}
 
 /// A VLAN tag: its type, and its control field, whose low 12 bits name the VLAN.
 #[derive(Clone, Copy, Debug, Default, PartialEq, Eq)]

@@ -11,6 +11,7 @@
 //!     time to live one less, and length and checksum made anew (frame.rs, `rebuild`); ARP packets (neighbours.rs); and ICMP messages to the
 //!     sender of a datagram, by the port that it came in by, with the label that it came with (message.rs);
 //!   - that the kernel's own forwarding is off when the box starts, and told of when it is switched on later (kernel.rs).
+//!
 //! The library's calls need up to 224 KB of stack: they are made on a thread with 4 MB, whatever the limit of the shell is.
 
 #![deny(unsafe_code)]

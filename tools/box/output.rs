@@ -140,6 +140,19 @@ fn time() -> String {
     format!("{}.{:06}", now.as_secs(), now.subsec_micros())
 }
 
+/// One JSON object: the time in seconds, what happened, and fields whose values are JSON already.
+fn object(event: &str, fields: &[(&str, String)]) -> String {
+    let mut text = format!("{{\"time\":{},\"event\":\"{event}\"", time());
+    for (name, value) in fields {
+        let _ = write!(text, ",\"{name}\":{value}");
+    }
+    text + "}"
+}
+
+fn ends(datagram: &Datagram) -> [(&'static str, String); 2] {
+    [("source", datagram.source()), ("destination", datagram.target())].map(|(name, a)| (name, quoted(&Ipv4Addr::from(a).to_string())))
+}
+
 fn write_metrics(file: &str, text: &str) -> std::io::Result<()> {
     let new = format!("{file}.new");
     std::fs::write(&new, text)?;
@@ -166,74 +179,69 @@ impl Output {
         Ok(Output { tell: settings.tell, json: settings.json, bucket, left_out: 0, left_out_told: 0, lines, metrics, counters })
     }
 
-    /// A line that is not limited: what the operator asked for, or what happens once.
-    pub fn say(&mut self, event: &str, words: &str) {
-        let line = match self.json {
-            true => format!("{{\"time\":{},\"event\":{},\"words\":{}}}\n", time(), quoted(&event.to_lowercase()), quoted(words)),
-            false => format!("{event} {words}").trim().to_string() + "\n",
-        };
-        self.left_out += u64::from(!self.lines.put(line));
+    fn put(&mut self, line: String) {
+        self.left_out += u64::from(!self.lines.put(line + "\n"));
     }
 
-    /// A line about a datagram or frame, if one may be told.
-    fn line(&mut self, now: Instant, make: impl FnOnce(bool) -> String) {
-        if !self.bucket.take(now) || !self.lines.put(make(self.json) + "\n") {
-            self.left_out += 1;
-        }
+    /// Whether a line about a datagram or frame may be told now.
+    fn may_tell(&mut self, now: Instant) -> bool {
+        let may = self.bucket.take(now);
+        self.left_out += u64::from(!may);
+        may
+    }
+
+    /// A line that is not limited: what the operator asked for, or what happens once.
+    pub fn say(&mut self, event: &str, words: &str) {
+        self.put(match self.json {
+            true => object(&event.to_lowercase(), &[("words", quoted(words))]),
+            false => format!("{event} {words}").trim_end().to_string(),
+        });
     }
 
     /// A frame that came in by `from` and is dropped without a number.
     pub fn fault(&mut self, now: Instant, from: usize, fault: Fault, times: usize, datagram: Option<&Datagram>) {
-        let place = FAULTS.iter().position(|f| f.0 == fault).unwrap_or(0);
+        let (place, words) = (fault as usize, FAULTS[fault as usize]);
         self.counters.faults[from][place] += times as u64;
-        if self.tell == Tell::Nothing || times == 0 {
+        if self.tell == Tell::Nothing || times == 0 || !self.may_tell(now) {
             return;
         }
-        let (name, words) = (self.counters.names[from].clone(), FAULTS[place].1);
-        let ends = datagram.map(|d| (Ipv4Addr::from(d.source()), Ipv4Addr::from(d.target())));
-        self.line(now, |json| match (json, ends) {
+        let name = &self.counters.names[from];
+        let line = match (self.json, datagram) {
             (false, None) => format!("DROP {name}: {words}"),
-            (false, Some((source, target))) => format!("DROP {source} > {target}: {words}"),
-            (true, ends) => {
-                let ends = ends.map_or(String::new(), |(s, t)| format!(",\"source\":\"{s}\",\"destination\":\"{t}\""));
-                format!("{{\"time\":{},\"event\":\"drop\",\"in\":{}{ends},\"words\":{}}}", time(), quoted(&name), quoted(words))
+            (false, Some(d)) => format!("DROP {} > {}: {words}", Ipv4Addr::from(d.source()), Ipv4Addr::from(d.target())),
+            (true, None) => object("drop", &[("in", quoted(name)), ("words", quoted(words))]),
+            (true, Some(d)) => {
+                let [source, target] = ends(d);
+                object("drop", &[("in", quoted(name)), source, target, ("words", quoted(words))])
             }
-        });
+        };
+        self.put(line);
     }
 
     /// A decision; `pass` has counted it.
     pub fn decision(&mut self, now: Instant, from: usize, to: usize, datagram: &Datagram, d: &Decision) {
-        if self.tell == Tell::Nothing || (self.tell == Tell::Drops && d.number == 0) {
+        if self.tell == Tell::Nothing || (self.tell == Tell::Drops && d.number == 0) || !self.may_tell(now) {
             return;
         }
-        let names = (quoted(&self.counters.names[from]), quoted(&self.counters.names[to]));
-        self.line(now, |json| {
-            let (source, target, words) = (Ipv4Addr::from(datagram.source()), Ipv4Addr::from(datagram.target()), library::words(d.number));
-            let mut line = String::new();
-            let _ = match (json, d.number) {
-                (false, 0) => write!(line, "FORWARD {source} > {target}: {}", hex(d.area)),
-                (false, n) => write!(
-                    line,
-                    "DROP {source} > {target}: number {n}, {words}; ICMP type {}, code {}, pointer {}",
-                    d.kind, d.code, d.pointer
-                ),
-                (true, n) => write!(
-                    line,
-                    "{{\"time\":{},\"event\":\"{}\",\"in\":{},\"out\":{},\"source\":\"{source}\",\"destination\":\"{target}\",\"number\":{n},\"words\":\"{words}\",\
-                     \"type\":{},\"code\":{},\"pointer\":{},\"label_in\":\"{}\",\"label_out\":\"{}\"}}",
-                    time(),
-                    if n == 0 { "forward" } else { "drop" },
-                    names.0,
-                    names.1,
-                    d.kind,
-                    d.code,
-                    d.pointer,
-                    hex(label(datagram.area())),
-                    hex(label(d.area))
-                ),
-            };
-            line
-        });
+        let (words, names) = (library::words(d.number), &self.counters.names);
+        let (source, target) = (Ipv4Addr::from(datagram.source()), Ipv4Addr::from(datagram.target()));
+        let report = [("type", d.kind), ("code", d.code), ("pointer", d.pointer)].map(|(name, value)| (name, value.to_string()));
+        let line = match (self.json, d.number) {
+            (false, 0) => format!("FORWARD {source} > {target}: {}", hex(d.area)),
+            (false, n) => {
+                let said = report.map(|(name, value)| format!("{name} {value}")).join(", ");
+                format!("DROP {source} > {target}: number {n}, {words}; ICMP {said}")
+            }
+            (true, n) => {
+                let mut fields = vec![("in", quoted(&names[from])), ("out", quoted(&names[to]))];
+                fields.extend(ends(datagram));
+                fields.extend([("number", n.to_string()), ("words", quoted(words))]);
+                fields.extend(report);
+                fields.extend([("label_in", quoted(&hex(label(datagram.area())))), ("label_out", quoted(&hex(label(d.area))))]);
+                object(if n == 0 { "forward" } else { "drop" }, &fields)
+            }
+        };
+        self.put(line);
     }
 
     /// Once a second: the metrics file, and how many lines were left out since it was last said.
@@ -271,7 +279,7 @@ impl Output {
         for (place, fault) in FAULTS.iter().enumerate() {
             let count: u64 = c.faults.iter().map(|f| f[place]).sum();
             if count > 0 {
-                lines.push(format!("{}: {count}", fault.1));
+                lines.push(format!("{fault}: {count}"));
             }
         }
         for (words, count) in
@@ -316,7 +324,7 @@ impl Output {
         }
         for (name, counts) in c.names.iter().zip(&c.faults) {
             for (fault, count) in FAULTS.iter().zip(counts).filter(|f| *f.1 > 0) {
-                faults.push((format!("{{in={},reason={}}}", quoted(name), quoted(fault.1)), *count));
+                faults.push((format!("{{in={},reason={}}}", quoted(name), quoted(fault)), *count));
             }
         }
         let one = |value: u64| vec![(String::new(), value)];

@@ -159,19 +159,8 @@ impl Frames {
         let mut pieces: Vec<Piece> = (self.octets.chunks_mut(self.size).zip(&self.lengths).take(count))
             .map(|(room, length)| Piece { base: room.as_mut_ptr().cast(), length: if taking { room.len() } else { *length } })
             .collect();
-        let null = std::ptr::null_mut();
-        let empty = Message {
-            name: null,
-            name_length: 0,
-            pieces: null.cast(),
-            piece_count: 1,
-            control: null,
-            control_length: 0,
-            flags: 0,
-            gap: 0,
-            length: 0,
-        };
-        let mut messages: Vec<Message> = pieces.iter_mut().map(|p| Message { pieces: p, ..empty }).collect();
+        let empty: Message = unsafe { std::mem::zeroed() }; // pointers to nothing, lengths of 0
+        let mut messages: Vec<Message> = pieces.iter_mut().map(|p| Message { pieces: p, piece_count: 1, ..empty }).collect();
         if taking {
             for (message, beside) in messages.iter_mut().zip(&mut self.beside) {
                 *beside = Beside::default();
