@@ -6,7 +6,7 @@ flood() {
     ! command -v taskset >/dev/null || core=(taskset -c $(($(nproc) - 1)))
     start $middle "$log" "${core[@]}" "$box" $gateway "${ends[@]}" --quiet --times "${limit[@]}"
     [ "${#core[@]}" -eq 0 ] || core=(taskset -c 0)
-    ip netns exec $left "${core[@]}" "$host" flood 198.51.100.10:5000 "$area" "$octets" 3 >"$made/sent" 9>&-
+    ip netns exec $left "${core[@]}" "$host" flood 198.51.100.10:5000 "$area" "$octets" 2 >"$made/sent" 9>&-
     end_with TERM
     sed -n 's/^COUNTERS //; s/[^0-9. ]//g; /[0-9]/p' <(grep 'decided\|at once\|nanoseconds' "$log") | paste -sd' ' |
         { read -r decided _ taken rate taking deciding share sending whole; show_row "$what" "$octets" "$together" "$decided" "$taken" "$rate" "$taking" "$deciding" "$sending" "$whole" "$share"; }
@@ -17,7 +17,7 @@ core=()
 ! command -v taskset >/dev/null || core=(taskset -c 0)
 ip netns exec $right "${core[@]}" "$host" count 198.51.100.10:5000 600 >/dev/null 9>&- &
 echo
-echo "datagrams as fast as the left host sends them, 3 seconds each; nanoseconds of the box's processor time for one, and the decision's share of them"
+echo "datagrams as fast as the left host sends them, 2 seconds each; nanoseconds of the box's processor time for one, and the decision's share of them"
 show_row label payload at-most decided together a-second taking deciding sending whole percent
 for together in 1 32 256; do
     for octets in 18 512 1400; do
