@@ -374,13 +374,13 @@ impl Gateway {
         let mut buffers = Buffers::new(self.settings.at_once, self.longest_mtu());
         let mut loading: Option<Receiver<Result<Plan, String>>> = None;
         self.output.say("READY", "");
-        while !system::told_to_end() {
+        while !system::asked(&system::END) {
             let mut busy = false;
             for at in 0..self.ports.len() {
                 busy |= self.turn(at, &mut buffers);
             }
             let now = Instant::now();
-            if system::told_to_tell() || self.settings.every.is_some_and(|e| now - told >= e) {
+            if system::asked(&system::TELL) || self.settings.every.is_some_and(|e| now - told >= e) {
                 self.output.tell_counters();
                 told = now;
             }
@@ -392,7 +392,7 @@ impl Gateway {
                     self.single = Frames::new(1, BEFORE + buffers.mtu);
                 }
             }
-            if system::told_to_reload() {
+            if system::asked(&system::RELOAD) {
                 loading = Some(load_aside(&self.settings));
             }
             if let Some(loaded) = loading.as_ref().and_then(|l| l.try_recv().ok()) {

@@ -25,9 +25,10 @@ SIGUSR1 tells the counters; SIGHUP reads gateway file and routes again, and keep
 tell the counters and end the box.";
 
 /// What is told of each datagram.
-#[derive(Clone, Copy, Debug, PartialEq, Eq)]
+#[derive(Clone, Copy, Debug, Default, PartialEq, Eq)]
 pub enum Tell {
     Nothing,
+    #[default]
     Drops,
     All,
 }
@@ -39,7 +40,7 @@ pub struct PortWords {
     pub vlan: Option<u16>,
 }
 
-#[derive(Clone, Debug)]
+#[derive(Clone, Debug, Default)]
 pub struct Settings {
     pub file: String,
     pub routes: Option<String>,
@@ -93,20 +94,7 @@ fn beside(ports: &[PortWords], new: &PortWords) -> Result<(), String> {
 
 pub fn read(words: &[String]) -> Result<Settings, String> {
     let mut file = None;
-    let mut s = Settings {
-        file: String::new(),
-        routes: None,
-        ports: Vec::new(),
-        alone: false,
-        tell: Tell::Drops,
-        json: false,
-        lines: 200,
-        messages: 100,
-        metrics: None,
-        every: None,
-        at_once: 256,
-        times: false,
-    };
+    let mut s = Settings { lines: 200, messages: 100, at_once: 256, ..Settings::default() };
     let (mut vlans, mut said) = (Vec::new(), Vec::<&str>::new());
     let mut at = 0;
     while at < words.len() {
@@ -117,9 +105,10 @@ pub fn read(words: &[String]) -> Result<Settings, String> {
             "--routes" | "--lines" | "--messages" | "--metrics" | "--every" | "--at-once" => 1,
             "--alone" | "--all" | "--quiet" | "--json" | "--times" => 0,
             _ if word.starts_with('-') => return Err(format!("\"{word}\" is no option of the box")),
-            _ if file.is_some() => return Err(format!("\"{word}\" is one word too many: the gateway file is {}", words[0])),
             _ => {
-                file = Some(word.to_string());
+                if let Some(old) = file.replace(word.to_string()) {
+                    return Err(format!("\"{word}\" is one word too many: the gateway file is {old}"));
+                }
                 at += 1;
                 continue;
             }

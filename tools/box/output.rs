@@ -52,16 +52,18 @@ impl Writer {
     }
 }
 
-/// Counters of one direction, or (faults) of all that came in by one interface.
+/// Counters of one direction.
 #[derive(Clone)]
 pub struct Direction {
     pub numbers: [u64; 256],
     pub sent: u64,
 }
 
+#[derive(Default)]
 pub struct Counters {
     names: Vec<String>,
     directions: Vec<Direction>,
+    /// of what came in by each interface
     faults: Vec<[u64; FAULTS.len()]>,
     pub messages: u64,
     pub messages_held: u64,
@@ -75,20 +77,9 @@ pub struct Counters {
 
 impl Counters {
     pub fn new(names: Vec<String>) -> Counters {
-        let (n, none) = (names.len(), Duration::ZERO);
-        Counters {
-            names,
-            directions: vec![Direction { numbers: [0; 256], sent: 0 }; n * n],
-            faults: vec![[0; FAULTS.len()]; n],
-            messages: 0,
-            messages_held: 0,
-            reloads: [0; 2],
-            open: false,
-            turns: 0,
-            taking: none,
-            deciding: none,
-            sending: none,
-        }
+        let n = names.len();
+        let directions = vec![Direction { numbers: [0; 256], sent: 0 }; n * n];
+        Counters { names, directions, faults: vec![[0; FAULTS.len()]; n], ..Counters::default() }
     }
 
     pub fn direction(&mut self, from: usize, to: usize) -> &mut Direction {

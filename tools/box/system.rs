@@ -267,9 +267,10 @@ pub fn processor_time() -> Duration {
     Duration::new(time[0] as u64, time[1] as u32)
 }
 
-static TELL: AtomicBool = AtomicBool::new(false);
-static RELOAD: AtomicBool = AtomicBool::new(false);
-static END: AtomicBool = AtomicBool::new(false);
+/// What signals ask for: counters (SIGUSR1), the files anew (SIGHUP), the end.
+pub static TELL: AtomicBool = AtomicBool::new(false);
+pub static RELOAD: AtomicBool = AtomicBool::new(false);
+pub static END: AtomicBool = AtomicBool::new(false);
 
 extern "C" fn signalled(number: c_int) {
     let mark = match number {
@@ -286,16 +287,7 @@ pub fn listen_to_signals() {
     }
 }
 
-/// Whether SIGUSR1 has come since the last question.
-pub fn told_to_tell() -> bool {
-    TELL.swap(false, Ordering::Relaxed)
-}
-
-/// Whether SIGHUP has come since the last question.
-pub fn told_to_reload() -> bool {
-    RELOAD.swap(false, Ordering::Relaxed)
-}
-
-pub fn told_to_end() -> bool {
-    END.load(Ordering::Relaxed)
+/// Whether it was asked for since the last question.
+pub fn asked(mark: &AtomicBool) -> bool {
+    mark.swap(false, Ordering::Relaxed)
 }
