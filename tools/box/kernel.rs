@@ -81,7 +81,11 @@ pub fn open_ways(name: &str, alone: bool, closed: &mut Vec<String>) -> Vec<Strin
     open
 }
 
-/// Whether the kernel has a route by the interface, and so an address of its own: it would answer there for itself.
+/// Whether the kernel has a route by the interface, or an IPv6 address on it: it would answer there for itself.
 pub fn speaks(name: &str) -> bool {
-    read_to_string("/proc/net/route").is_ok_and(|text| text.lines().skip(1).any(|l| l.split_whitespace().next() == Some(name)))
+    let names = |file: &str, at: usize| -> Vec<String> {
+        let text = read_to_string(file).unwrap_or_default();
+        text.lines().filter_map(|line| line.split_whitespace().nth(at).map(String::from)).collect()
+    };
+    names("/proc/net/route", 0).iter().chain(&names("/proc/net/if_inet6", 5)).any(|n| n == name)
 }
