@@ -1,8 +1,8 @@
--- RFC 791; document 01, "The order of checks": the options area, its size, the options that the one walk meets, and 1, 3, 4 and 5.
+-- RFC 791; document 01, "The order of checks"; document 02, Wish 9: the options area, its size, the options that the one walk meets, and 1, 3, 4 and 5.
 use Prim.Native.Nat.{ℕ, zero, suc, pred, _+_, _%_}
 use mathlib.Core.List.{List, [], _∷_, _++_}
 use mathlib.Core.Path.{_≡_}
-use mathlib.Core.Bool.{Bool, not, _||_}
+use mathlib.Core.Bool.{Bool, true, false, not, _||_}
 use mathlib.Core.Option.{Option, none, some}
 use lib.Dec.{ltb, eqb}
 use lib.ListN.{length, getD, take, drop}
@@ -61,19 +61,27 @@ unfoldable pub metOf : List ℕ → List Met
 metOf area = metFrom area 0 0
 
 -- the earliest option decides
-abbrev pub judged : Bool → List Met → Place → Place → Walk
-judged on [] label basic = Sound label basic
-judged on (m ∷ ms) label basic =
-    elim (judge on (m .kind) (m .size) (m .at) label basic) [ Sound l b ↦ judged on ms l b | Refused n at ↦ Refused n at ]
+abbrev pub judged : Bool → Bool → List Met → Place → Place → Walk
+judged on lax [] label basic = Sound label basic
+judged on lax (m ∷ ms) label basic =
+    elim (judge on lax (m .kind) (m .size) (m .at) label basic) [ Sound l b ↦ judged on lax ms l b | Refused n at ↦ Refused n at ]
 
 -- what the walk answers: the places of the options 134 and 130, or the refusal; `on` says whether the arriving port reads option 130
 unfoldable pub walkOf : Bool → List ℕ → Walk
-walkOf on area = judged on (metOf area) Nowhere Nowhere
+walkOf on area = judged on false (metOf area) Nowhere Nowhere
 
--- the octets of the option at a place, if there is one: as many as its length octet says
+-- the walk, check 4 left out (Wish 9): neither 130 nor 133 is refused; a second option 130 is 5 here too
+unfoldable pub openWalk : List ℕ → Walk
+openWalk area = judged true true (metOf area) Nowhere Nowhere
+
+-- the octets of the option at a place: as many as its length octet says
+abbrev pub optionAt : ℕ → List ℕ → List ℕ
+optionAt p area = take (getD area (p + 1) 0) (drop p area)
+
+-- the same of a place, if there is one
 abbrev pub octetsAt : Place → List ℕ → Option (List ℕ)
 octetsAt Nowhere l = none
-octetsAt (At p) l = some (take (getD l (p + 1) 0) (drop p l))
+octetsAt (At p) l = some (optionAt p l)
 
 -- a whole option of a kind that stands in the list from octet i on
 pub record WholeAt (k : Kind) (l : List ℕ) (i : ℕ) : Type 0 where

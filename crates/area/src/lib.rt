@@ -1,10 +1,12 @@
 // The options of an IPv4 header (RFC 791; document 01, "The order of checks"): an option's type, and its length.
-// One option of the walk over an options area (document 01, "The order of checks"; document 02, Wish 3): 3, 4 and 5, and the places of the options 134 and 130.
+// One option of the walk over an options area (document 01, "The order of checks"; document 02, Wishes 3 and 9): 3, 4 and 5, and the places of the options 134 and 130.
 // The options area of an IPv4 header (RFC 791; document 01, "The order of checks"): its size, and the walk.
 ghost use mathlib.Core.Path.{_≡_};
 ghost use Rattle.area.specs.Kinds.{kindOf, sizeOf};
-ghost use Rattle.area.specs.Turn.{basicTurn, turnOf};
-ghost use Rattle.area.specs.Area.{badSize, walkOf};
+ghost use Rattle.area.specs.declared.Place.the-variants.{Nowhere};
+ghost use Rattle.area.specs.declared.Size.the-variants.{Whole};
+ghost use Rattle.area.specs.Turn.{judgeBasic, judgeExtended, turnBy, turnOf};
+ghost use Rattle.area.specs.Area.{badSize, metOf, judged, walkOf, openWalk};
 ghost use Rattle.area.specs.Stages.{isMet, octetOf, placeOf};
 ghost use Prim.Native.Nat.{_<_};
 
@@ -74,10 +76,18 @@ pub enum Turn {
     On(usize, Place, Place),
 }
 
-// One option of the walk, which stands at an octet: within it 3 comes first, then 4, then 5. `on` says whether option 130 is read; `label` and
-// `basic` are the places of the options 134 and 130 that were met before.
-pub fn take_turn(on: bool, kind: Kind, size: Size, at: usize, label: Place, basic: Place) -> Turn
-    ensures { λ r. ⌜ r ≡ turnOf on kind size at label basic ⌝ }
+// One option of the walk, which stands at an octet: within it 3 comes first, then 4, then 5. `on` says whether option 130 is read, `lax` whether option
+// 133 is passed over; `label` and `basic` are the places of the options 134 and 130 that were met before.
+fn take_turn(
+    on: bool,
+    lax: bool,
+    kind: Kind,
+    size: Size,
+    at: usize,
+    label: Place,
+    basic: Place,
+) -> Turn
+    ensures { λ r. ⌜ r ≡ turnOf on lax kind size at label basic ⌝ }
 {
     match kind {
         Kind::End => Turn::Done(Walk::Sound(label, basic)),
@@ -88,7 +98,7 @@ pub fn take_turn(on: bool, kind: Kind, size: Size, at: usize, label: Place, basi
         },
         Kind::Extended => match size {
             Size::Bad => Turn::Done(Walk::Refused(3, at)), // 3 before 4
-            Size::Whole(_) => Turn::Done(Walk::Refused(4, at)),
+            Size::Whole(n) => take_extended(lax, n, at, label, basic),
         },
         Kind::Cipso => match size {
             Size::Bad => Turn::Done(Walk::Refused(3, at)),
@@ -106,7 +116,7 @@ pub fn take_turn(on: bool, kind: Kind, size: Size, at: usize, label: Place, basi
 
 // A whole option 130 of n octets.
 fn take_basic(on: bool, n: usize, at: usize, label: Place, basic: Place) -> Turn
-    ensures { λ r. ⌜ r ≡ basicTurn on n at label basic ⌝ }
+    ensures { λ r. ⌜ r ≡ turnBy (Whole n) (judgeBasic on at label basic) ⌝ }
 {
     if !on {
         return Turn::Done(Walk::Refused(4, at));
@@ -115,6 +125,16 @@ fn take_basic(on: bool, n: usize, at: usize, label: Place, basic: Place) -> Turn
         Place::Nowhere => Turn::On(n, label, Place::At(at)),
         Place::At(_) => Turn::Done(Walk::Refused(5, at)),
     }
+}
+
+// A whole option 133 of n octets.
+fn take_extended(lax: bool, n: usize, at: usize, label: Place, basic: Place) -> Turn
+    ensures { λ r. ⌜ r ≡ turnBy (Whole n) (judgeExtended lax at label basic) ⌝ }
+{
+    if !lax {
+        return Turn::Done(Walk::Refused(4, at));
+    }
+    Turn::On(n, label, basic)
 }
 
 // Check 1 of an area of n octets: over 40, or not a multiple of 4.
@@ -160,6 +180,23 @@ fn place_of(met: bool, at: usize) -> Place
 pub fn walk_area(area: &[u8], on: bool) -> Walk
     ensures { λ r. ⌜ r ≡ walkOf on (now (area .entry)) ⌝ }
 {
+    let lax = false;
+    walk_options(area, on, lax)
+}
+
+// The walk over an area, check 4 left out: options 130 and 133 are passed over, and a second 130 is 5.
+pub fn walk_open(area: &[u8]) -> Walk
+    ensures { λ r. ⌜ r ≡ openWalk (now (area .entry)) ⌝ }
+{
+    let on = true;
+    let lax = true;
+    walk_options(area, on, lax)
+}
+
+// The walk, told which of the options 130 and 133 it does not refuse.
+fn walk_options(area: &[u8], on: bool, lax: bool) -> Walk
+    ensures { λ r. ⌜ r ≡ judged on lax (metOf (now (area .entry))) Nowhere Nowhere ⌝ }
+{
     let mut at = 0;
     let mut labelled = false;
     let mut label: usize = 0;
@@ -173,6 +210,7 @@ pub fn walk_area(area: &[u8], on: bool) -> Walk
             let rest = &area[at..];
             match take_turn(
                 on,
+                lax,
                 read_kind(rest[0]),
                 read_size(rest),
                 at,

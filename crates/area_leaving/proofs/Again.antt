@@ -23,7 +23,7 @@ use Rattle.area.proofs.Basic.{basicFront, basicAmong, met-once, walk-basic}
 use Rattle.area.proofs.KindLaws.{size-whole, whole-size}
 use Rattle.area.proofs.Laws.{behind, met-turn, walk-turn, afterTurn}
 use Rattle.area.proofs.Meets.{next-octet}
-use Rattle.area.proofs.Front.{label-first}
+use Rattle.area.proofs.Front.{zeros-met, label-first}
 use Rattle.area_leaving.specs.declared.Next.the-variants.{Over}
 use Rattle.area_leaving.specs.Kept.{keptAmong, keptOf}
 use Rattle.area_leaving.specs.Stages.{overOf, nextOf}
@@ -51,18 +51,18 @@ module _ (o rest : List ℕ) (k : Kind) (s : Starts o k) where
 
 -- the walk goes over an option that is kept
 other-walk : (on : Bool) (o rest : List ℕ) (at : ℕ) (label basic : Place) → Starts o Other
-    → judged on (metFrom (o ++ rest) 0 at) label basic ≡ judged on (metFrom rest 0 (at + length o)) label basic
+    → judged on false (metFrom (o ++ rest) 0 at) label basic ≡ judged on false (metFrom rest 0 (at + length o)) label basic
 other-walk on o rest at label basic s =
-    let t : turnOf on (kindOf (getD (o ++ rest) 0 0)) (sizeOf (o ++ rest)) at label basic ≡ On (length o) label basic =
+    let t : turnOf on false (kindOf (getD (o ++ rest) 0 0)) (sizeOf (o ++ rest)) at label basic ≡ On (length o) label basic =
     rw (kind-front o rest Other s, size-front o rest Other s) in
-    walk-turn on (o ++ rest) at label basic (long o rest Other s) ∙ ap (afterTurn on (o ++ rest) at) t ∙ rw drop-append-seam
+    walk-turn on false (o ++ rest) at label basic (long o rest Other s) ∙ ap (afterTurn on false (o ++ rest) at) t ∙ rw drop-append-seam
 
 basic-walk : (o rest : List ℕ) (at : ℕ) (label : Place) → Starts o Basic
-    → judged true (metFrom (o ++ rest) 0 at) label Nowhere ≡ judged true (metFrom rest 0 (at + length o)) label (At at)
+    → judged true false (metFrom (o ++ rest) 0 at) label Nowhere ≡ judged true false (metFrom rest 0 (at + length o)) label (At at)
 basic-walk o rest at label s =
-    let t : turnOf true (kindOf (getD (o ++ rest) 0 0)) (sizeOf (o ++ rest)) at label Nowhere ≡ On (length o) label (At at) =
+    let t : turnOf true false (kindOf (getD (o ++ rest) 0 0)) (sizeOf (o ++ rest)) at label Nowhere ≡ On (length o) label (At at) =
     rw (kind-front o rest Basic s, size-front o rest Basic s) in
-    walk-turn true (o ++ rest) at label Nowhere (long o rest Basic s) ∙ ap (afterTurn true (o ++ rest) at) t ∙ rw drop-append-seam
+    walk-turn true false (o ++ rest) at label Nowhere (long o rest Basic s) ∙ ap (afterTurn true false (o ++ rest) at) t ∙ rw drop-append-seam
 
 -- the octets of the first option 130 from an octet on
 abbrev pub basicFrom : List ℕ → ℕ → Option (List ℕ)
@@ -111,12 +111,6 @@ basic-kept area o rest at s e = kept-front area o rest at Basic s e (length o) r
 label-kept : (area o rest : List ℕ) (at : ℕ) → Starts o Cipso → drop at area ≡ o ++ rest → keptFrom area at ≡ keptFrom area (at + length o)
 label-kept area o rest at s e = kept-front area o rest at Cipso s e 0 refl
 
--- zeros end the walk
-zeros-met : (z at : ℕ) → metFrom (replicate z 0) 0 at ≡ []
-unfolding metFrom
-zeros-met zero at = refl
-zeros-met (suc z) at = refl
-
 -- nothing was met before an option 130
 abbrev pub Free : Option (List ℕ) → Place → Type 0
 Free none b = Unit {0}
@@ -124,7 +118,7 @@ Free (some o) b = b ≡ Nowhere
 
 -- what is kept, with the octets of its option 130: it passes the walk, whatever option 134 was seen before, and is kept
 pub record Again (on : Bool) (ks : List ℕ) (c : Option (List ℕ)) : Type 0 where
-  pub walk : (z at : ℕ) (label basic : Place) → Free c basic → (b : Place) × (judged on (metFrom (ks ++ replicate z 0) 0 at) label basic ≡ Sound label b)
+  pub walk : (z at : ℕ) (label basic : Place) → Free c basic → (b : Place) × (judged on false (metFrom (ks ++ replicate z 0) 0 at) label basic ≡ Sound label b)
   pub kept : (area : List ℕ) (z at : ℕ) → drop at area ≡ ks ++ replicate z 0 → keptFrom area at ≡ ks
   pub found : (area : List ℕ) (z at : ℕ) → drop at area ≡ ks ++ replicate z 0 → basicFrom area at ≡ c
 
@@ -135,7 +129,7 @@ free-nowhere (some o) = refl
 again-none : (on : Bool) → Again on [] none
 again-none on =
     record {
-      walk = λ z at label basic f. (basic, ap (λ (ms : List Met). judged on ms label basic) (zeros-met z at));
+      walk = λ z at label basic f. (basic, ap (λ (ms : List Met). judged on false ms label basic) (zeros-met z at));
       kept = λ area z at e. ap (λ (l : List ℕ). keptAmong area (metFrom l 0 at)) e ∙ ap (keptAmong area) (zeros-met z at);
       found = λ area z at e. ap (λ (l : List ℕ). basicAmong area (metFrom l 0 at)) e ∙ ap (basicAmong area) (zeros-met z at);
     }
@@ -184,11 +178,11 @@ starts-take l n k ek ez =
 -- one option of an area that the walk passed, with what is kept behind it
 abbrev Behind : Bool → List ℕ → List ℕ → ℕ → Place → Place → Type 0
 Behind on area r at l b =
-    (n : ℕ) (label basic : Place) → judged on (metFrom r (pred n) (suc at)) label basic ≡ Sound l b
+    (n : ℕ) (label basic : Place) → judged on false (metFrom r (pred n) (suc at)) label basic ≡ Sound l b
     → Again on (keptAmong area (metFrom r (pred n) (suc at))) (basicAmong area (metFrom r (pred n) (suc at)))
 
 again-by : (on : Bool) (area : List ℕ) (t : ℕ) (r : List ℕ) (at : ℕ) (k : Kind) (y : Size) (label basic l b : Place) → drop at area ≡ t ∷ r → kindOf t ≡ k → sizeOf (t ∷ r) ≡ y
-    → judged on (frontOf k y at ++ elim (spanOf k y) as (λ _. List Met) [ Whole n ↦ metFrom r (pred n) (suc at) | Bad ↦ [] ]) label basic ≡ Sound l b
+    → judged on false (frontOf k y at ++ elim (spanOf k y) as (λ _. List Met) [ Whole n ↦ metFrom r (pred n) (suc at) | Bad ↦ [] ]) label basic ≡ Sound l b
     → Behind on area r at l b
     → Again on (keptAmong area (frontOf k y at ++ elim (spanOf k y) as (λ _. List Met) [ Whole n ↦ metFrom r (pred n) (suc at) | Bad ↦ [] ]))
     (basicAmong area (frontOf k y at ++ elim (spanOf k y) as (λ _. List Met) [ Whole n ↦ metFrom r (pred n) (suc at) | Bad ↦ [] ]))
@@ -210,7 +204,7 @@ again-by on area t r at Other (Whole n) label basic l b ed ek ey e g =
     rw ed (again-other on (take n (t ∷ r)) (keptAmong area (metFrom r (pred n) (suc at))) _ (starts-take (t ∷ r) n Other ek ey) (g n label basic e))
 again-by on area t r at Other Bad label basic l b ed ek ey e g = let z : _≡_ {A = ℕ} 0 1 = cc in absurd (omega arith)
 
-again-from : (on : Bool) (area xs : List ℕ) (k at : ℕ) (label basic l b : Place) → drop at area ≡ xs → judged on (metFrom xs k at) label basic ≡ Sound l b
+again-from : (on : Bool) (area xs : List ℕ) (k at : ℕ) (label basic l b : Place) → drop at area ≡ xs → judged on false (metFrom xs k at) label basic ≡ Sound l b
     → Again on (keptAmong area (metFrom xs k at)) (basicAmong area (metFrom xs k at))
 unfolding metFrom
 again-from on area [] k at label basic l b ed e = again-none on

@@ -21,6 +21,7 @@ use Rattle.option_read.specs.declared.Reading.{Reading}
 use Rattle.option_read.specs.declared.KeyReading.{KeyReading}
 use Rattle.option_read.specs.Reading.{framed, readingFor}
 use Rattle.option_read.specs.Keys.{keyed, labelled, keyReadingFor, keysAfter, ReadsKeys}
+use Rattle.option_read.proofs.Checks.{parts-framed}
 use Rattle.option_read.proofs.Theorems.{reads}
 use Rattle.area.specs.declared.Place.{Place}
 use Rattle.area.specs.declared.Place.the-variants.{Nowhere, At}
@@ -29,8 +30,8 @@ use Rattle.area.specs.declared.Walk.the-variants.{Sound, Refused}
 use Rattle.area.specs.declared.Kind.{Kind}
 use Rattle.area.specs.declared.Kind.the-variants.{Cipso}
 use Rattle.area.specs.Area.{badArea, walkOf, octetsAt, WholeAt}
-use Rattle.area.proofs.KindLaws.{whole-size, cipso-octet}
-use Rattle.area.proofs.Laws.{area-refused, off-nowhere, whole-in}
+use Rattle.area.proofs.KindLaws.{cipso-octet}
+use Rattle.area.proofs.Laws.{area-refused, off-nowhere, whole-inside, slice-is}
 use Rattle.basic.specs.declared.Way.{Way}
 use Rattle.basic.specs.declared.BasicReading.{BasicReading}
 use Rattle.basic.specs.Alone.{basicReading}
@@ -186,41 +187,21 @@ arrival-held p area code s e =
 
 -- The option at its place.
 
--- an option of a kind that stands in the area: its length octet says how long it is
-pub record Inside (area : List ℕ) (at : ℕ) : Type 0 where
-  pub inside : at + getD area (at + 1) 0 ≤ length area
-  pub least : 2 ≤ getD area (at + 1) 0
-  pub size : length (optionAt at area) ≡ getD area (at + 1) 0
-
-pub whole-inside : (k : Kind) (area : List ℕ) (at : ℕ) → WholeAt k area at → Inside area at
-whole-inside k area at o =
-    let i = whole-in k area at o in
-    let n : getD area (at + 1) 0 ≡ o .size = sym (getD-drop at area 1 0) ∙ whole-size (drop at area) (o .size) (o .whole) in
-    let h : getD area (at + 1) 0 ≤ length (drop at area) = simp length-drop (omega arith) in
-    record { inside = omega arith; least = omega arith; size = length-take-le (getD area (at + 1) 0) (drop at area) h }
-
+-- an option 134 that stands in the area: its length octet says how long it is
 pub record Framed (area : List ℕ) (at : ℕ) : Type 0 where
   pub inside : at + getD area (at + 1) 0 ≤ length area
   pub least : 2 ≤ getD area (at + 1) 0
   pub size : length (optionAt at area) ≡ getD area (at + 1) 0
   pub framed : framed (optionAt at area) ≡ true
 
--- its slice
-pub slice-is : (at : ℕ) (area : List ℕ) → take (at + getD area (at + 1) 0 - at) (drop at area) ≡ optionAt at area
-slice-is at area =
-    let e : at + getD area (at + 1) 0 - at ≡ getD area (at + 1) 0 = omega arith in
-    ap (λ (k : ℕ). take k (drop at area)) e
-
 pub placed-framed : (area : List ℕ) (at : ℕ) → WholeAt Cipso area at → Framed area at
 placed-framed area at o =
     let i = whole-inside Cipso area at o in
-    let a : getD (optionAt at area) 0 0 ≡ 134 = getD-take (getD area (at + 1) 0) (drop at area) 0 0 (omega (arith, i .least)) ∙ cipso-octet (getD (drop at area) 0 0) (o .kind) in
-    let b : getD (optionAt at area) 1 0 ≡ length (optionAt at area) = getD-take (getD area (at + 1) 0) (drop at area) 1 0 (omega (arith, i .least)) ∙ getD-drop at area 1 0 ∙ sym (i .size) in
     record {
       inside = i .inside;
       least = i .least;
       size = i .size;
-      framed = simp (le-leb 2 (length (optionAt at area)) (omega (arith, i .least, i .size)), eq-eqb _ _ a, eq-eqb _ _ b);
+      framed = parts-framed (optionAt at area) (record { long = omega (arith, i .least, i .size); kind = cipso-octet (getD (optionAt at area) 0 0) (i .first); size = i .second });
     }
 
 -- the checks of an option, by what was read
@@ -449,29 +430,3 @@ module _ (p : Port) (area keys : List ℕ) (code : ℕ) where
           subst (Arrives p area code keys keys′)
           (ap (λ (t : Bool). beforeRange r (firstOf (basicChecks b t (p .basic .receiving) area code))) f ∙ sym g)
           (port-placed l b keys′ r e w)
-
-pub octets-of : (b : List ℕ) → ((i : ℕ) → getD b i 0 < 256) → Octets b
-octets-of [] h = tt
-octets-of (x ∷ b) h = (h 0, octets-of b (λ i. h (suc i)))
-
--- octets of a part
-pub octets-part : (n at : ℕ) (area : List ℕ) → ((i : ℕ) → getD area i 0 < 256) → Octets (take n (drop at area))
-octets-part n at area h = octets-of (take n (drop at area)) (λ i. taken i)
-  where
-    at-most : (i : ℕ) → n ≤ i → length (take n (drop at area)) ≤ i
-    at-most i w = simp length-take (omega arith)
-
-    by : (i : ℕ) → (i < n) ⊎ (n ≤ i) → getD (take n (drop at area)) i 0 < 256
-    by i (inl w) = rw (getD-take n (drop at area) i 0 w, getD-drop at area i 0) (h (at + i))
-    by i (inr w) = rw (List·getD-eq-default (take n (drop at area)) 0 {n = i} (at-most i w)) (omega arith)
-
-    taken : (i : ℕ) → getD (take n (drop at area)) i 0 < 256
-    taken i = by i (less-or i n)
-
--- an area past check 1 has at most 40 octets
-pub area-short : (area : List ℕ) → badArea area ≡ false → length area ≤ 40
-area-short area e = go (ltb 40 (length area)) refl e
-  where
-    go : (b : Bool) → ltb 40 (length area) ≡ b → (b || not (eqb (length area % 4) 0)) ≡ false → length area ≤ 40
-    go true p q = absurd (true≢false q)
-    go false p q = ltb-false _ _ p

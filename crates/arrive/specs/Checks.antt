@@ -15,6 +15,7 @@ use Rattle.area.specs.declared.Place.the-variants.{Nowhere, At}
 use Rattle.area.specs.declared.Walk.{Walk}
 use Rattle.area.specs.declared.Walk.the-variants.{Sound, Refused}
 use Rattle.area.specs.Area.{walkOf, octetsAt}
+pub use Rattle.area.specs.Area.{optionAt}
 use Rattle.basic.specs.declared.Way.{Way}
 use Rattle.basic.specs.Alone.{basicReading}
 use Rattle.basic.specs.Settings.{passesWay}
@@ -69,10 +70,6 @@ placeIn (Refused n at) = Nowhere
 abbrev pub basicIn : Walk → Place
 basicIn (Sound label basic) = basic
 basicIn (Refused n at) = Nowhere
-
--- its octets: as many as its length octet says
-abbrev pub optionAt : ℕ → List ℕ → List ℕ
-optionAt p area = take (getD area (p + 1) 0) (drop p area)
 
 -- 6: a label is required and none is there
 abbrev pub requiredBy : Place → Port → Option Refusal

@@ -5,7 +5,6 @@ ghost use Rattle.label.specs.Label.{used};
 ghost use Rattle.text.specs.Put.{Puts};
 ghost use Rattle.text.specs.Text.{next};
 ghost use Rattle.case_lines.specs.Line.{answerWord, brokenWord, runsWords, labelWords, outputWord, decisionWords};
-use case_fields::LONGEST;
 use decision::Decision;
 use label::Label;
 use label::Run;
@@ -14,6 +13,9 @@ use text::put_hex;
 use text::put_next;
 use text::put_octet;
 use text::put_word;
+
+// The longest output that a case can ask for.
+pub const LONGEST: usize = 512;
 
 // YES or NO.
 pub fn put_answer(out: &mut [u8], n: usize, yes: bool) -> usize

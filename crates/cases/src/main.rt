@@ -5,8 +5,16 @@
 ghost use Prim.Native.Nat.{_≤_};
 ghost use lib.ListN.{length};
 
+mod box_record;
+mod decision_entries;
 mod entry;
+mod field;
+mod file_entries;
+mod label_entries;
+mod option_entries;
+mod record;
 mod routing_entries;
+mod table_entries;
 
 use case_lines::put_broken;
 use entry::answer;

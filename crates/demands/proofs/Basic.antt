@@ -32,7 +32,8 @@ use Rattle.port.specs.Port.{portSound}
 use Rattle.port.proofs.Laws.{sound}
 use Rattle.arrive.specs.Checks.{faulty, barred, when, firstOf, NoneApplies, walkAt, walkRefusal, walkCheck, basicIn, optionAt, badBasicBy, badBasicCheck, arrivingBasic, missingBasicBy, missingBasicCheck, basicPasses, basicRangeCheck, arrivalChecks}
 use Rattle.arrive.proofs.First.{first-none, when-none, not-false-yes}
-use Rattle.arrive.proofs.Arrival.{octets-part, off-none}
+use Rattle.option.proofs.Octets.{octets-part}
+use Rattle.arrive.proofs.Arrival.{off-none}
 use Rattle.forward_rules.specs.Crossing.{Forwarding, leavingBasicCheck}
 use Rattle.forward_rules.proofs.Forwards.{Passed}
 use Rattle.demands.specs.Demands.{BasicArrives, unread, read, BasicPasses, neither, both}

@@ -22,7 +22,7 @@ use Rattle.area.specs.declared.Walk.{Walk}
 use Rattle.area.specs.declared.Walk.the-variants.{Sound, Refused}
 use Rattle.area.specs.Area.{badArea, walkOf}
 use Rattle.area.specs.declared.Kind.the-variants.{Basic}
-use Rattle.area.proofs.Laws.{area-refused, sound-placed}
+use Rattle.area.proofs.Laws.{area-refused, sound-placed, whole-inside}
 use Rattle.basic.specs.Alone.{basicReading}
 use Rattle.area_leaving.specs.Kept.{keptOf}
 use Rattle.port.specs.declared.Port.{Port}
@@ -31,7 +31,7 @@ use Rattle.label_keys.specs.Range.{setInRange}
 use Rattle.decision.specs.Decision.{Refusal, silenced, decided}
 use Rattle.arrive.specs.Checks.{silent, faulty, barred, when, firstOf, walkAt, walkRefusal, walkCheck, placeIn, basicIn, optionAt, requiredBy, requiredCheck, optionBy, optionCheck, badBasicBy, badBasicCheck, arrivingBasic, missingBasicBy, missingBasicCheck, basicPasses, basicRangeCheck, arrivingLabel, rangeCheck}
 use Rattle.deliver.specs.Delivery.{Delivery, deliverySizes, deliveryRecords, hostCheck, deliverChecks, deliverOf}
-use Rattle.arrive.proofs.Arrival.{placed-framed, whole-inside}
+use Rattle.arrive.proofs.Arrival.{placed-framed}
 use Rattle.forward_rules.specs.Crossing.{noRoom, Forwarding, sizes, records, leavingBasicCheck, crossing, stays, hasNumbers, numberCheck, leavingLevel, leavingRuns, leavingCheck, leavingOption, spellingCheck}
 use Rattle.forward_rules.specs.Forward.{forwardChecks, forwardOf}
 use Rattle.forward_rules.proofs.Forwards.{recordsTest}

@@ -74,17 +74,17 @@ threeToFive = 3 ∷ 4 ∷ 5 ∷ []
 
 -- what was met before an option that is neither
 none-before : (on : Bool) (ms : List Met) (label basic : Place)
-    → ((l b : Place) → firstOf (checks (byOption threeToFive on (isAt l) (isAt b) ms)) ≡ walkRefusal (judged on ms l b))
-    → firstOf (checks (byOption threeToFive on (isAt label || false) (isAt basic || false) ms)) ≡ walkRefusal (judged on ms label basic)
+    → ((l b : Place) → firstOf (checks (byOption threeToFive on (isAt l) (isAt b) ms)) ≡ walkRefusal (judged on false ms l b))
+    → firstOf (checks (byOption threeToFive on (isAt label || false) (isAt basic || false) ms)) ≡ walkRefusal (judged on false ms label basic)
 none-before on ms Nowhere Nowhere g = g Nowhere Nowhere
 none-before on ms Nowhere (At q) g = g Nowhere (At q)
 none-before on ms (At p) Nowhere g = g (At p) Nowhere
 none-before on ms (At p) (At q) g = g (At p) (At q)
 
 walk-by : (on : Bool) (k : Kind) (z : Size) (at : ℕ) (ms : List Met) (label basic : Place)
-    → ((l b : Place) → firstOf (checks (byOption threeToFive on (isAt l) (isAt b) ms)) ≡ walkRefusal (judged on ms l b))
+    → ((l b : Place) → firstOf (checks (byOption threeToFive on (isAt l) (isAt b) ms)) ≡ walkRefusal (judged on false ms l b))
     → firstOf (checks (byOption threeToFive on (isAt label) (isAt basic) (record { kind = k; at = at; size = z } ∷ ms)))
-    ≡ walkRefusal (judged on (record { kind = k; at = at; size = z } ∷ ms) label basic)
+    ≡ walkRefusal (judged on false (record { kind = k; at = at; size = z } ∷ ms) label basic)
 walk-by on k Bad at ms label basic g = refl
 walk-by on End (Whole n) at ms label basic g = none-before on ms label basic g
 walk-by on NoOperation (Whole n) at ms label basic g = none-before on ms label basic g
@@ -98,7 +98,7 @@ walk-by on Cipso (Whole n) at ms Nowhere (At q) g = g (At at) (At q)
 walk-by on Cipso (Whole n) at ms (At p) basic g = refl
 walk-by on Other (Whole n) at ms label basic g = none-before on ms label basic g
 
-walk-rules : (on : Bool) (ms : List Met) (label basic : Place) → firstOf (checks (byOption threeToFive on (isAt label) (isAt basic) ms)) ≡ walkRefusal (judged on ms label basic)
+walk-rules : (on : Bool) (ms : List Met) (label basic : Place) → firstOf (checks (byOption threeToFive on (isAt label) (isAt basic) ms)) ≡ walkRefusal (judged on false ms label basic)
 walk-rules on [] label basic = refl
 walk-rules on (m ∷ ms) label basic = walk-by on (m .kind) (m .size) (m .at) ms label basic (λ l b. walk-rules on ms l b)
 

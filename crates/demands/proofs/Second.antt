@@ -40,7 +40,8 @@ use Rattle.arrive.specs.Checks.{silent, barred, firstOf, NoneApplies, walkAt, w
 use Rattle.deliver.specs.Delivery.{Delivery, deliverySizes, deliveryRecords, hostCheck, deliverChecks, deliverOf}
 use Rattle.decision.specs.Decision as decision
 use Rattle.arrive.proofs.First.{Real, real-first, real-when, first-none, none-first, when-none, first-append, not-false-yes, real-else}
-use Rattle.arrive.proofs.Arrival.{placed-framed, octets-part, Held, arrival-held, arrival-real, in-range-held}
+use Rattle.option.proofs.Octets.{octets-part}
+use Rattle.arrive.proofs.Arrival.{placed-framed, Held, arrival-held, arrival-real, in-range-held}
 use Rattle.deliver.proofs.Deliveries.{deliver-done}
 use Rattle.forward_rules.specs.Crossing.{noRoom, Forwarding, sameDomain, Crossing, crossing, stays, leavingLabel, leavingOption, sizes, records, numberCheck, leavingCheck, leavingLevel, leavingRuns}
 use Rattle.forward_rules.specs.Forward.{forwardChecks, forwardOf, outputOf}

@@ -21,7 +21,7 @@ use Rattle.option.specs.Index.{firstTrue, badNumber, badPair, pairsOf}
 use Rattle.option.proofs.Forms.{MeansRuns, means-runs, runs-means, formed-runs}
 use Rattle.option.proofs.Meaning.{Parts, parts, parts-valid, Tagged, one, two, five, tagged, reads-canon, reads-covers, reads-fit, reads-back}
 use Rattle.option.proofs.Bad.{good-numbers, good-pairs}
-use Rattle.option.proofs.Only.{octet-at, octets-drop}
+use Rattle.option.proofs.Octets.{octet-at, octets-drop}
 use Rattle.option_read.specs.declared.Reading.{Reading}
 use Rattle.option_read.specs.Reading.{Check, check, found, notRead, checkedReading, knownTag, goodLength, categoriesIn, countIn, badIn, badPlace, tagChecks, labelIn, framed}
 use Rattle.option_read.proofs.Loops.{first-most}

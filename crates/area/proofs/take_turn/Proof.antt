@@ -27,17 +27,23 @@ enum-told-5 c = search needs
 enum-told-6 : tie.Need-enum-told-6
 enum-told-6 c = search needs
 
+enum-known-size-2 : tie.Need-enum-known-size-2
+enum-known-size-2 c = search needs
+
+take-extended-requires : tie.Need-take-extended-requires
+take-extended-requires c κs = search needs
+
 enum-told-7 : tie.Need-enum-told-7
 enum-told-7 c = search needs
 
 enum-told-8 : tie.Need-enum-told-8
 enum-told-8 c = search needs
 
+enum-known-size-3 : tie.Need-enum-known-size-3
+enum-known-size-3 c = search needs
+
 enum-told-9 : tie.Need-enum-told-9
 enum-told-9 c = search needs
-
-enum-known-size-2 : tie.Need-enum-known-size-2
-enum-known-size-2 c = search needs
 
 enum-told-10 : tie.Need-enum-told-10
 enum-told-10 c = search needs
@@ -48,11 +54,8 @@ enum-told-11 c = search needs
 enum-told-12 : tie.Need-enum-told-12
 enum-told-12 c = search needs
 
-enum-told-13 : tie.Need-enum-told-13
-enum-told-13 c = search needs
-
-enum-known-size-3 : tie.Need-enum-known-size-3
-enum-known-size-3 c = search needs
+enum-known-size-4 : tie.Need-enum-known-size-4
+enum-known-size-4 c = search needs
 
 returns : tie.Need-returns
 returns c = rw (c .enum-told .given .1)
@@ -70,22 +73,22 @@ returns-5 : tie.Need-returns-5
 returns-5 c = rw (c .before .before .enum-told5 .given .1, c .enum-told6 .given .1)
 
 returns-6 : tie.Need-returns-6
-returns-6 c = rw (c .before .before .enum-told5 .given .1, c .enum-told7 .given .1)
+returns-6 c = rw (c .before .before .before .before .enum-told5 .given .1, c .before .before .size2 .given .1) (c .take-extended .ensures)
 
 returns-7 : tie.Need-returns-7
-returns-7 c = rw (c .before .before .enum-told8 .given .1, c .enum-told9 .given .1)
+returns-7 c = rw (c .before .before .enum-told7 .given .1, c .enum-told8 .given .1)
 
 returns-8 : tie.Need-returns-8
-returns-8 c = rw (c .before .before .before .before .before .enum-told8 .given .1, c .before .before .before .size2 .given .1, c .enum-told10 .given .1)
+returns-8 c = rw (c .before .before .before .before .before .enum-told7 .given .1, c .before .before .before .size3 .given .1, c .enum-told9 .given .1)
 
 returns-9 : tie.Need-returns-9
-returns-9 c = rw (c .before .before .before .before .before .enum-told8 .given .1, c .before .before .before .size2 .given .1, c .enum-told11 .given .1)
+returns-9 c = rw (c .before .before .before .before .before .enum-told7 .given .1, c .before .before .before .size3 .given .1, c .enum-told10 .given .1)
 
 returns-10 : tie.Need-returns-10
-returns-10 c = rw (c .before .before .enum-told12 .given .1, c .enum-told13 .given .1)
+returns-10 c = rw (c .before .before .enum-told11 .given .1, c .enum-told12 .given .1)
 
 returns-11 : tie.Need-returns-11
-returns-11 c = rw (c .before .before .before .enum-told12 .given .1, c .before .size3 .given .1)
+returns-11 c = rw (c .before .before .before .enum-told11 .given .1, c .before .size4 .given .1)
 
 pub take-turn-spec : {M : Type 1} → statement M
 take-turn-spec =
@@ -99,15 +102,16 @@ take-turn-spec =
     take-basic-requires
     enum-told-5
     enum-told-6
+    enum-known-size-2
+    take-extended-requires
     enum-told-7
     enum-told-8
+    enum-known-size-3
     enum-told-9
-    enum-known-size-2
     enum-told-10
     enum-told-11
     enum-told-12
-    enum-told-13
-    enum-known-size-3
+    enum-known-size-4
     returns
     returns-2
     returns-3

@@ -3,7 +3,8 @@ use borrow.Author.Needs.{needs}
 use native.Mathlib.Omega.{arith}
 use Prim.Native.Nat.{ℕ, _+_, _≤_, _<_}
 use lib.ListN.{getD}
-use Rattle.arrive.proofs.Arrival.{Framed, placed-framed, octets-part, keys-refused, keys-point, keys-held}
+use Rattle.option.proofs.Octets.{octets-part}
+use Rattle.arrive.proofs.Arrival.{Framed, placed-framed, keys-refused, keys-point, keys-held}
 use Rattle.arrive.proofs.read_at.Statement.{statement}
 use Rattle.arrive.proofs.read_at.Tie as tie
 

@@ -4,12 +4,12 @@ use native.Mathlib.Omega.{arith}
 use mathlib.Core.Path.{_∙_, ap}
 use Rattle.area.specs.declared.Kind.the-variants.{Basic}
 use Rattle.basic.specs.Alone.{basicReading}
-use Rattle.arrive.proofs.Arrival.{Inside, whole-inside, slice-is}
+use Rattle.area.proofs.Laws.{Inside, whole-inside, slice-is}
 use Rattle.arrive.proofs.read_basic_at.Statement.{statement}
 use Rattle.arrive.proofs.read_basic_at.Tie as tie
 
 -- the option lies in the area
-inside-at : (c : tie.Start) → Inside (c .args .area .now) (c .args .at)
+inside-at : (c : tie.Start) → Inside Basic (c .args .area .now) (c .args .at)
 inside-at c = whole-inside Basic (c .args .area .now) (c .args .at) (c .pre)
 
 add-next : tie.Need-add-next

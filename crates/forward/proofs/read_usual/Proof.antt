@@ -12,7 +12,8 @@ use Rattle.port.specs.declared.Port.{Port}
 use Rattle.decision.specs.declared.Verdict.{Verdict}
 use Rattle.decision.specs.Verdict.{going, stopped}
 use Rattle.arrive.specs.Stages.{ArrivesAt, heldBetween}
-use Rattle.arrive.proofs.Arrival.{Framed, placed-framed, octets-part, keys-refused, keys-point, keys-held}
+use Rattle.option.proofs.Octets.{octets-part}
+use Rattle.arrive.proofs.Arrival.{Framed, placed-framed, keys-refused, keys-point, keys-held}
 use Rattle.port_usual.proofs.Usual.{usual, usual-sound}
 use Rattle.forward.proofs.read_usual.Statement.{statement}
 use Rattle.forward.proofs.read_usual.Tie as tie
