@@ -9,7 +9,8 @@
 //!   - that the file, the two ports' numbers and the areas reach the library, and each decision its own datagram (below, `turn` and `pass`);
 //!   - that nothing leaves by a port but what the library answered 0 to for that port, with the leaving area in the place of the old one, the
 //!     time to live one less, and length and checksum made anew (frame.rs, `rebuild`); ARP packets (neighbours.rs); and ICMP messages to the
-//!     sender of a datagram, by the port that it came in by, with the label that it came with (message.rs);
+//!     sender of a datagram, by the port that it came in by, with the message and the options area that the library wrote (message.rs; 3/4 is
+//!     made there);
 //!   - that the kernel's own forwarding is off when the box starts, and told of when it is switched on later (kernel.rs).
 //!
 //! The library's calls need up to 224 KB of stack: they are made on a thread with 4 MB, whatever the limit of the shell is.
@@ -211,6 +212,9 @@ impl Gateway {
             self.output.counters.direction(from, to).numbers[usize::from(decision.number)] += 1;
             if decision.number != 0 {
                 self.output.decision(now, from, to, datagram, &decision);
+                if decision.kind != 0 {
+                    self.tell_sender(from, datagram, now, |own, out| message::refused(datagram, &decision, own, out));
+                }
                 continue;
             }
             match self.leave(from, datagram, *way, decision.area, made.room(count), now) {
@@ -301,17 +305,21 @@ impl Gateway {
         live.interface.send(&mut self.single, 1) == [true]
     }
 
-    /// An ICMP message to the sender of a datagram, if the bucket has one.
+    /// An ICMP message to the sender of a datagram, if there is one to send and the bucket has room.
     fn tell_sender(&mut self, from: usize, datagram: &Datagram, now: Instant, make: impl FnOnce(u32, &mut [u8]) -> usize) {
         if datagram.facts.silence() || datagram.from[0] & 1 == 1 {
+            return;
+        }
+        let mut out = [0; message::LONGEST];
+        let length = make(self.ports[from].words.place.own, &mut out);
+        if length == 0 {
             return;
         }
         if !self.messages.take(now) {
             self.output.counters.messages_held += 1;
             return;
         }
-        let own = self.ports[from].words.place.own;
-        let went = self.send_one(from, &datagram.from, frame::IPV4, |out| make(own, out));
+        let went = self.send_one(from, &datagram.from, frame::IPV4, |room| put(&out[..length], room));
         self.output.counters.messages += u64::from(went);
     }
 

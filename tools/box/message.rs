@@ -1,9 +1,12 @@
 //! ICMP messages to the sender of a datagram, and how many of them a second.
 //!
 //! A message goes out by the interface that the datagram came in by, to the link address that it came from, with the label that it came with:
-//! no octet of the far domain's label reaches the near side. "Fragmentation needed" (3/4) is made here, outside the proof.
+//! no octet of the far domain's label reaches the near side. What is said of a refusal, and the options area of the datagram that says it, the proved
+//! library writes. "Fragmentation needed" (3/4) is made here, outside the proof.
 
 use crate::frame::{checksum, seal, Datagram, FIXED};
+use crate::library::Decision;
+use crate::system;
 use std::time::Instant;
 
 /// The longest message: eight octets, a header with all options, eight octets of data; around it another header with all options.
@@ -52,6 +55,16 @@ pub fn label(area: &[u8]) -> &[u8] {
 /// The MTU that a sender is told: what it may send so that the datagram, grown by its new options, still fits.
 pub fn room(leaving_mtu: usize, arriving: &[u8], leaving: &[u8]) -> u16 {
     leaving_mtu.saturating_sub(leaving.len().saturating_sub(arriving.len())).min(65535) as u16
+}
+
+/// The datagram that tells the sender of a refusal, as the library has it. Answers its length, or 0 where nothing is to be sent.
+pub fn refused(datagram: &Datagram, d: &Decision, own: u32, out: &mut [u8]) -> usize {
+    let (mut message, mut area) = ([0; 76], [0; 40]);
+    let refusal = [d.number, d.kind, d.code, d.pointer];
+    match system::build_message(refusal, datagram.header, datagram.payload, &mut message, &mut area) {
+        (0, _) => 0,
+        (length, options) => carry(&message[..length], &area[..options], own, datagram.source(), out),
+    }
 }
 
 /// "Fragmentation needed" (RFC 1191, section 4) about a datagram, with the label that it came with. Answers the whole datagram's length.

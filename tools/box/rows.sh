@@ -12,6 +12,32 @@ arrives() { # what the right host gets of one datagram from the left one: option
 far=860c000000090206000403e8
 
 echo
+echo "messages about refusals: what the sender's kernel tells its program"
+reported() { # what, space, destination, options area, what the program is told
+    local told
+    told=$(at "$2" "$host" ask "$3:5000" "$4" 8)
+    row "$1" "$told" [ "$told" = "$5" ]
+}
+wire() { tail -1 "$made/messages"; }
+reported "number 6, label missing" $left 198.51.100.10 - "errno 71 type 12 code 1 word 134"
+row "on the wire: source, label, type, code, word" "$(wire)" [ "$(wire)" = "192.0.2.1 - 12 1 $((134 << 24))" ]
+reported "number 14, outside the arriving range" $left 198.51.100.10 860a00000005010400060000 "errno 101 type 3 code 9 word 0"
+row "on the wire: the label that the datagram came with" "$(wire)" [ "$(wire)" = "192.0.2.1 860a00000005010400060000 3 9 0" ]
+reported "number 16, no number in the far domain" $left 198.51.100.10 860a00000005010400020000 "errno 101 type 3 code 9 word 0"
+row "on the wire: the label that the datagram came with" "$(wire)" [ "$(wire)" = "192.0.2.1 860a00000005010400020000 3 9 0" ]
+reported "number 17, outside the leaving range" $right 192.0.2.10 860c000000090206000407d0 "errno 101 type 3 code 9 word 0"
+before=$(lines "$made/messages")
+reported "number 8, foreign domain: nothing is sent" $left 198.51.100.10 860a00000009010400040000 none
+reported "number 11, alignment not zero: nothing is sent" $left 198.51.100.10 860a00000005010401030000 none
+at $left "$host" raw wire "$(frame '' 030100000000000045000000 40 01)"
+at $left "$host" raw wire "$(frame '' $udp 40 11 0003)"
+link=ffffffffffff${left_link//:/}
+at $left "$host" raw wire "$(frame '' $udp)"
+link=${left_gate//:/}${left_link//:/}
+sleep 0.1
+row "number 6 of an ICMP error message, of a later fragment, of a frame to all: messages sent" "$(($(lines "$made/messages") - before))" [ "$(lines "$made/messages")" = "$before" ]
+
+echo
 echo "path MTU: a label of 12 octets leaves with 16"
 asked=$(at $left "$host" ask 198.51.100.10:5000 $grows 1460)
 row "1,492 octets that would be 1,496 past an MTU of 1,500: what the host's kernel tells its program" "$asked" [ "$asked" = "errno 90 type 3 code 4 word 1496" ]
@@ -156,6 +182,12 @@ holds said LEFTOUT || true
 told=$(grep -c DROP "$made/box")
 row "--lines 10 and a flood of half a second: lines told" "$told; $(grep -m 1 LEFTOUT "$made/box")" eval "[ $told -le 20 ] && said LEFTOUT"
 end_with TERM
+start $middle "$made/box" "$box" $gateway "${ends[@]}" --quiet --messages 5
+before=$(lines "$made/messages")
+at $left "$host" flood 198.51.100.10:5000 - 18 0.5 >"$made/sent"
+end_with TERM
+told=$(($(lines "$made/messages") - before))
+row "--messages 5 and a flood of half a second: messages that the sender gets" "$told; $(grep 'over the limit' "$made/box")" eval "[ $told -ge 5 ] && [ $told -le 15 ] && said 'messages over the limit'"
 start $middle "$made/box" "$box" $gateway "${ends[@]}" --json --all --metrics "$made/metrics"
 arrives - 8 nothing || true
 arrives $good 8 $far || true

@@ -112,12 +112,61 @@ extern "C" {
         output: *mut u8,
         output_len: usize,
     ) -> usize;
+
+    // crates/export_message/src/lib.rt
+    fn inglebreek_build_message(
+        number: u8,
+        kind: u8,
+        code: u8,
+        pointer: u8,
+        header: *const u8,
+        header_len: usize,
+        payload: *const u8,
+        payload_len: usize,
+        message: *mut u8,
+        message_len: usize,
+        options: *mut u8,
+        options_len: usize,
+        message_count: *mut usize,
+        options_count: *mut usize,
+    ) -> u8;
 }
 
 /// Decides the records of `input`, from one port of the gateway file to another. Answers how many.
 pub fn forward(file: &[u8], arriving: usize, leaving: usize, input: &[u8], output: &mut [u8]) -> usize {
     let (lent, room) = (output.as_mut_ptr(), output.len());
     unsafe { inglebreek_forward_batch(file.as_ptr(), file.len(), arriving, leaving, input.as_ptr(), input.len(), lent, room) }
+}
+
+/// Builds the ICMP message about a refusal (number, type, code, pointer), and the options area of the datagram that carries it. Answers how many
+/// octets of each there are, both 0 where nothing is to be sent.
+pub fn build_message(refusal: [u8; 4], header: &[u8], payload: &[u8], message: &mut [u8], options: &mut [u8]) -> (usize, usize) {
+    let ([number, kind, code, pointer], mut counts) = (refusal, (0, 0));
+    let (lent, room, area, area_room) = (message.as_mut_ptr(), message.len(), options.as_mut_ptr(), options.len());
+    let (asked, asked_len, data, data_len) = (header.as_ptr(), header.len(), payload.as_ptr(), payload.len());
+    let answer = unsafe {
+        inglebreek_build_message(
+            number,
+            kind,
+            code,
+            pointer,
+            asked,
+            asked_len,
+            data,
+            data_len,
+            lent,
+            room,
+            area,
+            area_room,
+            &mut counts.0,
+            &mut counts.1,
+        )
+    };
+    if answer == 0 {
+        counts
+    } else {
+        (0, 0)
+    }
 }
 
 /// Many frames in buffers of one size, with the length of each and what the kernel said of it.

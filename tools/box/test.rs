@@ -357,6 +357,8 @@ fn whole_way(file: &[u8], frame: &[u8], seen: Seen, vlan: Option<u16>, neighbour
     let decision = library::decision(&slot);
     let mut out = [0; 2048];
     if decision.number != 0 {
+        let n = if decision.kind == 0 { 0 } else { message::refused(&d, &decision, NEAR.address, &mut out) };
+        assert!(n == 0 || (checksum(&out[..usize::from(out[0] & 15) * 4]) == 0 && usize::from(two(&out, 2)) == n));
         return (true, false);
     }
     match leaving(&d, decision.area, 1500, &mut out) {
@@ -571,6 +573,29 @@ fn a_bucket_holds_what_it_is_told() {
     assert_eq!(taken(&mut bucket, Duration::from_millis(400)), 1);
     assert_eq!(taken(&mut bucket, Duration::from_secs(60)), 3);
     assert_eq!(taken(&mut message::Bucket::new(0, begin), Duration::from_secs(60)), 0);
+}
+
+#[test]
+fn a_refusal_is_told_with_the_near_label() {
+    let file = std::fs::read("crates/sample/data/gateway.bin").unwrap();
+    let mut out = [0; 256];
+    let mut told = |area: &[u8]| {
+        let frame = made(area, &[7; 100]);
+        let d = parse(&frame).unwrap();
+        let slot = decided(&file, (0, 1), d.facts, area);
+        let n = message::refused(&d, &library::decision(&slot), NEAR.address, &mut out);
+        let header = if n == 0 { 0 } else { usize::from(out[0] & 15) * 4 };
+        assert!(n == 0 || (checksum(&out[..header]), checksum(&out[header..n]), four(&out, 16)) == (0, 0, HOST));
+        assert!(n == 0 || out[header + 8..n] == [d.header, &[7; 8]].concat());
+        (n > 0).then(|| (slot[0], out[FIXED..header].to_vec(), out[header..header + 2].to_vec(), out[header + 4]))
+    };
+    let high = [0x86, 10, 0, 0, 0, 5, 1, 4, 0, 6, 0, 0];
+    assert_eq!(told(&[]), Some((6, vec![], vec![12, 1], 134)));
+    assert_eq!(told(&[&[0x94, 4, 0, 0], &high[..]].concat()), Some((14, high.to_vec(), vec![3, 9], 0)));
+    assert_eq!(told(&[0x86, 10, 0, 0, 0, 5, 1, 4, 0, 2, 0, 0]).map(|t| t.0), Some(16));
+    assert_eq!(told(&[0x86, 10, 0, 0, 0, 9, 1, 4, 0, 3, 0, 0]), None); // 8
+    assert_eq!(told(&[0x86, 10, 0, 0, 0, 5, 1, 4, 1, 3, 0, 0]), None); // 11
+    assert_eq!(told(&OPTION), None); // passed
 }
 
 #[test]
