@@ -18,13 +18,16 @@ reported() { # what, space, destination, options area, what the program is told
     told=$(at "$2" "$host" ask "$3:5000" "$4" 8)
     row "$1" "$told" [ "$told" = "$5" ]
 }
-wire() { tail -1 "$made/messages"; }
+wired() { # what, the message on the sender's wire: source, options area, type, code, word
+    holds eval '[ "$(tail -1 "$made/messages")" = "'"$2"'" ]' || true
+    row "$1" "$(tail -1 "$made/messages")" [ "$(tail -1 "$made/messages")" = "$2" ]
+}
 reported "number 6, label missing" $left 198.51.100.10 - "errno 71 type 12 code 1 word 134"
-row "on the wire: source, label, type, code, word" "$(wire)" [ "$(wire)" = "192.0.2.1 - 12 1 $((134 << 24))" ]
+wired "on the wire: source, label, type, code, word" "192.0.2.1 - 12 1 $((134 << 24))"
 reported "number 14, outside the arriving range" $left 198.51.100.10 860a00000005010400060000 "errno 101 type 3 code 9 word 0"
-row "on the wire: the label that the datagram came with" "$(wire)" [ "$(wire)" = "192.0.2.1 860a00000005010400060000 3 9 0" ]
+wired "on the wire: the label that the datagram came with" "192.0.2.1 860a00000005010400060000 3 9 0"
 reported "number 16, no number in the far domain" $left 198.51.100.10 860a00000005010400020000 "errno 101 type 3 code 9 word 0"
-row "on the wire: the label that the datagram came with" "$(wire)" [ "$(wire)" = "192.0.2.1 860a00000005010400020000 3 9 0" ]
+wired "on the wire: the label that the datagram came with" "192.0.2.1 860a00000005010400020000 3 9 0"
 reported "number 17, outside the leaving range" $right 192.0.2.10 860c000000090206000407d0 "errno 101 type 3 code 9 word 0"
 before=$(lines "$made/messages")
 reported "number 8, foreign domain: nothing is sent" $left 198.51.100.10 860a00000009010400040000 none
@@ -41,7 +44,7 @@ echo
 echo "path MTU: a label of 12 octets leaves with 16"
 asked=$(at $left "$host" ask 198.51.100.10:5000 $grows 1460)
 row "1,492 octets that would be 1,496 past an MTU of 1,500: what the host's kernel tells its program" "$asked" [ "$asked" = "errno 90 type 3 code 4 word 1496" ]
-row "the message has the near domain's label, as it came" "$(tail -1 "$made/messages")" [ "$(tail -1 "$made/messages")" = "192.0.2.1 $grows 3 4 1496" ]
+wired "the message has the near domain's label, as it came" "192.0.2.1 $grows 3 4 1496"
 row "4 octets shorter: it passes" "" arrives $grows 1456 860e000000090508000403ef03e80000
 ip -n $left route flush cache
 start $right "$made/serve" "$host" serve 198.51.100.10:6000
@@ -186,6 +189,7 @@ start $middle "$made/box" "$box" $gateway "${ends[@]}" --quiet --messages 5
 before=$(lines "$made/messages")
 at $left "$host" flood 198.51.100.10:5000 - 18 0.5 >"$made/sent"
 end_with TERM
+sleep 0.2
 told=$(($(lines "$made/messages") - before))
 row "--messages 5 and a flood of half a second: messages that the sender gets" "$told; $(grep 'over the limit' "$made/box")" eval "[ $told -ge 5 ] && [ $told -le 15 ] && said 'messages over the limit'"
 start $middle "$made/box" "$box" $gateway "${ends[@]}" --json --all --metrics "$made/metrics"
