@@ -33,49 +33,46 @@ fn switch(path: &str) -> bool {
     read_to_string(format!("/proc/sys/net/{path}")).is_ok_and(|text| text.trim() != "0")
 }
 
-/// A way past the box: what it is in words, and the switch that closes it, if a switch does.
-struct Way {
-    words: String,
-    close: Option<(String, &'static str)>,
-}
-
-fn ways(name: &str) -> Vec<Way> {
-    let mut found = Vec::new();
-    let mut add = |words: String, close: Option<(String, &'static str)>| found.push(Way { words, close });
-    let v4 = format!("ipv4/conf/{name}/forwarding");
-    if !Path::new(&format!("/proc/sys/net/{v4}")).exists() {
-        add(format!("whether the kernel forwards what comes in by {name} is unknown: /proc/sys/net/{v4} is missing"), None);
-    }
-    if switch(&v4) {
-        add(format!("the kernel forwards IPv4 that comes in by {name} (net.ipv4.conf.{name}.forwarding is not 0)"), Some((v4, "0")));
-    }
-    let v6 = format!("ipv6/conf/{name}/disable_ipv6");
-    let forced = switch(&format!("ipv6/conf/{name}/force_forwarding"));
-    if (switch("ipv6/conf/all/forwarding") || forced) && Path::new(&format!("/proc/sys/net/{v6}")).exists() && !switch(&v6) {
-        add(format!("the kernel forwards IPv6 that comes in by {name} (net.ipv6.conf.all.forwarding is not 0)"), Some((v6, "1")));
-    }
-    let mpls = format!("mpls/conf/{name}/input");
-    if switch(&mpls) {
-        add(format!("the kernel forwards MPLS that comes in by {name} (net.mpls.conf.{name}.input is not 0)"), Some((mpls, "0")));
-    }
-    if switch(&format!("ipv4/conf/{name}/mc_forwarding")) {
-        add(format!("a multicast router runs on {name} (net.ipv4.conf.{name}.mc_forwarding is not 0)"), None);
-    }
-    if Path::new(&format!("/sys/class/net/{name}/master")).exists() {
-        add(format!("{name} belongs to a bridge, a bond or a virtual router, which carries frames by itself"), None);
-    }
-    found
+/// The ways past the box that are open, in words, each with the switch that closes it, if a switch does.
+fn ways(name: &str) -> Vec<(String, Option<(String, &'static str)>)> {
+    let conf = |family: &str, what: &str| format!("{family}/conf/{name}/{what}");
+    let (v4, v6, mpls) = (conf("ipv4", "forwarding"), conf("ipv6", "disable_ipv6"), conf("mpls", "input"));
+    let there = |path: &str| Path::new(&format!("/proc/sys/net/{path}")).exists();
+    let v6_forwards = switch("ipv6/conf/all/forwarding") || switch(&conf("ipv6", "force_forwarding"));
+    let every = [
+        (!there(&v4), format!("whether the kernel forwards what comes in by {name} is unknown: /proc/sys/net/{v4} is missing"), None),
+        (
+            switch(&v4),
+            format!("the kernel forwards IPv4 that comes in by {name} (net.ipv4.conf.{name}.forwarding is not 0)"),
+            Some((v4.clone(), "0")),
+        ),
+        (
+            v6_forwards && there(&v6) && !switch(&v6),
+            format!("the kernel forwards IPv6 that comes in by {name} (net.ipv6.conf.all.forwarding is not 0)"),
+            Some((v6.clone(), "1")),
+        ),
+        (
+            switch(&mpls),
+            format!("the kernel forwards MPLS that comes in by {name} (net.mpls.conf.{name}.input is not 0)"),
+            Some((mpls.clone(), "0")),
+        ),
+        (switch(&conf("ipv4", "mc_forwarding")), format!("a multicast router runs on {name} (mc_forwarding is not 0)"), None),
+        (
+            Path::new(&format!("/sys/class/net/{name}/master")).exists(),
+            format!("{name} belongs to a bridge, a bond or a virtual router, which carries frames by itself"),
+            None,
+        ),
+    ];
+    every.into_iter().filter(|way| way.0).map(|(_, words, close)| (words, close)).collect()
 }
 
 /// The ways past the box that are open, in words. With `alone` those that a switch closes are closed, and told in `closed`.
 pub fn open_ways(name: &str, alone: bool, closed: &mut Vec<String>) -> Vec<String> {
     let mut open = Vec::new();
-    for way in ways(name) {
-        match &way.close {
-            Some((path, value)) if alone && write(format!("/proc/sys/net/{path}"), value).is_ok() => {
-                closed.push(format!("{}: switched off", way.words));
-            }
-            _ => open.push(way.words),
+    for (words, close) in ways(name) {
+        match close {
+            Some((path, value)) if alone && write(format!("/proc/sys/net/{path}"), value).is_ok() => closed.push(words + ": switched off"),
+            _ => open.push(words),
         }
     }
     open

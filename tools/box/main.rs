@@ -13,6 +13,9 @@
 //!     made there);
 //!   - that the kernel's own forwarding is off when the box starts, and told of when it is switched on later (kernel.rs).
 //!
+//! What can pass a datagram on wrongly stands in frame.rs, library.rs, routes.rs and, below, `turn`, `sort`, `pass` and `leave`. The rest can stop the
+//! traffic, or tell something wrong, and no more: but for kernel.rs, which sees to it that there is no way past the box.
+//!
 //! The library's calls need up to 224 KB of stack: they are made on a thread with 4 MB, whatever the limit of the shell is.
 
 #![deny(unsafe_code)]
@@ -127,6 +130,9 @@ impl Buffers {
     }
 }
 
+/// A frame that came in: a datagram with the way that it would leave, nothing more to do (ARP), or a fault, with the datagram if it was whole.
+type Sorted<'a> = Result<Option<(Datagram<'a>, Way)>, (Fault, Option<Datagram<'a>>)>;
+
 struct Gateway {
     settings: Settings,
     plan: Plan,
@@ -177,15 +183,7 @@ impl Gateway {
         true
     }
 
-    /// A frame that came in: a datagram with the way that it would leave, nothing more to do (ARP), or a fault.
-    #[allow(clippy::type_complexity)]
-    fn sort<'a>(
-        &mut self,
-        from: usize,
-        frame: &'a [u8],
-        seen: Seen,
-        now: Instant,
-    ) -> Result<Option<(Datagram<'a>, Way)>, (Fault, Option<Datagram<'a>>)> {
+    fn sort<'a>(&mut self, from: usize, frame: &'a [u8], seen: Seen, now: Instant) -> Sorted<'a> {
         let port = &self.ports[from];
         let Some(live) = &port.live else { return Ok(None) };
         let link = frame::link(frame, seen, &live.link.own, port.words.vlan).map_err(|f| (f, None))?;
@@ -437,7 +435,7 @@ fn put(octets: &[u8], out: &mut [u8]) -> usize {
 fn load_aside(settings: &Settings) -> Receiver<Result<Plan, String>> {
     let (sender, receiver) = channel();
     let settings = settings.clone();
-    let _ = std::thread::Builder::new().stack_size(STACK).spawn(move || sender.send(load(&settings)));
+    let _ = std::thread::Builder::new().stack_size(STACK).spawn(move || drop(sender.send(load(&settings))));
     receiver
 }
 
