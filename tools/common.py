@@ -3,7 +3,7 @@ import os
 import sys
 
 ROOT = os.path.dirname(os.path.dirname(os.path.abspath(__file__)))
-TOOL = os.path.relpath(os.path.abspath(sys.argv[0]), ROOT)
+TOOL = os.path.relpath(os.path.realpath(sys.argv[0]), os.path.realpath(ROOT))
 
 
 def stop(words, status=1):

@@ -1,6 +1,6 @@
 # What the shell tools share; a tool sources it before anything else. The comment at the head of a tool is what its --help prints.
-root=$(cd "$(dirname "${BASH_SOURCE[0]}")/.." && pwd)
-script=$(cd "$(dirname "$0")" && pwd)/$(basename "$0")
+root=$(cd "$(dirname "${BASH_SOURCE[0]}")/.." && pwd -P)
+script=$(readlink -f "$0")
 tool=${script#"$root"/}
 
 tell() { printf '%s: %s\n' "$tool" "$*" >&2; }
@@ -41,6 +41,9 @@ find_rustc() {
     rustc=$(command -v rustc || echo "${HOME:-}/.cargo/bin/rustc")
     [ -x "$rustc" ] || stop "needs rustc, which is neither on PATH nor in \$HOME/.cargo/bin"
 }
+
+# Makes a folder for what is built.
+make_folder() { mkdir -p "$1" 2>/dev/null || stop "$1 cannot be made here"; }
 
 # Whether what was made is missing, or older than something that it is made of.
 stale() { [ ! -e "$1" ] || [ -n "$(find "${@:2}" -newer "$1" -print -quit)" ]; }
