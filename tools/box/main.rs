@@ -9,8 +9,8 @@
 //!   - that the file, the two ports' numbers and the areas reach the library, and each decision its own datagram (below, `turn` and `pass`);
 //!   - that nothing leaves by a port but what the library answered 0 to for that port, with the leaving area in the place of the old one, the
 //!     time to live one less, and length and checksum made anew (frame.rs, `rebuild`); ARP packets (neighbours.rs); and ICMP messages to the
-//!     sender of a datagram, by the port that it came in by, with the message and the options area that the library wrote (message.rs; 3/4 is
-//!     made there);
+//!     sender of a datagram, by the port that it came in by, with the message and the options area that the library wrote (message.rs; the MTU
+//!     of 3/4 is written there);
 //!   - that the kernel's own forwarding is off when the box starts, and told of when it is switched on later (kernel.rs).
 //!
 //! What can pass a datagram on wrongly stands in frame.rs, library.rs, routes.rs and, below, `turn`, `sort`, `pass` and `leave`. The rest can stop the

@@ -2,7 +2,7 @@
 //!
 //! A message goes out by the interface that the datagram came in by, to the link address that it came from, with the label that it came with:
 //! no octet of the far domain's label reaches the near side. What is said of a refusal, and the options area of the datagram that says it, the proved
-//! library writes. "Fragmentation needed" (3/4) is made here, outside the proof.
+//! library writes. Into "fragmentation needed" (3/4) the MTU is written here, outside the proof, and the checksum made anew.
 
 use crate::frame::{checksum, seal, Datagram, FIXED};
 use crate::library::Decision;
@@ -36,7 +36,7 @@ impl Bucket {
     }
 }
 
-/// The first option 134 of an area, or nothing. Of an area that the library has passed it is the label.
+/// The first option 134 of an area, or nothing: for the lines that the box tells.
 pub fn label(area: &[u8]) -> &[u8] {
     let mut at = 0;
     while at < area.len() && area[at] != 0 {
@@ -59,26 +59,28 @@ pub fn room(leaving_mtu: usize, arriving: &[u8], leaving: &[u8]) -> u16 {
 
 /// The datagram that tells the sender of a refusal, as the library has it. Answers its length, or 0 where nothing is to be sent.
 pub fn refused(datagram: &Datagram, d: &Decision, own: u32, out: &mut [u8]) -> usize {
-    let (mut message, mut area) = ([0; 76], [0; 40]);
-    let refusal = [d.number, d.kind, d.code, d.pointer];
-    match system::build_message(refusal, datagram.header, datagram.payload, &mut message, &mut area) {
-        (0, _) => 0,
-        (length, options) => carry(&message[..length], &area[..options], own, datagram.source(), out),
-    }
+    told([d.number, d.kind, d.code, d.pointer], 0, datagram, own, out)
 }
 
-/// "Fragmentation needed" (RFC 1191, section 4) about a datagram, with the label that it came with. Answers the whole datagram's length.
+/// "Fragmentation needed" (RFC 1191, section 4): as a refusal for want of room is told, with the MTU in the two octets that it has for that.
 pub fn too_long(datagram: &Datagram, mtu: u16, own: u32, out: &mut [u8]) -> usize {
-    let quoted = &datagram.payload[..datagram.payload.len().min(8)];
-    let mut message = vec![3, 4, 0, 0, 0, 0];
-    message.extend(mtu.to_be_bytes());
-    message.extend(datagram.header);
-    message.extend(quoted);
-    let sum = checksum(&message);
-    message[2..4].copy_from_slice(&sum.to_be_bytes());
-    let mut area = label(datagram.area()).to_vec();
-    area.resize(area.len().next_multiple_of(4), 0);
-    carry(&message, &area, own, datagram.source(), out)
+    told([18, 3, 4, 0], mtu, datagram, own, out)
+}
+
+fn told(refusal: [u8; 4], mtu: u16, datagram: &Datagram, own: u32, out: &mut [u8]) -> usize {
+    let (mut message, mut area) = ([0; 76], [0; 40]);
+    let (length, options) = system::build_message(refusal, datagram.header, datagram.payload, &mut message, &mut area);
+    let message = &mut message[..length];
+    if length == 0 {
+        return 0;
+    }
+    if mtu > 0 {
+        message[2..4].copy_from_slice(&[0, 0]);
+        message[6..8].copy_from_slice(&mtu.to_be_bytes());
+        let sum = checksum(message);
+        message[2..4].copy_from_slice(&sum.to_be_bytes());
+    }
+    carry(message, &area[..options], own, datagram.source(), out)
 }
 
 /// The datagram that carries a message: from the box's own address, with the options area that it must have.

@@ -43,7 +43,7 @@ row "number 6 of an ICMP error message, of a later fragment, of a frame to all: 
 echo
 echo "path MTU: a label of 12 octets leaves with 16"
 asked=$(at $left "$host" ask 198.51.100.10:5000 $grows 1460)
-row "1,492 octets that would be 1,496 past an MTU of 1,500: what the host's kernel tells its program" "$asked" [ "$asked" = "errno 90 type 3 code 4 word 1496" ]
+row "1,500 octets that would become 1,504 at an MTU of 1,500: what the kernel tells its program" "$asked" [ "$asked" = "errno 90 type 3 code 4 word 1496" ]
 wired "the message has the near domain's label, as it came" "192.0.2.1 $grows 3 4 1496"
 row "4 octets shorter: it passes" "" arrives $grows 1456 860e000000090508000403ef03e80000
 ip -n $left route flush cache
