@@ -2,7 +2,7 @@
 -- functions have no `requires`, and their contracts equate what they answer with `forwardOf`, `outputOf`, `deliverOf`, `readingOf`,
 -- `spellingAnswer`, `spellingOut` and `renumberedOf` for every input; here is what these say.
 use mathlib.Core.Path.{_≡_}
-use mathlib.Core.Bool.{true, false}
+use mathlib.Core.Bool.{Bool, true, false}
 use mathlib.Core.List.{List, [], _∷_, _++_}
 use mathlib.Core.Logic.{_↔_}
 use mathlib.Core.Option.{Option, none, some}
@@ -10,7 +10,7 @@ use Prim.Native.Nat.{ℕ, _+_, _%_, _≤_}
 use lib.ListN.{length, take}
 use Rattle.label.specs.declared.Label.{Label}
 use Rattle.label.specs.Label.{wellFormed, inRange}
-use Rattle.option.specs.Option.{Octets, Means}
+use Rattle.option.specs.Option.{Octets, tagOf, Means}
 use Rattle.option.specs.declared.Spellings.{Spellings}
 use Rattle.option.specs.Permitted.{usual, Permitted}
 use Rattle.option.specs.Spelling.{padded}
@@ -189,10 +189,20 @@ pub record AlikeDelivered (d e : Delivery) (l : Label) : Type 0 where
   pub good : (badBasicCheck (d .port) (d .area) ≡ none) × (badBasicCheck (e .port) (e .area) ≡ none)
   pub domain : l .domain ≡ d .port .domain
 
+-- tag 1 shortest alone, or tag 5 alone
+abbrev pub oneForm : Bool → Bool → Spellings
+oneForm shortest pairs = record { shortest = shortest; ten = false; numbers = false; pairs = pairs }
+
 pub record Demand3 : Type 0 where
   -- given at least 40 octets to write in, every well-formed label is refused a spelling exactly when no permitted option means it
   pub refused : (p : Spellings) (l : Label) (out : List ℕ) → wellFormed l ≡ true → 40 ≤ length out
       → (spellingAnswer p l (length out) .number ≡ 0 → ⊥) ↔ ((o : List ℕ) → Permitted p o l → ⊥)
+  -- by number: "refused a spelling (18, asked alone ..) exactly if no permitted one means the label"
+  pub eighteen : (p : Spellings) (l : Label) (out : List ℕ) → wellFormed l ≡ true → 40 ≤ length out
+      → (spellingAnswer p l (length out) .number ≡ 18) ↔ ((o : List ℕ) → Permitted p o l → ⊥)
+  -- "tag 1 shortest" and "tag 5" permitted alone: every valid option of that tag that means the label has at least as many octets as the one written
+  pub bitmap : (l : Label) (s o : List ℕ) → wellFormed l ≡ true → Spells (oneForm true false) s l → Means o l → tagOf o ≡ 1 → length s ≤ length o
+  pub pairs : (l : Label) (s o : List ℕ) → wellFormed l ≡ true → Spells (oneForm false true) s l → Means o l → tagOf o ≡ 5 → length s ≤ length o
   -- whatever label the box spells, alone or in a leaving area toward labelled hosts, it writes the shortest permitted option that means it
   pub alone : (p : Spellings) (l : Label) (out : List ℕ) → wellFormed l ≡ true → 40 ≤ length out → spellingAnswer p l (length out) .number ≡ 0
       → (s : List ℕ) × Spells p s l × (spellingAnswer p l (length out) .count ≡ length s) × (take 40 (spellingOut p l out) ≡ padded s)

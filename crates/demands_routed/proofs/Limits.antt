@@ -34,14 +34,26 @@ module _ (p t a r : Bool) where
       go true false a = refl
       go false t a = refl
 
+unsound-ports : (b : Routing) → portsSound (b .ports) ≡ false → boxSound b ≡ false
+unfolding boxSound
+unsound-ports b e = no-ports (portsSound (b .ports)) (tablesSound (b .tables)) (arrivingListed b) (routesSound (domainsOf (b .ports)) (b .routes)) e
+
+unsound-tables : (b : Routing) → tablesSound (b .tables) ≡ false → boxSound b ≡ false
+unfolding boxSound
+unsound-tables b e = no-tables (portsSound (b .ports)) (tablesSound (b .tables)) (arrivingListed b) (routesSound (domainsOf (b .ports)) (b .routes)) e
+
+unsound-routes : (b : Routing) → routesSound (domainsOf (b .ports)) (b .routes) ≡ false → boxSound b ≡ false
+unfolding boxSound
+unsound-routes b e = no-routes (portsSound (b .ports)) (tablesSound (b .tables)) (arrivingListed b) (routesSound (domainsOf (b .ports)) (b .routes)) e
+
 pub limits : Limits
-unfolding portsSound tablesSound routesSound boxSound
+unfolding portsSound tablesSound routesSound
 limits =
     record {
       ports64 = λ b e s. rw (le-leb (length (b .ports)) 64 (omega arith), s);
-      ports65 = λ b e. no-ports _ _ _ _ (rw (lt-leb (length (b .ports)) 64 (omega arith)));
+      ports65 = λ b e. unsound-ports b (rw (lt-leb (length (b .ports)) 64 (omega arith)));
       tables8 = λ b e s. rw (le-leb (b .tables .count) 8 (omega arith), s);
-      tables9 = λ b e. no-tables (portsSound (b .ports)) _ _ _ (rw (lt-leb (b .tables .count) 8 (omega arith)));
-      routes256 = λ b e s d. (let w : length (b .routes) % 4 ≡ 0 = omega arith in rw (le-leb (length (b .routes)) 1024 (omega arith), eq-eqb _ _ w, s, d));
-      routes257 = λ b e. no-routes (portsSound (b .ports)) (tablesSound (b .tables)) (arrivingListed b) _ (rw (lt-leb (length (b .routes)) 1024 (omega arith)));
+      tables9 = λ b e. unsound-tables b (rw (lt-leb (b .tables .count) 8 (omega arith)));
+      routes256 = λ b e s d. (let w : length (b .routes) % 4 ≡ 0 = omega arith in rw (le-leb (length (b .routes)) 1024 (omega arith), eq-eqb (length (b .routes) % 4) 0 w, s, d));
+      routes257 = λ b e. unsound-routes b (rw (lt-leb (length (b .routes)) 1024 (omega arith)));
     }

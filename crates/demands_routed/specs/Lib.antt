@@ -1,3 +1,4 @@
 pub mod Demands
 pub mod Limits
 pub mod Worked
+pub mod Untouched
