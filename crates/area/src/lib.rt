@@ -8,6 +8,9 @@ ghost use Rattle.area.specs.Area.{badSize, walkOf};
 ghost use Rattle.area.specs.Stages.{isMet, octetOf, placeOf};
 ghost use Prim.Native.Nat.{_<_};
 
+// The most octets of an options area.
+pub const AREA_OCTETS: usize = 40;
+
 // The types of options that the walk tells apart: 0, 1, 130 (basic security), 133 (extended security), 134, and all others.
 pub enum Kind {
     End,
@@ -121,7 +124,7 @@ fn take_basic(on: bool, n: usize, at: usize, label: Place, basic: Place) -> Turn
 pub fn bad_area(n: usize) -> bool
     ensures { λ r. ⌜ r ≡ badSize n ⌝ }
 {
-    if 40 < n {
+    if AREA_OCTETS < n {
         return true;
     }
     n % 4 != 0
