@@ -10,6 +10,9 @@ ghost use Rattle.area.specs.Area.{badSize, metOf, judged, walkOf, openWa
 ghost use Rattle.area.specs.Stages.{isMet, octetOf, placeOf};
 ghost use Prim.Native.Nat.{_<_};
 
+// The most octets of an options area.
+pub const AREA_OCTETS: usize = 40;
+
 // The types of options that the walk tells apart: 0, 1, 130 (basic security), 133 (extended security), 134, and all others.
 pub enum Kind {
     End,
@@ -141,7 +144,7 @@ fn take_extended(lax: bool, n: usize, at: usize, label: Place, basic: Place) -> 
 pub fn bad_area(n: usize) -> bool
     ensures { λ r. ⌜ r ≡ badSize n ⌝ }
 {
-    if 40 < n {
+    if AREA_OCTETS < n {
         return true;
     }
     n % 4 != 0

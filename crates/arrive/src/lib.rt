@@ -3,18 +3,24 @@ use area::Place;
 use area::Walk;
 use area::bad_area;
 use area::walk_area;
+use basic::BASIC_TYPE;
 use basic::BasicReading;
 use basic::Way;
 use basic::passes_way;
 use basic::read_basic;
+use decision::HEADER_OCTETS;
 use decision::Verdict;
+use decision::barred;
+use decision::faulty;
 use decision::go_on;
-use decision::stop;
+use decision::missing;
+use decision::silent;
 use label::Label;
 use label_keys::Look;
 use label_keys::label_keys;
 use label_keys::look_between;
 use label_keys::runs_between;
+use option::OPTION_TYPE;
 use option_read::read_keys;
 use port::Port;
 use port::port_sound;
@@ -38,17 +44,17 @@ pub fn arrive(port: Port, area: &[u8], code: u8, keys: &mut [u32]) -> Verdict
     ensures { λ r. ⌜ Arrives port (now (area .entry)) code (now (keys .entry)) (now (keys .exit)) r ⌝ }
 {
     if bad_area(area.len()) {
-        return stop(1, 0, 0, 0);
+        return silent(1);
     }
     if keys.len() < Label::MAX_RUNS {
-        return stop(1, 0, 0, 0);
+        return silent(1);
     }
     if !port_sound(port) {
-        return stop(2, 0, 0, 0);
+        return silent(2);
     }
     let on = port.basic.on;
     match walk_area(area, on) {
-        Walk::Refused(number, at) => stop(number, 12, 0, (20 + at) as u8),
+        Walk::Refused(number, at) => faulty(number, (HEADER_OCTETS + at) as u8),
         Walk::Sound(label, basic) => {
             let arrived = arrive_at(port, area, label, code, keys);
             if !on {
@@ -91,7 +97,7 @@ fn arrive_at(port: Port, area: &[u8], place: Place, code: u8, keys: &mut [u32]) 
     match place {
         Place::Nowhere => {
             if port.required {
-                return stop(6, 12, 1, 134);
+                return missing(6, OPTION_TYPE);
             }
             // the assigned label of a sound port is in its range
             let label = port.assigned;
@@ -115,7 +121,7 @@ fn read_at(port: Port, area: &[u8], at: usize, code: u8, keys: &mut [u32]) -> Ve
     let end = at + n;
     let read = read_keys(&area[at..end], port.domain, &mut keys[..]);
     if read.number != 0 {
-        return stop(read.number, 12, 0, (20 + (at + read.pointer)) as u8);
+        return faulty(read.number, (HEADER_OCTETS + (at + read.pointer)) as u8);
     }
     hold_within(
         read.level,
@@ -140,10 +146,10 @@ fn hold_within(
 {
     match look_between(keys, count, level, lowest, highest) {
         Look::Within => go_on(level, count),
-        Look::Outside => stop(14, 3, code, 0),
+        Look::Outside => barred(14, code),
         Look::Open => {
             if !runs_between(keys, count, lowest, highest) {
-                return stop(14, 3, code, 0);
+                return barred(14, code);
             }
             go_on(level, count)
         }
@@ -160,14 +166,14 @@ fn check_basic(arrived: Verdict, way: Way, area: &[u8], place: Place, code: u8) 
         return arrived;
     }
     match place {
-        Place::Nowhere => stop(20, 12, 1, 130),
+        Place::Nowhere => missing(20, BASIC_TYPE),
         Place::At(at) => {
             let read = read_basic_at(area, at);
             if read.number != 0 {
-                return stop(19, 12, 0, (20 + at) as u8);
+                return faulty(19, (HEADER_OCTETS + at) as u8);
             }
             if !passes_way(way, read.level, read.flags) {
-                return stop(21, 3, code, 0);
+                return barred(21, code);
             }
             arrived
         }

@@ -77,6 +77,14 @@ const FLAGS_AT: usize = 3;
 // The most octets that the option has: two of flags. Writing asks for so many octets of output.
 pub const BASIC_OCTETS: usize = 5;
 
+// The option's length without flags, and with one flag octet.
+const BARE_OCTETS: usize = 3;
+
+const ONE_FLAG_OCTETS: usize = 4;
+
+// How many flag fields one octet has: seven flags, above the low bit.
+const OCTET_FLAGS: u16 = 128;
+
 // The flag field with all 14 flags.
 const ALL_FLAGS: u16 = 16383;
 
@@ -148,10 +156,10 @@ fn framed(n: usize, kind: u8, size: u8) -> bool
 fn ended(n: usize, first: u8, second: u8) -> bool
     ensures { λ r. ⌜ r ≡ endedAt n first second ⌝ }
 {
-    if n == 3 {
+    if n == BARE_OCTETS {
         return true;
     }
-    if n == 4 {
+    if n == ONE_FLAG_OCTETS {
         return first % 2 == 0;
     }
     (first % 2 == 1) & (second % 2 == 0)
@@ -213,14 +221,14 @@ pub fn write_basic(level: u8, flags: u16, out: &mut [u8]) -> BasicWriting
 }
 
 // The most flag fields that a port permits each way.
-const MAX_FIELDS: usize = 256;
+pub const MAX_FIELDS: usize = 256;
 
 // What a port permits one way: levels from lowest to highest, and the flag fields in the first `count` places.
 pub struct Way {
     pub lowest: u8,
     pub highest: u8,
     pub count: usize,
-    pub flags: [u16; 256],
+    pub flags: [u16; MAX_FIELDS],
 }
 
 // What a port permits of the option: nothing of it is read where it is switched off.
@@ -265,7 +273,7 @@ fn no_way() -> Way
         lowest: 0,
         highest: 0,
         count: 0,
-        flags: [0u16; 256],
+        flags: [0u16; MAX_FIELDS],
     }
 }
 

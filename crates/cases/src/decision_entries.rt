@@ -16,8 +16,8 @@ use crate::record::take_wide_port;
 use crate::record::take_wide_table;
 use case_lines::LONGEST;
 use case_lines::put_broken;
+use case_lines::put_decided;
 use case_lines::put_decision;
-use case_lines::put_lent;
 use deliver::deliver;
 use forward::forward;
 
@@ -70,8 +70,7 @@ fn put_forward(
         octets,
         &mut space[0..room],
     );
-    let decided = put_decision(out, n, d);
-    put_lent(out, decided, &space, room)
+    put_decided(out, n, d, &space, room)
 }
 
 // Entries 7 and 9.

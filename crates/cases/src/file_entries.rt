@@ -8,14 +8,15 @@ use crate::field::take_short;
 use crate::field::take_stored;
 use crate::record::take_wide_port;
 use case_lines::put_broken;
+use case_lines::put_named;
 use case_lines::put_part;
+use case_lines::put_two;
 use file_read::read_file;
 use file_set::Set;
 use file_set::empty_set;
 use file_write::Written;
 use file_write::write_file;
 use text::put_next;
-use text::put_word;
 
 // The longest output that an entry about files can ask for.
 const ROOM: usize = 65535;
@@ -37,11 +38,9 @@ fn version_of(octets: &[u8]) -> u8 {
 // The line of a file that is not accepted.
 fn put_refused(out: &mut [u8], n: usize, verdict: u8, at: usize, octets: &[u8]) -> usize {
     if verdict == 2 {
-        let k = put_word(out, n, b"VERSION");
-        return put_next(out, k, version_of(octets) as u64);
+        return put_named(out, n, b"VERSION", version_of(octets) as u64);
     }
-    let k = put_word(out, n, b"REFUSED");
-    put_next(out, k, at as u64)
+    put_named(out, n, b"REFUSED", at as u64)
 }
 
 pub fn ask_read_file(case: &[u8], at: usize, out: &mut [u8], n: usize) -> usize {
@@ -55,9 +54,13 @@ pub fn ask_read_file(case: &[u8], at: usize, out: &mut [u8], n: usize) -> usize 
         return put_refused(out, n, file.verdict, file.at, octets);
     }
     let set = file.set;
-    let k = put_word(out, n, b"ACCEPTED");
-    let m = put_next(out, k, set.portcount as u64);
-    put_next(out, m, set.tablecount as u64)
+    put_accepted(out, n, set.portcount, set.tablecount)
+}
+
+// The line of a file that is accepted.
+fn put_accepted(out: &mut [u8], n: usize, ports: usize, tables: usize) -> usize {
+    let k = put_named(out, n, b"ACCEPTED", ports as u64);
+    put_next(out, k, tables as u64)
 }
 
 // The set is written into an output of `room` octets: number, count, output.
@@ -72,13 +75,10 @@ fn put_written(out: &mut [u8], n: usize, set: Set, room: u16, fill: u8) -> usize
 // The number of the writer, or NAMED where it refuses by name, and the count.
 fn put_number(out: &mut [u8], n: usize, w: Written) -> usize {
     match w {
-        Written::Done(count) => {
-            let k = put_word(out, n, b"0");
-            put_next(out, k, count as u64)
-        }
-        Written::Short => put_word(out, n, b"1 0"),
-        Written::Unsound => put_word(out, n, b"2 0"),
-        Written::Unsaid => put_word(out, n, b"NAMED 0"),
+        Written::Done(count) => put_two(out, n, 0, count as u64),
+        Written::Short => put_two(out, n, 1, 0),
+        Written::Unsound => put_two(out, n, 2, 0),
+        Written::Unsaid => put_named(out, n, b"NAMED", 0),
     }
 }
 

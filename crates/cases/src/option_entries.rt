@@ -11,14 +11,15 @@ use basic::read_basic;
 use basic::write_basic;
 use case_lines::LONGEST;
 use case_lines::put_broken;
+use case_lines::put_counted;
+use case_lines::put_keys;
 use case_lines::put_label;
-use case_lines::put_lent;
+use case_lines::put_two;
 use label::Label;
 use option::Spellings;
 use option_read::read_option;
 use option_read_bitmap::read_bitmap;
 use option_spell::spell_label;
-use text::put_decimal;
 use text::put_next;
 
 // Entry 4: as document 01 permits it.
@@ -52,9 +53,7 @@ fn put_spelled(
     let room = lent.room;
     let mut space = [lent.fill; LONGEST];
     let s = spell_label(label, permitted, &mut space[0..room]);
-    let numbered = put_decimal(out, n, s.number as u64);
-    let counted = put_next(out, numbered, s.count as u64);
-    put_lent(out, counted, &space, room)
+    put_counted(out, n, s.number, s.count, &space, room)
 }
 
 pub fn ask_read(case: &[u8], at: usize, out: &mut [u8], n: usize) -> usize {
@@ -64,8 +63,7 @@ pub fn ask_read(case: &[u8], at: usize, out: &mut [u8], n: usize) -> usize {
     }
     let r = read_option(octets_of(case, octets.from, octets.end));
     let label = r.label;
-    let numbered = put_decimal(out, n, r.number as u64);
-    let pointed = put_next(out, numbered, r.pointer as u64);
+    let pointed = put_two(out, n, r.number as u64, r.pointer as u64);
     put_label(out, pointed, label)
 }
 
@@ -76,8 +74,7 @@ pub fn ask_read_basic(case: &[u8], at: usize, out: &mut [u8], n: usize) -> usize
         return put_broken(out, n);
     }
     let r = read_basic(octets_of(case, octets.from, octets.end));
-    let numbered = put_decimal(out, n, r.number as u64);
-    let levelled = put_next(out, numbered, r.level as u64);
+    let levelled = put_two(out, n, r.number as u64, r.level as u64);
     put_next(out, levelled, r.flags as u64)
 }
 
@@ -92,9 +89,7 @@ pub fn ask_write_basic(case: &[u8], at: usize, out: &mut [u8], n: usize) -> usiz
     let room = lent.room;
     let mut space = [lent.fill; LONGEST];
     let w = write_basic(level.value, flags.value, &mut space[0..room]);
-    let numbered = put_decimal(out, n, w.number as u64);
-    let counted = put_next(out, numbered, w.count as u64);
-    put_lent(out, counted, &space, room)
+    put_counted(out, n, w.number, w.count, &space, room)
 }
 
 // Entry 24. Number, count, low and high of each run.
@@ -105,26 +100,6 @@ pub fn ask_bitmap(case: &[u8], at: usize, out: &mut [u8], n: usize) -> usize {
     }
     let mut keys = [0u32; Label::MAX_RUNS];
     let found = read_bitmap(octets_of(case, octets.from, octets.end), &mut keys);
-    let numbered = put_decimal(out, n, found.number as u64);
-    let counted = put_next(out, numbered, found.count as u64);
+    let counted = put_two(out, n, found.number as u64, found.count as u64);
     put_keys(out, counted, &keys, found.count)
-}
-
-// The runs of the first `count` keys.
-fn put_keys(out: &mut [u8], n: usize, keys: &[u32], count: usize) -> usize {
-    let mut k = n;
-    let mut i: usize = 0;
-    while i < count {
-        if keys.len() <= i {
-            return k;
-        }
-        k = put_key(out, k, keys[i]);
-        i += 1;
-    }
-    k
-}
-
-fn put_key(out: &mut [u8], n: usize, key: u32) -> usize {
-    let low = put_next(out, n, (key / 65536) as u64);
-    put_next(out, low, (key % 65536) as u64)
 }

@@ -15,8 +15,7 @@ use crate::box_record::take_tables;
 use crate::field::octets_of;
 use case_lines::LONGEST;
 use case_lines::put_broken;
-use case_lines::put_decision;
-use case_lines::put_lent;
+use case_lines::put_decided;
 use decision::Decision;
 use decision::Facts;
 use port::Port;
@@ -60,11 +59,11 @@ pub fn ask_decide(case: &[u8], at: usize, out: &mut [u8], n: usize) -> usize {
     if datagram.next != case.len() {
         return put_broken(out, n);
     }
-    put_decided(case, ports, tables, routes, datagram, out, n)
+    put_routed(case, ports, tables, routes, datagram, out, n)
 }
 
 // What the box decides, and the output.
-fn put_decided(
+fn put_routed(
     case: &[u8],
     p: TakenPorts,
     t: TakenTables,
@@ -79,8 +78,7 @@ fn put_decided(
     let room = d.room;
     let mut space = [d.fill; LONGEST];
     let decision = decide_taken(p, t, r, d, area, &mut space[0..room]);
-    let decided = put_decision(out, n, decision);
-    put_lent(out, decided, &space, room)
+    put_decided(out, n, decision, &space, room)
 }
 
 // Lends the ports and the routes that are used.

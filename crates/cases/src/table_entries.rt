@@ -3,10 +3,12 @@ use crate::field::take_limited;
 use crate::record::levels_at;
 use crate::record::take_wide_table;
 use case_lines::put_broken;
+use case_lines::put_pairs;
+use case_lines::put_rows;
+use case_lines::put_two;
 use renumber_reverse::Head;
 use renumber_reverse::reverse_levels;
 use renumber_reverse::reverse_rows;
-use text::put_decimal;
 use text::put_next;
 
 // The most rows that a case can lend, and three numbers for each.
@@ -37,51 +39,14 @@ fn put_reverse(
     levels: [[u8; 2]; 16],
     rows: &[u16; NUMBERS],
 ) -> usize {
-    let numbered = put_decimal(out, n, head.number as u64);
-    let from = put_next(out, numbered, head.from as u64);
-    let to = put_next(out, from, head.to as u64);
-    let paired = put_next(out, to, head.pairs as u64);
-    let pairs = put_pairs(out, paired, levels, head.pairs);
-    let counted = put_next(out, pairs, head.count as u64);
+    let headed = put_head(out, n, head);
+    let paired = put_pairs(out, headed, levels, head.pairs);
+    let counted = put_next(out, paired, head.count as u64);
     put_rows(out, counted, rows, head.count)
 }
 
-// The first `count` level pairs.
-fn put_pairs(out: &mut [u8], n: usize, levels: [[u8; 2]; 16], count: usize) -> usize {
-    let mut k = n;
-    let mut i: usize = 0;
-    while i < count {
-        if 16 <= i {
-            return k;
-        }
-        let pair = levels[i];
-        k = put_level(out, k, pair[0]);
-        k = put_level(out, k, pair[1]);
-        i += 1;
-    }
-    k
-}
-
-// The first `count` rows of the list, three numbers each.
-fn put_rows(out: &mut [u8], n: usize, rows: &[u16], count: usize) -> usize {
-    let mut k = n;
-    let mut i: usize = 0;
-    while i < count {
-        if rows.len() / 3 <= i {
-            return k;
-        }
-        k = put_category(out, k, rows[i * 3]);
-        k = put_category(out, k, rows[i * 3 + 1]);
-        k = put_category(out, k, rows[i * 3 + 2]);
-        i += 1;
-    }
-    k
-}
-
-fn put_level(out: &mut [u8], n: usize, level: u8) -> usize {
-    put_next(out, n, level as u64)
-}
-
-fn put_category(out: &mut [u8], n: usize, category: u16) -> usize {
-    put_next(out, n, category as u64)
+fn put_head(out: &mut [u8], n: usize, head: Head) -> usize {
+    let from = put_two(out, n, head.number as u64, head.from as u64);
+    let to = put_next(out, from, head.to as u64);
+    put_next(out, to, head.pairs as u64)
 }

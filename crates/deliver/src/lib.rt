@@ -2,9 +2,12 @@
 use arrive::arrive;
 use decision::Decision;
 use decision::Facts;
+use decision::HOST_PROHIBITED;
 use decision::Verdict;
+use decision::barred;
 use decision::conclude;
-use decision::stop;
+use decision::silent;
+use label::Label;
 use label_keys::Look;
 use label_keys::look_between;
 use label_keys::runs_between;
@@ -19,8 +22,8 @@ ghost use Rattle.deliver.specs.Stages.{hostedBy};
 pub fn deliver(port: Port, host: Host, facts: Facts, area: &[u8]) -> Decision
     ensures { λ r. ⌜ r ≡ deliverOf (deliveryOf port host facts (now (area .entry))) ⌝ }
 {
-    let mut keys = [0u32; 120];
-    let arrived = arrive(port, area, 10, &mut keys);
+    let mut keys = [0u32; Label::MAX_RUNS];
+    let arrived = arrive(port, area, HOST_PROHIBITED, &mut keys);
     let verdict = reach_host(arrived, host, port.domain, &keys);
     conclude(verdict, port.domain, facts, 0, &keys)
 }
@@ -33,7 +36,7 @@ fn reach_host(arrived: Verdict, host: Host, domain: u32, keys: &[u32]) -> Verdic
         return arrived;
     }
     if !host_sound(host, domain) {
-        return stop(2, 0, 0, 0);
+        return silent(2);
     }
     if arrived.number != 0 {
         return arrived;
@@ -46,10 +49,10 @@ fn reach_host(arrived: Verdict, host: Host, domain: u32, keys: &[u32]) -> Verdic
         host.highest,
     ) {
         Look::Within => arrived,
-        Look::Outside => stop(15, 3, 10, 0),
+        Look::Outside => barred(15, HOST_PROHIBITED),
         Look::Open => {
             if !runs_between(keys, arrived.count, host.lowest, host.highest) {
-                return stop(15, 3, 10, 0);
+                return barred(15, HOST_PROHIBITED);
             }
             arrived
         }

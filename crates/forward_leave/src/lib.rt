@@ -1,10 +1,13 @@
 // The leaving port's checks (document 01, "The order of checks": 1, 2 and 17; document 02, Wish 3: 21): each follows what was decided before it.
+use area::AREA_OCTETS;
 use arrive::find_basic;
 use arrive::is_open;
 use basic::Way;
 use basic::passes_way;
+use decision::NETWORK_PROHIBITED;
 use decision::Verdict;
-use decision::stop;
+use decision::barred;
+use decision::silent;
 use label::Label;
 use label_keys::Look;
 use label_keys::look_between;
@@ -24,11 +27,11 @@ pub fn check_leaving(arrived: Verdict, room: usize, sound: bool) -> Verdict
     if arrived.number == 1 {
         return arrived;
     }
-    if room < 40 {
-        return stop(1, 0, 0, 0);
+    if room < AREA_OCTETS {
+        return silent(1);
     }
     if !sound {
-        return stop(2, 0, 0, 0);
+        return silent(2);
     }
     arrived
 }
@@ -62,7 +65,7 @@ fn bar_basic(ready: Verdict) -> Verdict
     if !is_open(ready.number) {
         return ready;
     }
-    stop(21, 3, 9, 0)
+    barred(21, NETWORK_PROHIBITED)
 }
 
 // Check 17: toward unlabelled hosts the range is the default label alone.
@@ -91,10 +94,10 @@ fn hold_between(crossed: Verdict, lowest: Label, highest: Label, keys: &[u32]) -
     }
     match look_between(keys, crossed.count, crossed.level, lowest, highest) {
         Look::Within => crossed,
-        Look::Outside => stop(17, 3, 9, 0),
+        Look::Outside => barred(17, NETWORK_PROHIBITED),
         Look::Open => {
             if !runs_between(keys, crossed.count, lowest, highest) {
-                return stop(17, 3, 9, 0);
+                return barred(17, NETWORK_PROHIBITED);
             }
             crossed
         }

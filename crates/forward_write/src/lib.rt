@@ -1,8 +1,10 @@
 // Sending (document 01, "The order of checks": 18, and "The leaving area"): whether the options have room, and only a forwarding writes.
+use area::AREA_OCTETS;
 use area_leaving::count_kept;
 use area_leaving::write_rest;
+use decision::NETWORK_PROHIBITED;
 use decision::Verdict;
-use decision::stop;
+use decision::barred;
 use label::Label;
 use lists::lesser;
 use option::Spellings;
@@ -39,7 +41,7 @@ pub fn fit(
     }
     let n = held.count;
     if Label::MAX_RUNS < n {
-        return stop(18, 3, 9, 0);
+        return barred(18, NETWORK_PROHIBITED);
     }
     if unlabelled {
         return held;
@@ -47,7 +49,7 @@ pub fn fit(
     let m = lesser(n, keys.len());
     let size = keys_length(&keys[..m], permitted);
     if !has_room(size, kept) {
-        return stop(18, 3, 9, 0);
+        return barred(18, NETWORK_PROHIBITED);
     }
     held
 }
@@ -59,10 +61,10 @@ fn has_room(size: usize, kept: usize) -> bool
     if size == 0 {
         return false;
     }
-    if 40 < size {
+    if AREA_OCTETS < size {
         return false;
     }
-    kept <= 40 - size
+    kept <= AREA_OCTETS - size
 }
 
 // Writes the leaving area of a forwarding, and answers its count; a refusal writes nothing.

@@ -5,9 +5,9 @@ use label::Run;
 use lists::lesser;
 ghost use mathlib.Core.Path.{_≡_};
 ghost use mathlib.Core.List.{map, _++_};
-ghost use Prim.Native.Nat.{_≤_};
+ghost use Prim.Native.Nat.{_/_, _%_, _≤_};
 ghost use lib.ListN.{length, take, drop};
-ghost use Rattle.label.specs.Runs.{passes};
+ghost use Rattle.label.specs.Runs.{run, passes};
 ghost use Rattle.label.specs.Label.{used, labelOf};
 ghost use Rattle.label_keys.specs.Keys.{runKey, keyRuns, labelFrom, keysFit, withKeys};
 ghost use Rattle.label_keys.specs.Range.{lookOf, runsBetween};
@@ -44,13 +44,13 @@ fn fill_label(keys: &[u32], n: usize, domain: u32, level: u8) -> Label
         domain: domain,
         level: level,
         count: 0,
-        runs: [Run { low: 0, high: 0 }; 120],
+        runs: [Run { low: 0, high: 0 }; Label::MAX_RUNS],
     };
     let mut i: usize = 0;
     while i < n {
         let k = keys[i];
-        let low = k / 65536;
-        let high = k % 65536;
+        let low = k / Run::KEY_FACTOR;
+        let high = k % Run::KEY_FACTOR;
         out.runs[i] = Run {
             low: low as u16,
             high: high as u16,
@@ -89,11 +89,18 @@ fn write_keys(label: Label, keys: &mut [u32])
     }
 }
 
-// A run as one key.
-fn run_key(run: Run) -> u32
-    ensures { λ r. ⌜ r ≡ runKey run ⌝ }
+// The key of a run.
+pub fn run_key(x: Run) -> u32
+    ensures { λ r. ⌜ (r ≡ runKey x) × (r / 65536 ≡ x .low) × (r % 65536 ≡ x .high) ⌝ }
 {
-    (run.low as u32) * 65536 + (run.high as u32)
+    key_of(x.low, x.high)
+}
+
+// The key of the run from low to high.
+pub fn key_of(low: u16, high: u16) -> u32
+    ensures { λ r. ⌜ r ≡ runKey (run low high) ⌝ }
+{
+    (low as u32) * Run::KEY_FACTOR + (high as u32)
 }
 
 // What shows without a loop of whether a level and the runs of the first n keys lie between two labels. A caller looks first and goes through
@@ -119,11 +126,11 @@ pub fn look_between(keys: &[u32], n: usize, level: u8, lowest: Label, highest: L
     }
     let over = highest.runs[0];
     let first = keys[0];
-    if first / 65536 < over.low as u32 {
+    if first / Run::KEY_FACTOR < over.low as u32 {
         return Look::Outside;
     }
     let last = keys[m - 1];
-    if (over.high as u32) < last % 65536 {
+    if (over.high as u32) < last % Run::KEY_FACTOR {
         return Look::Outside;
     }
     Look::Within
@@ -163,13 +170,13 @@ fn label_in_keys(label: Label, keys: &[u32], m: usize) -> bool
         let low = run.low as u32;
         let high = run.high as u32;
         let over = keys[j];
-        if over % 65536 < low {
+        if over % Run::KEY_FACTOR < low {
             j += 1;
         } else {
-            if low < over / 65536 {
+            if low < over / Run::KEY_FACTOR {
                 return false;
             }
-            if over % 65536 < high {
+            if over % Run::KEY_FACTOR < high {
                 return false;
             }
             i += 1;
@@ -195,13 +202,13 @@ fn keys_in_label(keys: &[u32], n: usize, label: Label) -> bool
         let over = label.runs[j];
         let low = over.low as u32;
         let high = over.high as u32;
-        if high < key / 65536 {
+        if high < key / Run::KEY_FACTOR {
             j += 1;
         } else {
-            if key / 65536 < low {
+            if key / Run::KEY_FACTOR < low {
                 return false;
             }
-            if high < key % 65536 {
+            if high < key % Run::KEY_FACTOR {
                 return false;
             }
             i += 1;

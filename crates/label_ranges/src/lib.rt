@@ -1,5 +1,6 @@
 // Ranges of categories in order: when two touch, the two as one, and pairs that are out of order (document 01, "Labels" and "Option and tags"). A range
 // as a single number is low · 65536 + high.
+use label::Run;
 ghost use mathlib.Core.Path.{_≡_};
 ghost use mathlib.Core.Bool.{not, _&&_, _||_};
 ghost use Prim.Native.Nat.{_+_};
@@ -10,15 +11,15 @@ ghost use Rattle.label_ranges.specs.Ranges.{reached, stretched};
 pub fn reaches(k: u32, x: u32) -> bool
     ensures { λ r. ⌜ r ≡ reached k x ⌝ }
 {
-    x / 65536 <= k % 65536 + 1
+    x / Run::KEY_FACTOR <= k % Run::KEY_FACTOR + 1
 }
 
 // The key's range goes on to the end of the other, where that is higher.
 pub fn stretch(k: u32, x: u32) -> u32
     ensures { λ r. ⌜ r ≡ stretched k x ⌝ }
 {
-    let hi = k % 65536;
-    let end = x % 65536;
+    let hi = k % Run::KEY_FACTOR;
+    let end = x % Run::KEY_FACTOR;
     if hi < end {
         return k - hi + end;
     }

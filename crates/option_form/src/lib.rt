@@ -12,9 +12,13 @@ ghost use Rattle.option_form.specs.Spelled.{lengthOf};
 ghost use Rattle.option_form.specs.Keys.{keysForm, keysSpelled};
 ghost use Rattle.option_form.specs.Stages.{capped};
 use label::Label;
+use label::Run;
 use lists::lesser;
+use option::BITMAP;
 use option::CATEGORIES_AT;
 use option::Form;
+use option::NUMBERS;
+use option::PAIRS;
 use option::Spellings;
 
 // The most octets of categories that a tag 1, a tag 2 and a tag 5 have: 240 bits, 15 numbers, 7 pairs; and those of the ten-octet form.
@@ -62,9 +66,9 @@ pub fn choose(keys: &[u32], permitted: Spellings) -> Form
     }
     let first = keys[0];
     let last = keys[n - 1];
-    let one = bitmap_size(last % 65536);
+    let one = bitmap_size(last % Run::KEY_FACTOR);
     let two = 2 * count_categories(keys);
-    let five = pairs_size(n, first / 65536);
+    let five = pairs_size(n, first / Run::KEY_FACTOR);
     least(permitted, one, two, five)
 }
 
@@ -90,8 +94,8 @@ fn pairs_size(n: usize, low: u32) -> usize
 fn span(key: u32) -> u32
     ensures { λ r. ⌜ (r ≡ key % 65536 + 1 - key / 65536) × (r ≤ 65536) ⌝ }
 {
-    let low = key / 65536;
-    let high = key % 65536;
+    let low = key / Run::KEY_FACTOR;
+    let high = key % Run::KEY_FACTOR;
     if high < low {
         return 0;
     }
@@ -187,13 +191,22 @@ fn least_usual(one: usize, two: usize, five: usize) -> Form
     ensures { λ r. ⌜ r ≡ leastForm usual one two five ⌝ }
 {
     if takes_one(one, two, five) {
-        return Form { tag: 1, size: one };
+        return Form {
+            tag: BITMAP,
+            size: one,
+        };
     }
     if takes_two(two, five) {
-        return Form { tag: 2, size: two };
+        return Form {
+            tag: NUMBERS,
+            size: two,
+        };
     }
     if takes_five(five) {
-        return Form { tag: 5, size: five };
+        return Form {
+            tag: PAIRS,
+            size: five,
+        };
     }
     Form {
         tag: 0,
@@ -209,9 +222,9 @@ fn least(permitted: Spellings, one: usize, two: usize, five: usize) -> Form
     if permitted.is_usual() {
         return least_usual(one, two, five);
     }
-    let shortest = form_if(permitted.shortest, one, BITMAP_OCTETS, 1, one);
-    let ten = form_if(permitted.ten, one, TEN_OCTETS, 1, TEN_OCTETS);
-    let numbers = form_if(permitted.numbers, two, NUMBERS_OCTETS, 2, two);
-    let pairs = form_if(permitted.pairs, five, PAIRS_OCTETS, 5, five);
+    let shortest = form_if(permitted.shortest, one, BITMAP_OCTETS, BITMAP, one);
+    let ten = form_if(permitted.ten, one, TEN_OCTETS, BITMAP, TEN_OCTETS);
+    let numbers = form_if(permitted.numbers, two, NUMBERS_OCTETS, NUMBERS, two);
+    let pairs = form_if(permitted.pairs, five, PAIRS_OCTETS, PAIRS, five);
     shorter_of(shortest, shorter_of(ten, shorter_of(numbers, pairs)))
 }

@@ -16,6 +16,20 @@ use option_read_numbers::Pass;
 use option_read_numbers::read_numbers;
 use option_read_numbers::read_pairs;
 
+// The length octet of a tag: at least its four octets before the categories, at most 30 more; of tag 5 at most seven pairs.
+const SHORTEST_TAG: usize = 4;
+
+const LONGEST_TAG: usize = 34;
+
+const LONGEST_PAIRS: usize = 32;
+
+// Whether an option is read alone, and the domain that is then given.
+const ALONE: bool = true;
+
+const IN_AN_AREA: bool = false;
+
+const NO_DOMAIN: u32 = 0;
+
 // Number 0 and the label; else the refusal's number, its pointer from the option's own start, and the all-zero label.
 pub struct Reading {
     pub number: u8,
@@ -64,10 +78,10 @@ fn category_keys(tag: u8, octets: &[u8], keys: &mut [u32]) -> Pass
     requires { ⌜ (length (now octets) ≤ 30) × ((tag ≡ 1 → ⊥) → length (now octets) % 2 ≡ 0) × (120 ≤ length (now keys)) × (knownTag tag ≡ true) ⌝ }
     ensures { λ r. ⌜ PassOver tag (now (octets .entry)) (now (keys .entry)) (now (keys .exit)) r ⌝ }
 {
-    if tag == 2 {
+    if tag == option::NUMBERS {
         return read_numbers(octets, keys);
     }
-    if tag == 5 {
+    if tag == option::PAIRS {
         return read_pairs(octets, keys);
     }
     bitmap_keys(octets, keys)
@@ -76,13 +90,13 @@ fn category_keys(tag: u8, octets: &[u8], keys: &mut [u32]) -> Pass
 fn known_tag(tag: u8) -> bool
     ensures { λ r. ⌜ r ≡ knownTag tag ⌝ }
 {
-    if tag == 1 {
+    if tag == option::BITMAP {
         return true;
     }
-    if tag == 2 {
+    if tag == option::NUMBERS {
         return true;
     }
-    tag == 5
+    tag == option::PAIRS
 }
 
 // Whether the tag's length is valid for its type and within an option of n octets.
@@ -93,19 +107,19 @@ fn good_length(tag: u8, size: usize, n: usize) -> bool
     if n < size + option::TAG_TYPE_AT {
         return false;
     }
-    if size < 4 {
+    if size < SHORTEST_TAG {
         return false;
     }
-    if tag == 1 {
-        return size <= 34;
+    if tag == option::BITMAP {
+        return size <= LONGEST_TAG;
     }
     if size % 2 != 0 {
         return false;
     }
-    if tag == 5 {
-        return size <= 32;
+    if tag == option::PAIRS {
+        return size <= LONGEST_PAIRS;
     }
-    size <= 34
+    size <= LONGEST_TAG
 }
 
 fn length_in(x: u8) -> usize
@@ -238,8 +252,8 @@ fn owner_of(octets: &[u8], number: u8) -> u32
 pub fn read_option(octets: &[u8]) -> Reading
     ensures { λ r. ⌜ r ≡ readingOf (now (octets .entry)) ⌝ }
 {
-    let mut keys = [0u32; 120];
-    let read = read_checked(octets, true, 0, &mut keys);
+    let mut keys = [0u32; Label::MAX_RUNS];
+    let read = read_checked(octets, ALONE, NO_DOMAIN, &mut keys);
     let owner = owner_of(octets, read.number);
     let label = to_label(&keys, read.count, owner, read.level);
     Reading {
@@ -254,5 +268,5 @@ pub fn read_option(octets: &[u8]) -> Reading
 pub fn read_keys(octets: &[u8], domain: u32, keys: &mut [u32]) -> KeyReading
     ensures { λ r. ⌜ ReadsKeys domain (now (octets .entry)) (now (keys .entry)) (now (keys .exit)) r ⌝ }
 {
-    read_checked(octets, false, domain, keys)
+    read_checked(octets, IN_AN_AREA, domain, keys)
 }

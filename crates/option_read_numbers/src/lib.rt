@@ -5,11 +5,11 @@ ghost use mathlib.Core.Bool.{true, cond, _||_};
 ghost use lib.Dec.{leb, eqb};
 ghost use lib.ListN.{length, getD};
 ghost use Rattle.label.specs.Runs.{run};
-ghost use Rattle.label_keys.specs.Keys.{runKey};
 ghost use Rattle.option.specs.Index.{numberAt, bottomAt};
 ghost use Rattle.option_read_numbers.specs.Numbers.{whole, firstBadNumber, numberRuns, firstBadPair, pairRuns, fits, Passes, ReadsNumbers, ReadsPairs};
 ghost use Rattle.option_read_numbers.specs.Stages.{afterPiece, countAfter, keysAfterNumber, limitAt};
 use label::Label;
+use label_keys::key_of;
 use label_ranges::bad_pair;
 use label_ranges::touches;
 
@@ -62,12 +62,6 @@ fn fit(n: usize, room: usize) -> bool
         return false;
     }
     NUMBER_OCTETS / 2 <= room
-}
-
-fn key_of(low: u16, high: u16) -> u32
-    ensures { λ r. ⌜ r ≡ runKey (run low high) ⌝ }
-{
-    (low as u32) * 65536 + (high as u32)
 }
 
 // The categories low to high are added above all others: where they touch the last run, they become part of it. The caller says whether they

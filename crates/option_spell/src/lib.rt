@@ -3,7 +3,7 @@
 ghost use mathlib.Core.Path.{_≡_};
 ghost use mathlib.Core.Bool.{_&&_};
 ghost use mathlib.Core.List.{map, _++_};
-ghost use Prim.Native.Nat.{_+_, _*_, _/_, _%_, _≤_};
+ghost use Prim.Native.Nat.{_+_, _≤_};
 ghost use lib.ListN.{length, take, drop};
 ghost use Rattle.label.specs.Runs.{spaced, unused};
 ghost use Rattle.label.specs.Label.{used};
@@ -12,8 +12,10 @@ ghost use Rattle.option_spell.specs.Spelling.{spellingAnswer, spellingOu
 ghost use Rattle.option_spell.specs.Stages.{answerOf};
 use label::Label;
 use label::Run;
+use label::word;
+use label_keys::run_key;
+use option::OPTION_OCTETS;
 use option::Spellings;
-use option_write::OPTION_OCTETS;
 use option_write::spell_keys;
 
 // So many runs are few: spelled without a copy of the whole label.
@@ -65,7 +67,7 @@ fn spell_one(label: Label, permitted: Spellings, out: &mut [u8]) -> Spelling
 {
     let n = label.count;
     let run = label.runs[0];
-    let key = key_of(run);
+    let key = run_key(run);
     if !label.well_formed() {
         return Spelling {
             number: 2,
@@ -89,7 +91,7 @@ fn spell_few(label: Label, permitted: Spellings, out: &mut [u8]) -> Spelling
     ensures { λ r. ⌜ (r ≡ spellingAnswer permitted label (length (now (out .entry)))) × (now (out .exit) ≡ spellingOut permitted label (now (out .entry))) ⌝ }
 {
     let n = label.count;
-    let mut keys = [0u32; 16];
+    let mut keys = [0u32; FEW_RUNS];
     front_keys(label, &mut keys);
     let formed = few_formed(&keys, n) & unused_after_few(label);
     if !formed {
@@ -114,7 +116,7 @@ fn spell_many(label: Label, permitted: Spellings, out: &mut [u8]) -> Spelling
     ensures { λ r. ⌜ (r ≡ spellingAnswer permitted label (length (now (out .entry)))) × (now (out .exit) ≡ spellingOut permitted label (now (out .entry))) ⌝ }
 {
     let n = label.count;
-    let mut keys = [0u32; 120];
+    let mut keys = [0u32; Label::MAX_RUNS];
     if !runs_formed(label, &mut keys) {
         return Spelling {
             number: 2,
@@ -155,7 +157,7 @@ fn front_keys(label: Label, keys: &mut [u32])
     let mut i: usize = 0;
     while i < FEW_RUNS {
         let run = label.runs[i];
-        keys[i] = key_of(run);
+        keys[i] = run_key(run);
         i += 1;
     }
 }
@@ -166,7 +168,7 @@ fn unused_after_few(label: Label) -> bool
 {
     let mut rest: u32 = 0;
     let mut i: usize = FEW_RUNS;
-    while i < 120 {
+    while i < Label::MAX_RUNS {
         let run = label.runs[i];
         rest = rest | word(run);
         i += 1;
@@ -184,8 +186,8 @@ fn few_formed(keys: &[u32], n: usize) -> bool
     let mut i: usize = 0;
     while i < n {
         let key = keys[i];
-        let low = key / 65536;
-        let high = key % 65536;
+        let low = key / Run::KEY_FACTOR;
+        let high = key % Run::KEY_FACTOR;
         good = good & (floor <= low) & (low <= high);
         floor = high + 2;
         i += 1;
@@ -195,7 +197,7 @@ fn few_formed(keys: &[u32], n: usize) -> bool
         rest = rest | keys[i];
         i += 1;
     }
-    good & (floor <= 65536) & (rest == 0)
+    good & (floor <= Label::PAST_LAST) & (rest == 0)
 }
 
 // The form of a label's runs, as crate `label` looks at it, and their keys, in one pass: the label is copied once.
@@ -213,27 +215,14 @@ fn runs_formed(label: Label, keys: &mut [u32]) -> bool
         let high = run.high as u32;
         good = good & (floor <= low) & (low <= high);
         floor = high + 2;
-        keys[i] = key_of(run);
+        keys[i] = run_key(run);
         i += 1;
     }
     let mut rest: u32 = 0;
-    while i < 120 {
+    while i < Label::MAX_RUNS {
         let run = label.runs[i];
         rest = rest | word(run);
         i += 1;
     }
-    good & (floor <= 65536) & (rest == 0)
-}
-
-fn key_of(run: Run) -> u32
-    ensures { λ r. ⌜ (r ≡ runKey run) × (r / 65536 ≡ run .low) × (r % 65536 ≡ run .high) ⌝ }
-{
-    (run.low as u32) * 65536 + (run.high as u32)
-}
-
-// The run's two numbers as they lie in memory: one load.
-fn word(run: Run) -> u32
-    ensures { λ r. ⌜ r ≡ run .low + run .high * 65536 ⌝ }
-{
-    run.low as u32 + (run.high as u32) * 65536
+    good & (floor <= Label::PAST_LAST) & (rest == 0)
 }

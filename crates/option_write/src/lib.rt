@@ -10,21 +10,22 @@ ghost use Rattle.option.specs.Spelling.{octetsOut, numbersOf, bodyFor, optionOf
 ghost use Rattle.option.specs.Index.{numbersOut, pairNumber};
 ghost use Rattle.option_write.specs.Keys.{keysCount, keysWritten, keysLaid};
 ghost use Rattle.option_write.specs.Stages.{Written, headOf};
+use label::Run;
 use lists::zero_all;
 use option::ALIGNMENT_AT;
+use option::BITMAP;
 use option::CATEGORIES_AT;
 use option::DOMAIN_AT;
 use option::LENGTH_AT;
 use option::LEVEL_AT;
+use option::NUMBERS;
+use option::OPTION_OCTETS;
 use option::OPTION_TYPE;
 use option::Spellings;
 use option::TAG_LENGTH_AT;
 use option::TAG_TYPE_AT;
 use option_form::choose;
 use option_write_bitmap::write_bitmap;
-
-// The most octets that an option has; writing asks for so many octets of output.
-pub const OPTION_OCTETS: usize = 40;
 
 // Writes the spelling of the keys' runs to the front of the output and returns its length; or writes nothing and returns 0, where they have
 // none or the output has under 40 octets.
@@ -85,11 +86,11 @@ fn write_body(keys: &[u32], tag: u8, size: usize, out: &mut [u8])
     requires { ⌜ Written tag size (keyRuns (now keys)) × (30 ≤ length (now out)) ⌝ }
     ensures { λ _. ⌜ now (out .exit) ≡ bodyFor tag size (keyRuns (now (keys .entry))) ++ drop size (now (out .entry)) ⌝ }
 {
-    if tag == 1 {
+    if tag == BITMAP {
         write_bitmap(keys, &mut out[..size]);
         return;
     }
-    if tag == 2 {
+    if tag == NUMBERS {
         write_numbers(keys, out);
         return;
     }
@@ -107,8 +108,8 @@ fn write_numbers(keys: &[u32], out: &mut [u8])
     let mut k: usize = 0;
     while i < m {
         let key = keys[i];
-        let x = ((key / 65536) as usize) + j;
-        let high = (key % 65536) as usize;
+        let x = ((key / Run::KEY_FACTOR) as usize) + j;
+        let high = (key % Run::KEY_FACTOR) as usize;
         if high < x {
             i += 1;
             j = 0;
@@ -147,13 +148,13 @@ fn write_pairs(keys: &[u32], m: usize, out: &mut [u8])
     while j < pairs {
         let at = n - 1 - j;
         let key = keys[at];
-        put_number(2 * j, key % 65536, &mut out[..]);
-        put_number(2 * j + 1, key / 65536, &mut out[..]);
+        put_number(2 * j, key % Run::KEY_FACTOR, &mut out[..]);
+        put_number(2 * j + 1, key / Run::KEY_FACTOR, &mut out[..]);
         j += 1;
     }
     if 2 * j < m {
         let at = n - 1 - j;
-        put_number(2 * j, keys[at] % 65536, &mut out[..]);
+        put_number(2 * j, keys[at] % Run::KEY_FACTOR, &mut out[..]);
     }
 }
 

@@ -6,6 +6,7 @@ ghost use Rattle.label.specs.Runs.{run, covers};
 ghost use Rattle.label_keys.specs.Keys.{keyRun, keyRuns};
 ghost use Rattle.option.specs.Spelling.{octetsOf};
 ghost use Rattle.option_write_bitmap.specs.Stages.{RunAdded};
+use label::Run;
 use lists::zero_all;
 
 // Writes the bitmap of the keys' runs over the whole output; what lies past its end is left out. The runs may come in any order and overlap.
@@ -33,8 +34,8 @@ fn ones_from(bit: usize) -> u8
 fn add_run(key: u32, out: &mut [u8])
     ensures { λ _. ⌜ RunAdded (keyRun key) (now (out .entry)) (now (out .exit)) ⌝ }
 {
-    let low = (key / 65536) as usize;
-    let high = (key % 65536) as usize;
+    let low = (key / Run::KEY_FACTOR) as usize;
+    let high = (key % Run::KEY_FACTOR) as usize;
     if high < low {
         return;
     }

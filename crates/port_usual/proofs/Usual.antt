@@ -101,19 +101,6 @@ runs-step xs ys s i h k =
     told true true false x u = refl
     told true true true x u = refl
 
--- the first place of a label of at most one run
-pub one-formed : (n low high : ℕ)
-    → ((eqb n 0 && (eqb low 0 && eqb high 0)) || (eqb n 1 && (leb low high && leb high 65534)))
-    ≡ (leb n 1 && cond (eqb n 0) (eqb low 0 && eqb high 0) (leb low high && leb high 65534))
-one-formed zero low high = or-none (eqb low 0 && eqb high 0)
-  where
-    or-none : (a : Bool) → (a || false) ≡ a
-    or-none true = refl
-    or-none false = refl
-one-formed (suc zero) low high = refl
-one-formed (suc (suc n)) low high =
-    simp (ne-eqb (suc (suc n)) 0 (λ e. omega arith), ne-eqb (suc (suc n)) 1 (λ e. omega arith), lt-leb (suc (suc n)) 1 (omega arith))
-
 -- two records of which every field and place is zero, field by field
 both-zero : (a b n u a′ b′ n′ u′ : Bool)
     → (((((a && b) && a′) && b′) && (n && n′)) && (u && u′)) ≡ ((a && (b && (n && u))) && (a′ && (b′ && (n′ && u′))))

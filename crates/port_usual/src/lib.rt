@@ -1,13 +1,13 @@
 // The usual kind of port: told by fixed places, so that between two such ports nothing of a port is copied.
+use basic::MAX_FIELDS;
 use basic::Way;
 use label::Label;
-use label::Run;
+use label::one_formed;
+use label::word;
 use option::Spellings;
 use port::Port;
 ghost use mathlib.Core.Path.{_≡_};
-ghost use mathlib.Core.Bool.{cond, _&&_};
-ghost use Prim.Native.Nat.{_+_, _*_};
-ghost use lib.Dec.{eqb, leb};
+ghost use mathlib.Core.Bool.{_&&_};
 ghost use lib.ListN.{drop};
 ghost use Rattle.label.specs.Runs.{unused};
 ghost use Rattle.label.specs.Label.{isZero};
@@ -51,20 +51,13 @@ fn range_usual(lowest: Label, highest: Label, domain: u32) -> bool
     rest & owned & (lowest.level <= highest.level) & low & high
 }
 
-// Whether the first place is right for a label of at most one run.
-fn one_formed(n: usize, low: u16, high: u16) -> bool
-    ensures { λ r. ⌜ r ≡ (leb n 1 && cond (eqb n 0) (eqb low 0 && eqb high 0) (leb low high && leb high 65534)) ⌝ }
-{
-    ((n == 0) & ((low == 0) & (high == 0))) | ((n == 1) & ((low <= high) & (high <= 65534)))
-}
-
 // Whether every place but the first is zero in both labels.
 fn labels_unused(x: Label, y: Label) -> bool
     ensures { λ r. ⌜ r ≡ (unused (drop 1 (x .runs)) && unused (drop 1 (y .runs))) ⌝ }
 {
     let mut rest: u32 = 0;
     let mut i: usize = 1;
-    while i < 120 {
+    while i < Label::MAX_RUNS {
         let a = x.runs[i];
         let b = y.runs[i];
         rest = rest | word(a) | word(b);
@@ -79,7 +72,7 @@ fn labels_zero(x: Label, y: Label) -> bool
 {
     let mut rest: u32 = 0;
     let mut i: usize = 0;
-    while i < 120 {
+    while i < Label::MAX_RUNS {
         let a = x.runs[i];
         let b = y.runs[i];
         rest = rest | word(a) | word(b);
@@ -96,20 +89,13 @@ fn ways_zero(receiving: Way, sending: Way) -> bool
 {
     let mut any: u16 = 0;
     let mut i: usize = 0;
-    while i < 256 {
+    while i < MAX_FIELDS {
         any = any | receiving.flags[i] | sending.flags[i];
         i += 1;
     }
     let levels = receiving.lowest | receiving.highest | sending.lowest | sending.highest;
     let counts = receiving.count | sending.count;
     (levels == 0) & (counts == 0) & (any == 0)
-}
-
-// The run's two numbers as they lie in memory: one load.
-fn word(run: Run) -> u32
-    ensures { λ r. ⌜ r ≡ run .low + run .high * 65536 ⌝ }
-{
-    run.low as u32 + (run.high as u32) * 65536
 }
 
 // Whether any spelling is permitted, with no test that ends it early.

@@ -18,29 +18,29 @@ use Rattle.arrive.proofs.arrive.Tie as tie
 bad-area-requires : tie.Need-bad-area-requires
 bad-area-requires c κs = search needs
 
-stop-requires : tie.Need-stop-requires
-stop-requires c κs = search needs
+silent-requires : tie.Need-silent-requires
+silent-requires c κs = search needs
 
 returns : tie.Need-returns
 returns c =
     let s = c .before .before .before .before .before in
-    rw (c .stop .ensures) (port-sized (s .args .port) (s .args .area .now) (s .args .keys .now) (s .args .code) (rw (sym (c .before .before .bad-area .ensures) ∙ c .before .if1 .taken)))
+    rw (c .silent .ensures) (port-sized (s .args .port) (s .args .area .now) (s .args .keys .now) (s .args .code) (rw (sym (c .before .before .bad-area .ensures) ∙ c .before .if1 .taken)))
 
-stop-requires-2 : tie.Need-stop-requires-2
-stop-requires-2 c κs = search needs
+silent-requires-2 : tie.Need-silent-requires-2
+silent-requires-2 c κs = search needs
 
 returns-2 : tie.Need-returns-2
 returns-2 c =
     let e = c .before .before in
     let s = e .before .before .before .before in
-    rw (c .stop2 .ensures)
+    rw (c .silent2 .ensures)
     (port-sized (s .args .port) (s .args .area .now) (s .args .keys .now) (s .args .code) (rw (sym (e .before .bad-area .ensures) ∙ e .if1 .left, lt-ltb (length (s .args .keys .now)) 120 (c .before .if2 .taken))))
 
 port-sound-requires : tie.Need-port-sound-requires
 port-sound-requires c κs = search needs
 
-stop-requires-3 : tie.Need-stop-requires-3
-stop-requires-3 c κs = search needs
+silent-requires-3 : tie.Need-silent-requires-3
+silent-requires-3 c κs = search needs
 
 -- past check 1
 small : (c : tie.Else2) → badArea (c .before .before .before .before .before .args .area .now) ≡ false
@@ -54,7 +54,7 @@ returns-3 c =
     let p = c .before .before in
     let e = p .before in
     let s = e .before .before .before .before .before in
-    rw (c .stop3 .ensures)
+    rw (c .silent3 .ensures)
     (port-unsound (s .args .port) (s .args .area .now) (s .args .keys .now) (s .args .code) (sized e) (sym (p .port-sound .ensures) ∙ not-true _ (c .before .if3 .taken)))
 
 walk-area-requires : tie.Need-walk-area-requires
@@ -79,22 +79,22 @@ found c = sym (c .before .before .walk-area .ensures) ∙ c .label .given .1
 ported : (c : tie.Else3) → portSound (c .before .before .before .before .before .before .before .args .port) ≡ true
 ported c = sym (c .before .port-sound .ensures) ∙ not-false _ (c .if3 .left)
 
-add-stop : tie.Need-add-stop
-add-stop c =
+add-faulty : tie.Need-add-faulty
+add-faulty c =
     let n = c .before in
     let e = n .before .before .before .before .before in
     let s = e .before .before .before .before .before in
     omega (arith, area-refused (s .args .port .basic .on) _ _ _ (walked n) .2, area-short (s .args .area .now) (small e))
 
-cast-stop : tie.Need-cast-stop
-cast-stop c =
+cast-faulty : tie.Need-cast-faulty
+cast-faulty c =
     let n = c .before in
     let e = n .before .before .before .before .before in
     let s = e .before .before .before .before .before in
     omega (arith, area-refused (s .args .port .basic .on) _ _ _ (walked n) .2, area-short (s .args .area .now) (small e))
 
-stop-requires-4 : tie.Need-stop-requires-4
-stop-requires-4 c κs = search needs
+faulty-requires : tie.Need-faulty-requires
+faulty-requires c κs = search needs
 
 enum-known-label : tie.Need-enum-known-label
 enum-known-label c = search needs
@@ -132,7 +132,7 @@ returns-5 c =
     let t = n .before .before .before in
     let e = t .before .before in
     let s = e .before .before .before .before .before in
-    rw (c .stop4 .ensures) (port-walked (s .args .port) (s .args .area .now) (s .args .keys .now) (s .args .code) (sized e) (ported t) _ _ (walked n))
+    rw (c .faulty .ensures) (port-walked (s .args .port) (s .args .area .now) (s .args .keys .now) (s .args .code) (sized e) (ported t) _ _ (walked n))
 
 same-length-2 : tie.Need-same-length-2
 same-length-2 c = search needs
@@ -151,18 +151,18 @@ arrive-spec =
     tie.close
     (tie.spec
     bad-area-requires
-    stop-requires
+    silent-requires
     returns
-    stop-requires-2
+    silent-requires-2
     returns-2
     port-sound-requires
-    stop-requires-3
+    silent-requires-3
     returns-3
     walk-area-requires
     enum-known-number
-    add-stop
-    cast-stop
-    stop-requires-4
+    add-faulty
+    cast-faulty
+    faulty-requires
     enum-known-label
     arrive-at-requires
     same-length

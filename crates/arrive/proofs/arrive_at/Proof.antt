@@ -7,14 +7,14 @@ use Rattle.arrive.proofs.arrive_at.Tie as tie
 enum-told : tie.Need-enum-told
 enum-told c = search needs
 
-stop-requires : tie.Need-stop-requires
-stop-requires c κs = search needs
+missing-requires : tie.Need-missing-requires
+missing-requires c κs = search needs
 
 returns : tie.Need-returns
 returns c =
     let t = c .before in
     let s = t .before .before .before .before .before in
-    rw (t .before .enum-told .given .1, c .stop .ensures) (none-required (s .args .port) (s .args .area .now) (s .args .keys .now) (s .args .code) (t .if1 .taken))
+    rw (t .before .enum-told .given .1, c .missing .ensures) (none-required (s .args .port) (s .args .area .now) (s .args .keys .now) (s .args .code) (t .if1 .taken))
 
 label-keys-requires : tie.Need-label-keys-requires
 label-keys-requires c κs = search needs
@@ -55,7 +55,7 @@ arrive-at-spec =
     tie.close
     (tie.spec
     enum-told
-    stop-requires
+    missing-requires
     returns
     label-keys-requires
     go-on-requires

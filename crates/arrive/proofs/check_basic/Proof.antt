@@ -36,8 +36,8 @@ at-place s q e =
 enum-told : tie.Need-enum-told
 enum-told c = search needs
 
-stop-requires : tie.Need-stop-requires
-stop-requires c κs = search needs
+missing-requires : tie.Need-missing-requires
+missing-requires c κs = search needs
 
 enum-known-place : tie.Need-enum-known-place
 enum-known-place c = search needs
@@ -53,22 +53,22 @@ placed c =
 read-basic-at-requires : tie.Need-read-basic-at-requires
 read-basic-at-requires c κs = placed (c .before)
 
-add-stop : tie.Need-add-stop
-add-stop c =
+add-faulty : tie.Need-add-faulty
+add-faulty c =
     let p = c .before .before .before .before in
     let s = p .before .before .before .before .before in
     let i = whole-inside Basic (s .args .area .now) (p .place .given .0 .0) (placed p) in
     omega (arith, i .inside, s .pre .0)
 
-cast-stop : tie.Need-cast-stop
-cast-stop c =
+cast-faulty : tie.Need-cast-faulty
+cast-faulty c =
     let p = c .before .before .before .before in
     let s = p .before .before .before .before .before in
     let i = whole-inside Basic (s .args .area .now) (p .place .given .0 .0) (placed p) in
     omega (arith, i .inside, s .pre .0)
 
-stop-requires-2 : tie.Need-stop-requires-2
-stop-requires-2 c κs = search needs
+faulty-requires : tie.Need-faulty-requires
+faulty-requires c κs = search needs
 
 returns-2 : tie.Need-returns-2
 returns-2 c =
@@ -76,15 +76,15 @@ returns-2 c =
     let p = r .before .before in
     let e = p .before .before in
     let s = e .before .before .before in
-    c .stop2 .ensures
+    c .faulty .ensures
     ∙ basic-bad (s .args .arrived) (s .args .way) (s .args .area .now) (s .args .code) (asked e) (p .place .given .0 .0) (r .read-basic-at .result) (r .read-basic-at .ensures) (c .before .if2 .taken)
     ∙ at-place s _ (p .place .given .1)
 
 passes-way-requires : tie.Need-passes-way-requires
 passes-way-requires c κs = search needs
 
-stop-requires-3 : tie.Need-stop-requires-3
-stop-requires-3 c κs = search needs
+barred-requires : tie.Need-barred-requires
+barred-requires c κs = search needs
 
 returns-3 : tie.Need-returns-3
 returns-3 c =
@@ -93,7 +93,7 @@ returns-3 c =
     let p = r .before .before in
     let e = p .before .before in
     let s = e .before .before .before in
-    c .stop3 .ensures
+    c .barred .ensures
     ∙ basic-outside (s .args .arrived) (s .args .way) (s .args .area .now) (s .args .code) (asked e) (p .place .given .0 .0) (r .read-basic-at .result) (r .read-basic-at .ensures) (w .before .if2 .left)
     (sym (w .passes-way .ensures) ∙ not-true _ (c .before .if3 .taken))
     ∙ at-place s _ (p .place .given .1)
@@ -103,7 +103,7 @@ returns-4 c =
     let t = c .before in
     let e = t .before .before in
     let s = e .before .before .before in
-    c .stop .ensures
+    c .missing .ensures
     ∙ basic-missing (s .args .arrived) (s .args .way) (s .args .area .now) (s .args .code) (asked e)
     ∙ at-place s _ (t .enum-told .given .1)
 
@@ -125,15 +125,15 @@ check-basic-spec =
     is-open-requires
     returns
     enum-told
-    stop-requires
+    missing-requires
     enum-known-place
     read-basic-at-requires
-    add-stop
-    cast-stop
-    stop-requires-2
+    add-faulty
+    cast-faulty
+    faulty-requires
     returns-2
     passes-way-requires
-    stop-requires-3
+    barred-requires
     returns-3
     returns-4
     returns-5)

@@ -17,8 +17,8 @@ go-on-requires c κs = search needs
 enum-told-2 : tie.Need-enum-told-2
 enum-told-2 c = search needs
 
-stop-requires : tie.Need-stop-requires
-stop-requires c κs = search needs
+barred-requires : tie.Need-barred-requires
+barred-requires c κs = search needs
 
 enum-told-3 : tie.Need-enum-told-3
 enum-told-3 c = search needs
@@ -26,14 +26,14 @@ enum-told-3 c = search needs
 runs-between-requires : tie.Need-runs-between-requires
 runs-between-requires c κs = search needs
 
-stop-requires-2 : tie.Need-stop-requires-2
-stop-requires-2 c κs = search needs
+barred-requires-2 : tie.Need-barred-requires-2
+barred-requires-2 c κs = search needs
 
 returns : tie.Need-returns
 returns c =
     let r = c .before .before in
     let t = r .before in
-    rw (sym (t .before .before .look-between .ensures) ∙ t .enum-told3 .given .1, sym (r .runs-between .ensures) ∙ not-true _ (c .before .if1 .taken)) (c .stop2 .ensures)
+    rw (sym (t .before .before .look-between .ensures) ∙ t .enum-told3 .given .1, sym (r .runs-between .ensures) ∙ not-true _ (c .before .if1 .taken)) (c .barred2 .ensures)
 
 go-on-requires-2 : tie.Need-go-on-requires-2
 go-on-requires-2 c κs = search needs
@@ -42,7 +42,7 @@ returns-2 : tie.Need-returns-2
 returns-2 c = rw (sym (c .before .before .before .look-between .ensures) ∙ c .before .enum-told .given .1) (c .go-on .ensures)
 
 returns-3 : tie.Need-returns-3
-returns-3 c = rw (sym (c .before .before .before .look-between .ensures) ∙ c .before .enum-told2 .given .1) (c .stop .ensures)
+returns-3 c = rw (sym (c .before .before .before .look-between .ensures) ∙ c .before .enum-told2 .given .1) (c .barred .ensures)
 
 returns-4 : tie.Need-returns-4
 returns-4 c =
@@ -58,10 +58,10 @@ hold-within-spec =
     enum-told
     go-on-requires
     enum-told-2
-    stop-requires
+    barred-requires
     enum-told-3
     runs-between-requires
-    stop-requires-2
+    barred-requires-2
     returns
     go-on-requires-2
     returns-2

@@ -42,23 +42,23 @@ points c =
     let s = c .before .before .before .before .before .before in
     keys-point (s .args .port) (s .args .area .now) (s .args .keys .now) _ (s .args .at) (s .args .code) (c .read-keys .result) (c .read-keys .ensures) (s .pre .1 .1 .1) (s .pre .1 .0) (s .pre .0)
 
-add-stop : tie.Need-add-stop
-add-stop c =
+add-faulty : tie.Need-add-faulty
+add-faulty c =
     let r = c .before .before .before .before .before in
     omega (arith, points r, framed-at (r .before .before .before .before .before .before) .inside, r .before .before .before .before .before .before .pre .0)
 
-add-stop-2 : tie.Need-add-stop-2
-add-stop-2 c =
+add-faulty-2 : tie.Need-add-faulty-2
+add-faulty-2 c =
     let r = c .before .before .before .before .before in
     omega (arith, points r, framed-at (r .before .before .before .before .before .before) .inside, r .before .before .before .before .before .before .pre .0)
 
-cast-stop : tie.Need-cast-stop
-cast-stop c =
+cast-faulty : tie.Need-cast-faulty
+cast-faulty c =
     let r = c .before .before .before .before .before in
     omega (arith, points r, framed-at (r .before .before .before .before .before .before) .inside, r .before .before .before .before .before .before .pre .0)
 
-stop-requires : tie.Need-stop-requires
-stop-requires c κs = search needs
+faulty-requires : tie.Need-faulty-requires
+faulty-requires c κs = search needs
 
 same-length : tie.Need-same-length
 same-length c = search needs
@@ -68,7 +68,7 @@ returns c =
     let t = c .before .before in
     let r = t .before .before .before .before in
     let s = r .before .before .before .before .before .before in
-    rw (c .stop .ensures)
+    rw (c .faulty .ensures)
     (keys-refused (s .args .port) (s .args .area .now) (s .args .keys .now) _ (s .args .at) (s .args .code) (r .read-keys .result) (r .read-keys .ensures) (s .pre .1 .1 .1) (t .if1 .taken))
 
 hold-within-requires : tie.Need-hold-within-requires
@@ -100,10 +100,10 @@ read-at-spec =
     part-read-keys-start
     part-read-keys-end
     read-keys-requires
-    add-stop
-    add-stop-2
-    cast-stop
-    stop-requires
+    add-faulty
+    add-faulty-2
+    cast-faulty
+    faulty-requires
     same-length
     returns
     hold-within-requires

@@ -13,14 +13,14 @@ returns c = rw (eq-eqb _ _ (c .if1 .taken))
 host-sound-requires : tie.Need-host-sound-requires
 host-sound-requires c κs = search needs
 
-stop-requires : tie.Need-stop-requires
-stop-requires c κs = search needs
+silent-requires : tie.Need-silent-requires
+silent-requires c κs = search needs
 
 returns-2 : tie.Need-returns-2
 unfolding hostedBy
 returns-2 c =
     let h = c .before .before in
-    rw (ne-eqb _ _ (h .before .if1 .left), sym (h .host-sound .ensures) ∙ not-true _ (c .before .if2 .taken)) (c .stop .ensures)
+    rw (ne-eqb _ _ (h .before .if1 .left), sym (h .host-sound .ensures) ∙ not-true _ (c .before .if2 .taken)) (c .silent .ensures)
 
 returns-3 : tie.Need-returns-3
 unfolding hostedBy
@@ -38,8 +38,8 @@ enum-told c = search needs
 enum-told-2 : tie.Need-enum-told-2
 enum-told-2 c = search needs
 
-stop-requires-2 : tie.Need-stop-requires-2
-stop-requires-2 c κs = search needs
+barred-requires : tie.Need-barred-requires
+barred-requires c κs = search needs
 
 enum-told-3 : tie.Need-enum-told-3
 enum-told-3 c = search needs
@@ -47,8 +47,8 @@ enum-told-3 c = search needs
 runs-between-requires : tie.Need-runs-between-requires
 runs-between-requires c κs = search needs
 
-stop-requires-3 : tie.Need-stop-requires-3
-stop-requires-3 c κs = search needs
+barred-requires-2 : tie.Need-barred-requires-2
+barred-requires-2 c κs = search needs
 
 returns-4 : tie.Need-returns-4
 unfolding hostedBy
@@ -60,7 +60,7 @@ returns-4 c =
     let e = n .before .before in
     let h = e .before in
     rw (ne-eqb _ _ (h .before .if1 .left), sym (h .host-sound .ensures) ∙ not-false _ (e .if2 .left), eq-eqb _ _ (n .if3 .left), sym (l .look-between .ensures) ∙ t .enum-told3 .given .1, sym (r .runs-between .ensures) ∙ not-true _ (c .before .if4 .taken))
-    (c .stop3 .ensures)
+    (c .barred2 .ensures)
 
 returns-5 : tie.Need-returns-5
 unfolding hostedBy
@@ -79,7 +79,7 @@ returns-6 c =
     let e = n .before .before in
     let h = e .before in
     rw (ne-eqb _ _ (h .before .if1 .left), sym (h .host-sound .ensures) ∙ not-false _ (e .if2 .left), eq-eqb _ _ (n .if3 .left), sym (l .look-between .ensures) ∙ c .before .enum-told2 .given .1)
-    (c .stop2 .ensures)
+    (c .barred .ensures)
 
 returns-7 : tie.Need-returns-7
 unfolding hostedBy
@@ -98,16 +98,16 @@ reach-host-spec =
     (tie.spec
     returns
     host-sound-requires
-    stop-requires
+    silent-requires
     returns-2
     returns-3
     look-between-requires
     enum-told
     enum-told-2
-    stop-requires-2
+    barred-requires
     enum-told-3
     runs-between-requires
-    stop-requires-3
+    barred-requires-2
     returns-4
     returns-5
     returns-6

@@ -18,15 +18,15 @@ returns c =
     let s = c .before .before in
     open-closed (s .args .ready) (some (barred 21 9)) (sym (c .before .is-open .ensures) ∙ not-true _ (c .if1 .taken))
 
-stop-requires : tie.Need-stop-requires
-stop-requires c κs = search needs
+barred-requires : tie.Need-barred-requires
+barred-requires c κs = search needs
 
 returns-2 : tie.Need-returns-2
 returns-2 c =
     let o = c .before .before in
     let s = o .before in
-    c .stop .ensures
+    c .barred .ensures
     ∙ sym (ap (λ (t : Bool). cond t (insteadOf (s .args .ready) (some (barred 21 9))) (s .args .ready)) (sym (o .is-open .ensures) ∙ not-false _ (c .before .if1 .left)))
 
 pub bar-basic-spec : {M : Type 1} → statement M
-bar-basic-spec = tie.close (tie.spec is-open-requires returns stop-requires returns-2)
+bar-basic-spec = tie.close (tie.spec is-open-requires returns barred-requires returns-2)

@@ -9,17 +9,17 @@ returns : tie.Need-returns
 unfolding recordedBy
 returns c = rw (eq-eqb _ _ (c .if1 .taken))
 
-stop-requires : tie.Need-stop-requires
-stop-requires c κs = search needs
+silent-requires : tie.Need-silent-requires
+silent-requires c κs = search needs
 
 returns-2 : tie.Need-returns-2
 unfolding recordedBy
 returns-2 c =
     let t = c .before in
-    rw (ne-eqb _ _ (t .before .if1 .left), lt-ltb _ 40 (t .if2 .taken)) (c .stop .ensures)
+    rw (ne-eqb _ _ (t .before .if1 .left), lt-ltb _ 40 (t .if2 .taken)) (c .silent .ensures)
 
-stop-requires-2 : tie.Need-stop-requires-2
-stop-requires-2 c κs = search needs
+silent-requires-2 : tie.Need-silent-requires-2
+silent-requires-2 c κs = search needs
 
 returns-3 : tie.Need-returns-3
 unfolding recordedBy
@@ -27,7 +27,7 @@ returns-3 c =
     let t = c .before in
     let e = t .before in
     let s = e .before .before .before in
-    rw (ne-eqb _ _ (e .before .if1 .left), le-ltb _ 40 (e .if2 .left), not-true (s .args .sound) (t .if3 .taken)) (c .stop2 .ensures)
+    rw (ne-eqb _ _ (e .before .if1 .left), le-ltb _ 40 (e .if2 .left), not-true (s .args .sound) (t .if3 .taken)) (c .silent2 .ensures)
 
 returns-4 : tie.Need-returns-4
 unfolding recordedBy
@@ -41,8 +41,8 @@ check-leaving-spec =
     tie.close
     (tie.spec
     returns
-    stop-requires
+    silent-requires
     returns-2
-    stop-requires-2
+    silent-requires-2
     returns-3
     returns-4)

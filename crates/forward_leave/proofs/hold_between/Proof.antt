@@ -19,8 +19,8 @@ enum-told c = search needs
 enum-told-2 : tie.Need-enum-told-2
 enum-told-2 c = search needs
 
-stop-requires : tie.Need-stop-requires
-stop-requires c κs = search needs
+barred-requires : tie.Need-barred-requires
+barred-requires c κs = search needs
 
 enum-told-3 : tie.Need-enum-told-3
 enum-told-3 c = search needs
@@ -28,8 +28,8 @@ enum-told-3 c = search needs
 runs-between-requires : tie.Need-runs-between-requires
 runs-between-requires c κs = search needs
 
-stop-requires-2 : tie.Need-stop-requires-2
-stop-requires-2 c κs = search needs
+barred-requires-2 : tie.Need-barred-requires-2
+barred-requires-2 c κs = search needs
 
 returns-2 : tie.Need-returns-2
 unfolding heldBy
@@ -37,7 +37,7 @@ returns-2 c =
     let r = c .before .before in
     let t = r .before in
     let l = t .before .before in
-    rw (eq-eqb _ _ (l .before .if1 .left), sym (l .look-between .ensures) ∙ t .enum-told3 .given .1, sym (r .runs-between .ensures) ∙ not-true _ (c .before .if2 .taken)) (c .stop2 .ensures)
+    rw (eq-eqb _ _ (l .before .if1 .left), sym (l .look-between .ensures) ∙ t .enum-told3 .given .1, sym (r .runs-between .ensures) ∙ not-true _ (c .before .if2 .taken)) (c .barred2 .ensures)
 
 returns-3 : tie.Need-returns-3
 unfolding heldBy
@@ -49,7 +49,7 @@ returns-4 : tie.Need-returns-4
 unfolding heldBy
 returns-4 c =
     let l = c .before .before .before in
-    rw (eq-eqb _ _ (l .before .if1 .left), sym (l .look-between .ensures) ∙ c .before .enum-told2 .given .1) (c .stop .ensures)
+    rw (eq-eqb _ _ (l .before .if1 .left), sym (l .look-between .ensures) ∙ c .before .enum-told2 .given .1) (c .barred .ensures)
 
 returns-5 : tie.Need-returns-5
 unfolding heldBy
@@ -67,10 +67,10 @@ hold-between-spec =
     look-between-requires
     enum-told
     enum-told-2
-    stop-requires
+    barred-requires
     enum-told-3
     runs-between-requires
-    stop-requires-2
+    barred-requires-2
     returns-2
     returns-3
     returns-4

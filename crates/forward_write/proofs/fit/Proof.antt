@@ -20,14 +20,14 @@ returns : tie.Need-returns
 unfolding fittedBy
 returns c = λ d. rw (ne-eqb _ _ (c .if1 .taken))
 
-stop-requires : tie.Need-stop-requires
-stop-requires c κs = search needs
+barred-requires : tie.Need-barred-requires
+barred-requires c κs = search needs
 
 returns-2 : tie.Need-returns-2
 unfolding fittedBy
 returns-2 c =
     let t = c .before in
-    λ d. rw (eq-eqb _ _ (t .before .if1 .left), lt-leb _ 120 (t .if2 .taken)) (c .stop .ensures)
+    λ d. rw (eq-eqb _ _ (t .before .if1 .left), lt-leb _ 120 (t .if2 .taken)) (c .barred .ensures)
 
 -- toward unlabelled hosts
 returns-3 : tie.Need-returns-3
@@ -51,8 +51,8 @@ keys-length-requires c κs = search needs
 has-room-requires : tie.Need-has-room-requires
 has-room-requires c κs = search needs
 
-stop-requires-2 : tie.Need-stop-requires-2
-stop-requires-2 c κs = search needs
+barred-requires-2 : tie.Need-barred-requires-2
+barred-requires-2 c κs = search needs
 
 -- the room is tested as the definition does
 roomed : (c : tie.After-has-room) (d : ℕ) →
@@ -75,7 +75,7 @@ unfolding fittedBy
 returns-4 c =
     let r = c .before .before in
     let e = r .before .before .before .before .before in
-    λ d. rw (eq-eqb _ _ (e .before .if1 .left), le-leb _ 120 (e .if2 .left), roomed r d ∙ not-true _ (c .before .if4 .taken)) (c .stop2 .ensures)
+    λ d. rw (eq-eqb _ _ (e .before .if1 .left), le-leb _ 120 (e .if2 .left), roomed r d ∙ not-true _ (c .before .if4 .taken)) (c .barred2 .ensures)
 
 returns-5 : tie.Need-returns-5
 unfolding fittedBy
@@ -89,13 +89,13 @@ fit-spec =
     tie.close
     (tie.spec
     returns
-    stop-requires
+    barred-requires
     returns-2
     returns-3
     lesser-requires
     slice-aggregate-keys-length
     keys-length-requires
     has-room-requires
-    stop-requires-2
+    barred-requires-2
     returns-4
     returns-5)

@@ -58,7 +58,7 @@ loop-again c =
     let ks = s .args .keys .now in (
       omega arith,
       simp length-set (v .inv .1),
-      rw (c .run-key .ensures, v .inv .2, ← getD-take (l .count) (l .runs) (v .i) noRun (d .loop-test .taken))
+      rw (c .run-key .ensures .0, v .inv .2, ← getD-take (l .count) (l .runs) (v .i) noRun (d .loop-test .taken))
           (keys-next runKey (used l) ks (v .i) noRun (omega (arith, used-sized s)) (omega (arith, s .pre .1))),
     )
 

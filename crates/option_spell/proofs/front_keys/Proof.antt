@@ -30,8 +30,8 @@ mul-run c = search needs
 element-copy-out-run : tie.Need-element-copy-out-run Inv-loop μ-loop
 element-copy-out-run c = search needs
 
-key-of-requires : tie.Need-key-of-requires Inv-loop μ-loop
-key-of-requires c κs = search needs
+run-key-requires : tie.Need-run-key-requires Inv-loop μ-loop
+run-key-requires c κs = search needs
 
 mul-keys : tie.Need-mul-keys Inv-loop μ-loop
 mul-keys c = search needs
@@ -52,7 +52,7 @@ loop-again c =
     let s = d .before .before .before in (
       omega arith,
       simp length-set (v .inv .1),
-      front-next (s .args .t1 .runs) (v .keys) (v .i) (c .key-of .result) (omega (arith, v .inv .1, s .pre)) (omega (arith, sized s)) (v .inv .2) (c .key-of .ensures .1) (c .key-of .ensures .2),
+      front-next (s .args .t1 .runs) (v .keys) (v .i) (c .run-key .result) (omega (arith, v .inv .1, s .pre)) (omega (arith, sized s)) (v .inv .2) (c .run-key .ensures .1) (c .run-key .ensures .2),
     )
 
 same-length : tie.Need-same-length Inv-loop μ-loop
@@ -77,7 +77,7 @@ front-keys-spec =
     loop-holds
     mul-run
     element-copy-out-run
-    key-of-requires
+    run-key-requires
     mul-keys
     slice-write-keys
     add-i

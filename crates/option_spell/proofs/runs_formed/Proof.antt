@@ -81,8 +81,8 @@ cast-high c = omega arith
 add-floor : tie.Need-add-floor Inv-loop μ-loop Inv-loop2 μ-loop2
 add-floor c = omega arith
 
-key-of-requires : tie.Need-key-of-requires Inv-loop μ-loop Inv-loop2 μ-loop2
-key-of-requires c κs = search needs
+run-key-requires : tie.Need-run-key-requires Inv-loop μ-loop Inv-loop2 μ-loop2
+run-key-requires c κs = search needs
 
 mul-keys : tie.Need-mul-keys Inv-loop μ-loop Inv-loop2 μ-loop2
 mul-keys c = search needs
@@ -108,7 +108,7 @@ loop-again c =
           ∙ rw (seen-used d)
           (and-chain (v .good) (leb (v .floor) (r .low)) (leb (r .low) (r .high)) (rises (r .high + 2) (drop (v .i + 1) (used l)))),
       simp length-set (v .inv .2),
-      rw (c .key-of .ensures .0, v .inv .3, ← getD-take (l .count) (l .runs) (v .i) noRun (d .loop-test .taken))
+      rw (c .run-key .ensures .0, v .inv .3, ← getD-take (l .count) (l .runs) (v .i) noRun (d .loop-test .taken))
           (keys-next runKey (used l) (s .args .keys .now) (v .i) noRun (omega (arith, used-sized s)) (omega (arith, s .pre .0, s .pre .1))),
     )
 
@@ -178,7 +178,7 @@ runs-formed-spec =
     cast-low
     cast-high
     add-floor
-    key-of-requires
+    run-key-requires
     mul-keys
     slice-write-keys
     add-i

@@ -20,8 +20,8 @@ sized c = search (length-mapped, needs)
 element-copy-out-run : tie.Need-element-copy-out-run
 element-copy-out-run c = search needs
 
-key-of-requires : tie.Need-key-of-requires
-key-of-requires c κs = search needs
+run-key-requires : tie.Need-run-key-requires
+run-key-requires c κs = search needs
 
 well-formed-requires : tie.Need-well-formed-requires
 well-formed-requires c κs = search needs
@@ -54,7 +54,7 @@ returns-2 c =
     let l = s .args .t1 in
     let well : wellFormed l ≡ true = sym (d .before .well-formed .ensures) ∙ not-false _ (d .if1 .left) in
     keys-spell (s .args .permitted) l (s .args .out .now) _ _ _ well (s .pre .1) _
-    (keys-one l well _ (d .before .before .key-of .ensures .0) (s .pre .0) (omega (arith, sized s)))
+    (keys-one l well _ (d .before .before .run-key .ensures .0) (s .pre .0) (omega (arith, sized s)))
     (c .before .before .before .spell-keys .ensures) (c .answer .ensures)
 
 pub spell-one-spec : {M : Type 1} → statement M
@@ -62,7 +62,7 @@ spell-one-spec =
     tie.close
     (tie.spec
     element-copy-out-run
-    key-of-requires
+    run-key-requires
     well-formed-requires
     returns
     array-share-prefix-keys
