@@ -430,3 +430,11 @@ module _ (p : Port) (area keys : List ℕ) (code : ℕ) where
           subst (Arrives p area code keys keys′)
           (ap (λ (t : Bool). beforeRange r (firstOf (basicChecks b t (p .basic .receiving) area code))) f ∙ sym g)
           (port-placed l b keys′ r e w)
+
+-- an area past check 1 has at most 40 octets
+pub area-short : (area : List ℕ) → badArea area ≡ false → length area ≤ 40
+area-short area e = go (ltb 40 (length area)) refl e
+  where
+    go : (b : Bool) → ltb 40 (length area) ≡ b → (b || not (eqb (length area % 4) 0)) ≡ false → length area ≤ 40
+    go true p q = absurd (true≢false q)
+    go false p q = ltb-false _ _ p

@@ -25,7 +25,7 @@ use Rattle.area.specs.declared.Place.the-variants.{Nowhere, At}
 use Rattle.area.specs.Kinds.{kindOf}
 use Rattle.area.specs.Area.{Met, metOf, judged, walkOf, octetsAt, WholeAt}
 use Rattle.area.proofs.KindLaws.{cipso-octet, basic-octet}
-use Rattle.area.proofs.Laws.{sound-placed}
+use Rattle.area.proofs.Laws.{sound-placed, whole-inside}
 use Rattle.basic.specs.Option.{basicLevel, basicFlags, basicValid}
 use Rattle.basic.specs.Alone.{basicFound, basicBad, basicReading}
 use Rattle.area_leaving.specs.Kept.{keptOf}
@@ -34,7 +34,6 @@ use Rattle.decision.specs.Decision.{Refusal, silenced, decided}
 use Rattle.arrive.specs.Checks.{faulty, when, firstOf, walkAt, walkRefusal, walkCheck, placeIn, basicIn, optionAt, requiredBy, requiredCheck, optionBy, optionCheck, badBasicBy, badBasicCheck, arrivingBasic, missingBasicBy, missingBasicCheck, basicRangeCheck, rangeCheck}
 use Rattle.deliver.specs.Delivery.{Delivery, deliverySizes, deliveryRecords, hostCheck, deliverChecks, deliverOf}
 use Rattle.arrive.proofs.First.{orElse, first-append}
-use Rattle.arrive.proofs.Arrival.{whole-inside}
 use Rattle.forward_rules.specs.Crossing.{Forwarding, sizes, records, leavingBasicCheck, crossing, numberCheck, leavingCheck, spellingCheck}
 use Rattle.forward_rules.specs.Forward.{forwardChecks, forwardOf}
 use Rattle.demands.specs.Rules.{Rule, rule, isAt, octetAt, labelRules, rangeRule, arrivingBasicRule, forwardInputs, deliverInputs, leavingBasicRule, crossingRules, hostRules, byOption, forwardTests, deliverTests, NoRule, FirstRule, reportOf, Follows, passes, stops, StandsAt, BadAt, OrderOfChecks}

@@ -9,7 +9,8 @@ use Rattle.area.specs.Area.{WholeAt}
 use Rattle.area.specs.declared.Place.{Place}
 use Rattle.arrive.specs.Checks.{firstOf}
 use Rattle.arrive.specs.Stages.{isOpen, basicChecks, beforeRange}
-use Rattle.arrive.proofs.Arrival.{whole-inside, open-closed, basic-missing, basic-bad, basic-outside, basic-passes}
+use Rattle.area.proofs.Laws.{whole-inside}
+use Rattle.arrive.proofs.Arrival.{open-closed, basic-missing, basic-bad, basic-outside, basic-passes}
 use Rattle.arrive.proofs.check_basic.Statement.{statement}
 use Rattle.arrive.proofs.check_basic.Tie as tie
 
