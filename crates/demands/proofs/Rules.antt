@@ -40,13 +40,13 @@ use Rattle.demands.specs.Rules.{Rule, rule, isAt, octetAt, labelRules, r
 use Rattle.demands.proofs.Second.{forwarded-passes, delivered-passes}
 
 -- A line as a check.
-abbrev asCheck : Rule → Option Refusal
+abbrev pub asCheck : Rule → Option Refusal
 asCheck r = when (r .applies) (reportOf r)
 
-abbrev checks : List Rule → List (Option Refusal)
+abbrev pub checks : List Rule → List (Option Refusal)
 checks rs = map asCheck rs
 
-first-cons : (c : Option Refusal) (cs : List (Option Refusal)) → firstOf (c ∷ cs) ≡ orElse c (firstOf cs)
+pub first-cons : (c : Option Refusal) (cs : List (Option Refusal)) → firstOf (c ∷ cs) ≡ orElse c (firstOf cs)
 first-cons none cs = refl
 first-cons (some r) cs = refl
 
@@ -68,7 +68,7 @@ first-stretch : (xs ys : List Rule) (d : Option Refusal) (ds : List (Option Refu
 first-stretch xs ys d ds e f = checks-append xs ys ∙ (λ i. orElse (e i) (f i)) ∙ sym (first-cons d ds)
 
 -- 3, 4 and 5.
-abbrev threeToFive : List ℕ
+abbrev pub threeToFive : List ℕ
 threeToFive = 3 ∷ 4 ∷ 5 ∷ []
 
 -- what was met before an option that is neither
@@ -157,7 +157,7 @@ basic-rules (At p) on area rest ds e =
     (ap (λ (b : Bool). when (not b) (faulty 19 p)) (sym (valid-number (optionAt p area)))) e
 
 -- every line that is tested, after the first two
-all-rules : (ts : List Rule) (area : List ℕ) (port : Port) (rest : List Rule) (ds : List (Option Refusal)) → firstOf (checks rest) ≡ firstOf ds
+pub all-rules : (ts : List Rule) (area : List ℕ) (port : Port) (rest : List Rule) (ds : List (Option Refusal)) → firstOf (checks rest) ≡ firstOf ds
     → let q = placeIn (walkAt port area) in
     let b = basicIn (walkAt port area) in
     firstOf (checks (ts ++ (byOption threeToFive (port .basic .on) false false (metOf area)
@@ -193,10 +193,10 @@ deliver-rules d =
     ∙ sym (first-append (deliverySizes d ∷ deliveryRecords d ∷ []) (walkCheck (d .port) (d .area) ∷ requiredCheck (d .port) (d .area) ∷ optionCheck (d .port) (d .area) ∷ badBasicCheck (d .port) (d .area) ∷ missingBasicCheck (d .port) (d .area) ∷ ds))
 
 -- The first line that applies, or none.
-abbrev Found : List Rule → Option Refusal → Type 0
+abbrev pub Found : List Rule → Option Refusal → Type 0
 Found rules o = (NoRule rules × (o ≡ none)) ⊎ ((r : Rule) × FirstRule rules r × (o ≡ some (reportOf r)))
 
-found : (rules : List Rule) → Found rules (firstOf (checks rules))
+pub found : (rules : List Rule) → Found rules (firstOf (checks rules))
 found [] = inl (tt, refl)
 found (r ∷ rules) = go (r .applies) refl (found rules)
   where
@@ -206,7 +206,7 @@ found (r ∷ rules) = go (r .applies) refl (found rules)
     go false e (inr h) =
         inr (h .0, record { before = r ∷ h .1 .before; after = h .1 .after; order = ap (λ (x : List Rule). r ∷ x) (h .1 .order); passed = (e, h .1 .passed); applies = h .1 .applies }, h .2)
 
-follows : (rules : List Rule) (quiet : Bool) (o : Option Refusal) (l : Label) (n : ℕ) → Found rules o → Follows rules quiet (decided quiet o l n)
+pub follows : (rules : List Rule) (quiet : Bool) (o : Option Refusal) (l : Label) (n : ℕ) → Found rules o → Follows rules quiet (decided quiet o l n)
 follows rules quiet o l n (inl h) = passes (h .0) (ap (λ (x : Option Refusal). decided quiet x l n .number) (h .1))
 follows rules quiet o l n (inr h) = stops (h .0) (h .1) (ap (λ (x : Option Refusal). decided quiet x l n) (h .2))
 
