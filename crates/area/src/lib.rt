@@ -1,6 +1,5 @@
-// The options of an IPv4 header (RFC 791; document 01, "The order of checks"): an option's type, and its length.
-// One option of the walk over an options area (document 01, "The order of checks"; document 02, Wishes 3 and 9): 3, 4 and 5, and the places of the options 134 and 130.
-// The options area of an IPv4 header (RFC 791; document 01, "The order of checks"): its size, and the walk.
+// The options area of an IPv4 header (RFC 791; document 01, "The order of checks"; document 02, Wishes 3 and 9): an option's type and length, the size of the area, and the
+// walk over its options, which gives 3, 4 and 5 and the places of the options 134 and 130.
 ghost use mathlib.Core.Path.{_≡_};
 ghost use Rattle.area.specs.Kinds.{kindOf, sizeOf};
 ghost use Rattle.area.specs.declared.Place.the-variants.{Nowhere};

@@ -1,6 +1,5 @@
-// The classification levels of option 130 (Wish 3; RFC 1108, 2.3 and table 1): the four, in a fixed list with their order.
-// The Basic Security Option, option 130 (Wish 3; RFC 1108, section 2): one option read alone, and one written.
-// What a port permits of option 130, the Basic Security Option (Wish 3; RFC 1108, section 2): each way, when it is sound, and what passes it.
+// Option 130, the Basic Security Option (document 02, Wish 3; RFC 1108, section 2): its four levels in a fixed list with their order, one option read and one written, and
+// what a port permits of it each way.
 ghost use mathlib.Core.Path.{_≡_};
 ghost use Rattle.basic.specs.Levels.{rankOf, atMost};
 ghost use lib.ListN.{length, getD, take, drop};

@@ -61,3 +61,15 @@ pub use file_table::LevelPair;
 pub use file_table::Renumbering;
 pub use file_write::Written;
 pub use file_write::write_file;
+
+// ICMP messages (document 02, Wish 9): one built about a refusal, and one read.
+pub use message::Parts;
+pub use message::read_message;
+pub use message_build::Built;
+pub use message_build::Report;
+pub use message_build::build_message;
+
+// The memory of destinations that want labels (document 02, Wish 13).
+pub use memory::Memory;
+pub use memory::Recall;
+pub use memory_message::note_message;

@@ -1,6 +1,5 @@
-// Text in a lent buffer: octets, words, numbers in decimal and in hex. Nothing here reads or writes.
-// Each function puts octets into a buffer from place n on and answers the place behind them. An octet that finds no room is left out.
-// The lines of the sample program in a lent buffer (document 01, "The sample program"). Nothing here reads or writes.
+// Text in a lent buffer: octets, words, numbers in decimal and in hex, and the lines of the sample program (document 01, "The sample program"). Nothing here reads or writes: each
+// function puts octets into a buffer from place n on and answers the place behind them, and an octet that finds no room is left out.
 ghost use mathlib.Core.Path.{_≡_};
 ghost use mathlib.Core.List.{[], _∷_};
 ghost use Prim.Native.Nat.{_+_, _%_, _≤_, _<_};
