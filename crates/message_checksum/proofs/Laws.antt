@@ -1,15 +1,17 @@
 -- Laws of the one's complement sum.
-use Prim.Native.Nat.{ℕ, zero, suc, _+_, _-_, _*_, _≤_, _<_}
+use Prim.Native.Nat.{ℕ, zero, suc, _+_, _-_, _*_, _%_, _≤_, _<_}
 use mathlib.Core.Path.{_≡_, refl, sym, ap, _∙_}
-use mathlib.Core.List.{List, [], _∷_}
+use mathlib.Core.List.{List, [], _∷_, _++_}
 use mathlib.Core.Bool.{Bool, true, false, cond}
 use native.Mathlib.Numerals.{add-one}
 use native.Mathlib.Omega.{arith}
-use borrow.Author.Tests.{lt-ltb, le-ltb, ltb-true, ltb-false}
-use lib.Dec.{ltb}
-use lib.ListN.{length, getD, drop, drop-of-length-le, List·getD-eq-default}
+use borrow.Author.Tests.{lt-ltb, le-ltb, ltb-true, ltb-false, eqb-true, eqb-false, ne-eqb}
+use lib.Dec.{ltb, eqb}
+use lib.ListN.{length, getD, take, drop, drop-of-length-le}
+use lib.Seq.{drop-drop}
 use Rattle.option.specs.Option.{Octets}
 use Rattle.message_checksum.specs.Checksum.{wordsIn, onesAdd, onesFrom, onesSum, checksumOf}
+use Rattle.message_checksum.specs.Stages.{folded}
 
 -- the words from a place on: the word there, and those behind it
 pub words-step : (l : List ℕ) (i : ℕ) → i < length l → wordsIn (drop i l) ≡ (getD l i 0 * 256 + getD l (i + 1) 0) ∷ wordsIn (drop (i + 2) l)
@@ -25,8 +27,15 @@ pub words-end : (l : List ℕ) (i : ℕ) → length l ≤ i → wordsIn (drop i 
 words-end l i h = rw (drop-of-length-le l h)
 
 -- an odd last octet is padded
-pub padded-zero : (l : List ℕ) (i : ℕ) → length l ≤ i + 1 → getD l (i + 1) 0 ≡ 0
-padded-zero l i h = List·getD-eq-default l 0 {n = i + 1} h
+pub words-last : (l : List ℕ) (i : ℕ) → i < length l → length l ≤ i + 1 → wordsIn (drop i l) ≡ (getD l i 0 * 256 + 0) ∷ []
+words-last [] i h k = absurd (omega arith)
+words-last (x ∷ []) zero h k = refl
+words-last (x ∷ y ∷ l) zero h k = absurd (omega arith)
+words-last (x ∷ l) (suc i) h k = words-last l i (omega arith) (omega arith)
+
+positive : (s : ℕ) → (s ≡ 0 → ⊥) → 0 < s
+positive zero n = absurd (n refl)
+positive (suc s) n = omega arith
 
 -- a sum without a carry, and one with it
 module _ (x y : ℕ) where
@@ -70,6 +79,66 @@ ones-swap x y z hx hy hz = go (ltb (x + y) 65536) (ltb (x + z) 65536) refl refl
         let a : 65536 ≤ x + y = ltb-false _ _ p in
         let b : 65536 ≤ x + z = ltb-false _ _ q in
         sum (x + y - 65535 + z) (x + z - 65535 + y) (omega arith)
+
+-- A word added to a plain sum, and to the sum with its carries brought back.
+pub fold-word : (s : ℕ) → s ≤ 65535 → folded s ≡ s
+fold-word s h = go (eqb s 0) refl
+  where
+    go : (t : Bool) → eqb s 0 ≡ t → cond t 0 (1 + (s - 1) % 65535) ≡ s
+    go true p = let e : s ≡ 0 = eqb-true _ _ p in omega arith
+    go false p = let n : s ≡ 0 → ⊥ = eqb-false _ _ p in let k : 0 < s = positive s n in omega arith
+
+pub fold-add : (s w : ℕ) → w ≤ 65535 → folded (s + w) ≡ onesAdd (folded s) w
+fold-add s w h = go (eqb s 0) refl
+  where
+    by : (t : Bool) → ltb (1 + (s - 1) % 65535 + w) 65536 ≡ t → 0 < s → 1 + (s + w - 1) % 65535 ≡ cond t (1 + (s - 1) % 65535 + w) (1 + (s - 1) % 65535 + w - 65535)
+    by true p n = let k : 1 + (s - 1) % 65535 + w < 65536 = ltb-true _ _ p in omega arith
+    by false p n = let k : 65536 ≤ 1 + (s - 1) % 65535 + w = ltb-false _ _ p in omega arith
+
+    go : (t : Bool) → eqb s 0 ≡ t → folded (s + w) ≡ onesAdd (cond t 0 (1 + (s - 1) % 65535)) w
+    go true p =
+        let e : s ≡ 0 = eqb-true _ _ p in
+        let f : s + w ≡ w = omega arith in
+        ap folded f ∙ fold-word w h ∙ sym (zero-ones w h)
+    go false p =
+        let n : 0 < s = positive s (eqb-false _ _ p) in
+        let q : ℕ = (s - 1) % 65535 in
+        let m : (s + w ≡ 0 → ⊥) = (λ e. omega arith) in
+        ap (λ (t : Bool). cond t 0 (1 + (s + w - 1) % 65535)) (ne-eqb (s + w) 0 m) ∙ by (ltb (1 + (s - 1) % 65535 + w) 65536) refl n
+
+-- the words of a list cut at an even place
+pub words-cut : (l : List ℕ) (k : ℕ) → wordsIn l ≡ wordsIn (take (2 * k) l) ++ wordsIn (drop (2 * k) l)
+words-cut l zero = refl
+words-cut [] (suc k) = let e : 2 * suc k ≡ suc (suc (2 * k)) = omega arith in rw e
+words-cut (x ∷ []) (suc k) = let e : 2 * suc k ≡ suc (suc (2 * k)) = omega arith in rw e
+words-cut (x ∷ y ∷ l) (suc k) = let e : 2 * suc k ≡ suc (suc (2 * k)) = omega arith in rw e (ap (λ (ws : List ℕ). (x * 256 + y) ∷ ws) (words-cut l k))
+
+pub ones-append : (ws vs : List ℕ) (s : ℕ) → onesFrom s (ws ++ vs) ≡ onesFrom (onesFrom s ws) vs
+ones-append [] vs s = refl
+ones-append (w ∷ ws) vs s = ones-append ws vs (onesAdd s w)
+
+-- one block more is summed
+pub block-step : (l : List ℕ) (at end s : ℕ) → end ≡ at + 65536 → onesFrom s (wordsIn (drop at l)) ≡ onesFrom (onesFrom s (wordsIn (take (end - at) (drop at l)))) (wordsIn (drop end l))
+block-step l at end s e =
+    let n : end - at ≡ 65536 = omega arith in
+    let c = words-cut (drop at l) 32768 in
+    rw n (ap (onesFrom s) c ∙ ones-append (wordsIn (take 65536 (drop at l))) (wordsIn (drop 65536 (drop at l))) s
+    ∙ ap (λ (x : List ℕ). onesFrom (onesFrom s (wordsIn (take 65536 (drop at l)))) (wordsIn x)) (drop-drop 65536 at l ∙ ap (λ (i : ℕ). drop i l) (sym e)))
+
+-- a turn of the loop over a block: what is left to be added
+pub sum-step : (l : List ℕ) (t s w i : ℕ) → i + 1 < length l → w ≡ getD l i 0 * 256 + getD l (i + 1) 0 → w ≤ 65535
+    → t ≡ onesFrom (folded s) (wordsIn (drop i l)) → t ≡ onesFrom (folded (s + w)) (wordsIn (drop (i + 2) l))
+sum-step l t s w i h e k q =
+    q ∙ ap (onesFrom (folded s)) (words-step l i (omega arith)) ∙ ap (λ (x : ℕ). onesFrom (onesAdd (folded s) x) (wordsIn (drop (i + 2) l))) (sym e)
+    ∙ ap (λ (x : ℕ). onesFrom x (wordsIn (drop (i + 2) l))) (sym (fold-add s w k))
+
+pub sum-last : (l : List ℕ) (t s w i : ℕ) → i < length l → length l ≤ i + 1 → w ≡ getD l i 0 * 256 + 0 → w ≤ 65535
+    → t ≡ onesFrom (folded s) (wordsIn (drop i l)) → t ≡ folded (s + w)
+sum-last l t s w i h n e k q =
+    q ∙ ap (onesFrom (folded s)) (words-last l i h n) ∙ ap (onesAdd (folded s)) (sym e) ∙ sym (fold-add s w k)
+
+pub sum-end : (l : List ℕ) (t s i : ℕ) → length l ≤ i → t ≡ onesFrom (folded s) (wordsIn (drop i l)) → t ≡ folded s
+sum-end l t s i h q = q ∙ ap (onesFrom (folded s)) (words-end l i h)
 
 -- every number of the list is a word
 abbrev pub Words : List ℕ → Type 0

@@ -1,20 +1,25 @@
 // The Internet checksum (RFC 792, RFC 1071): the one's complement sum of 16-bit words.
 ghost use mathlib.Core.Path.{_≡_};
-ghost use Prim.Native.Nat.{_+_, _*_, _<_};
-ghost use lib.ListN.{length, getD};
-ghost use Rattle.message_checksum.specs.Checksum.{onesAdd, onesFrom, wordsIn, checksumOf};
+ghost use Prim.Native.Nat.{_+_, _*_, _≤_, _<_};
+ghost use lib.ListN.{length};
+ghost use Rattle.message_checksum.specs.Checksum.{onesFrom, wordsIn, checksumOf};
+ghost use Rattle.message_checksum.specs.Stages.{folded};
+
+// How many octets are summed before the carries are brought back: their words and one more fit into 32 bits. It is even.
+const BLOCK: usize = 65536;
 
 // Adds the words of the octets to a sum; after an odd number of octets one octet of zeros is padded.
 pub fn add_octets(sum: u16, octets: &[u8]) -> u16
     ensures { λ r. ⌜ r ≡ onesFrom sum (wordsIn (now (octets .entry))) ⌝ }
 {
     let mut s = sum;
-    let mut i: usize = 0;
-    while i < octets.len() {
-        s = add_words(s, word_at(octets, i));
-        i += 2;
+    let mut at: usize = 0;
+    while BLOCK < octets.len() - at {
+        let end = at + BLOCK;
+        s = add_block(s, &octets[at..end]);
+        at = end;
     }
-    s
+    add_block(s, &octets[at..])
 }
 
 // The checksum of octets whose checksum field is zero.
@@ -24,33 +29,44 @@ pub fn make_checksum(octets: &[u8]) -> u16
     65535 - add_octets(0, octets)
 }
 
-// The one's complement sum of two words.
-fn add_words(x: u16, y: u16) -> u16
-    ensures { λ r. ⌜ r ≡ onesAdd x y ⌝ }
+// Adds the words of one block to a sum: all carries wait above the 16 bits, and are brought back at the end.
+fn add_block(sum: u16, octets: &[u8]) -> u16
+    requires { ⌜ length (now octets) ≤ 65536 ⌝ }
+    ensures { λ r. ⌜ r ≡ onesFrom sum (wordsIn (now (octets .entry))) ⌝ }
 {
-    let sum = (x as u32) + (y as u32);
-    if sum < 65536 {
-        return sum as u16;
+    let n = octets.len();
+    let mut s = widen(sum);
+    let mut i: usize = 0;
+    while 1 < n - i {
+        let next = i + 1;
+        s = s + word(octets[i], octets[next]);
+        i += 2;
     }
-    // the carry comes back in at the lowest
-    ((sum + 1) % 65536) as u16
+    if i < n {
+        return fold(s + word(octets[i], 0));
+    }
+    fold(s)
 }
 
-// The word whose first octet is at a place.
-fn word_at(octets: &[u8], i: usize) -> u16
-    requires { ⌜ i < length (now octets) ⌝ }
-    ensures { λ r. ⌜ r ≡ getD (now (octets .entry)) i 0 * 256 + getD (now (octets .entry)) (i + 1) 0 ⌝ }
+// The carries brought back: what is left when 65535 is taken away as often as it leaves more than nothing.
+fn fold(s: u32) -> u16
+    ensures { λ r. ⌜ r ≡ folded s ⌝ }
 {
-    let high = widen(octets[i]);
-    let next = i + 1;
-    if next < octets.len() {
-        return high * 256 + widen(octets[next]);
+    if s == 0 {
+        return 0;
     }
-    high * 256
+    (1 + (s - 1) % 65535) as u16
 }
 
-fn widen(x: u8) -> u16
-    ensures { λ r. ⌜ (r ≡ x) × (r < 256) ⌝ }
+// The word of two octets, the higher first.
+fn word(high: u8, low: u8) -> u32
+    ensures { λ r. ⌜ (r ≡ high * 256 + low) × (r ≤ 65535) ⌝ }
 {
-    x as u16
+    high as u32 * 256 + low as u32
+}
+
+fn widen(x: u16) -> u32
+    ensures { λ r. ⌜ (r ≡ x) × (r ≤ 65535) ⌝ }
+{
+    x as u32
 }
