@@ -14,7 +14,7 @@ use std::fmt::Write;
 use std::hint::black_box;
 use std::time::Instant;
 
-// The crate `exports`: one call each, with the whole answer.
+// The crate `bench_exports`: one call each, with the whole answer.
 extern "C" {
     fn inglebreek_read(octets: *const u8, octets_len: usize, answer: *mut u64, answer_len: usize, runs: *mut u32, runs_len: usize) -> u8;
     fn inglebreek_spell(
@@ -44,7 +44,7 @@ extern "C" {
     ) -> u8;
 }
 
-// The crates `timing` and `timing_parts`: many calls in one, with a digest of fixed places.
+// The crates `bench_loops` and `bench_parts`: many calls in one, with a digest of fixed places.
 extern "C" {
     fn time_read(octets: *const u8, octets_len: usize, size: usize, times: usize) -> usize;
     fn time_spell(octets: *const u8, octets_len: usize, size: usize, out: *mut u8, out_len: usize, times: usize) -> usize;
@@ -304,7 +304,7 @@ fn scattered_records(rows: usize) -> Records {
     records(0, 255, 65534, &(0..rows).map(row).collect::<Vec<_>>())
 }
 
-// The same work in Rust: loops and digests as the crate `timing` has them.
+// The same work in Rust: loops and digests as the crate `bench_loops` has them.
 
 fn mix(total: usize, x: usize) -> usize {
     (total % 65536) * 31 + x % 65536
@@ -484,7 +484,7 @@ impl Case {
         }
     }
 
-    /// Each input alone: the whole answer where the crate `exports` gives it, else the digest and every octet of the output; then the timed loops.
+    /// Each input alone: the whole answer where the crate `bench_exports` gives it, else the digest and every octet of the output; then the timed loops.
     fn compare(&self) {
         for (slot, octets) in self.octets.chunks(self.size.max(1)).enumerate() {
             let (ours, theirs) = match &self.work {
@@ -827,14 +827,14 @@ fn dearest(times: &[Measured]) -> String {
 const ABOUT: &str = "# Speed
 
 `tools/bench --record` made this page and the plot: tables, figures and the rows that the text names are those of one run. `tools/bench` alone prints
-the tables. It links the box's static libraries (the crates `exports`, `timing` and `timing_parts`) and the second program's fast variant (`tools/reference/fast.rs`,
+the tables. It links the box's static libraries (the crates `bench_exports`, `bench_loops` and `bench_parts`) and the second program's fast variant (`tools/reference/fast.rs`,
 ordinary Rust over runs, without the heap) into one program and holds their answers against each other first: every input alone, with every place of
 the label and every octet of the output, then the timed loops. (Through other tables than the sample's the output and a digest stand for the label.)
 
 - Each time is that of one call, in the shortest of 300 rounds of 960 calls; box and Rust take turns, round by round, in one run, and all cases are
   gone through ten times.
 - 64 inputs of a kind take turns, so that the branch predictor does not learn one of them; the seed is fixed. Spelling takes 8 labels in turn.
-- The loops of the box are in the crates `timing` and `timing_parts` (bitmap and file, which would be second callers in one library), those of Rust in `tools/bench.rs`; both run over records built once, with an output of 48 octets. Of
+- The loops of the box are in the crates `bench_loops` and `bench_parts` (bitmap and file, which would be second callers in one library), those of Rust in `tools/bench.rs`; both run over records built once, with an output of 48 octets. Of
   every answer the same fixed places go into a number that is returned.
 - A forward checks both ports and the table on every call, in both. The ports are of the usual kind (a label is required, no option 130 is read, the range goes from no categories to one
   run); between others the box takes 1.7 to 1.8 times the Rust variant's instructions, since they are copied (landing 17). Where the renumbered label has no spelling, the answer is 18 and the work up to

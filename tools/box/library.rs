@@ -1,40 +1,10 @@
-//! The proved library. `inglebreek_forward_batch` (crates/batch/src/lib.rt) has an equation for every input, and asks nothing of its
-//! caller but that what is lent does not overlap: the borrows below see to that.
+//! What the proved library is handed and what it answers: records, decisions, and the words of the numbers. system.rs calls it.
 
 use crate::frame::Facts;
 
 pub const SLOT: usize = 64;
 const AREA: usize = 8;
 const LEAVING: usize = 24;
-
-extern "C" {
-    fn inglebreek_forward_batch(
-        file: *const u8,
-        file_len: usize,
-        arriving: usize,
-        leaving: usize,
-        input: *const u8,
-        input_len: usize,
-        output: *mut u8,
-        output_len: usize,
-    ) -> usize;
-}
-
-/// Decides the records of `input`, from one port of the gateway file to another. Answers how many.
-pub fn forward(file: &[u8], arriving: usize, leaving: usize, input: &[u8], output: &mut [u8]) -> usize {
-    unsafe {
-        inglebreek_forward_batch(
-            file.as_ptr(),
-            file.len(),
-            arriving,
-            leaving,
-            input.as_ptr(),
-            input.len(),
-            output.as_mut_ptr(),
-            output.len(),
-        )
-    }
-}
 
 /// The record of a datagram.
 pub fn put_record(facts: Facts, area: &[u8], record: &mut [u8]) {

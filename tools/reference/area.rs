@@ -13,7 +13,7 @@ const EXTENDED_SECURITY: u8 = 133;
 pub struct Walk<'a> {
     /// The option 134 with its offset in the area.
     pub cipso: Option<(usize, &'a [u8])>,
-    /// The option 130 with its offset, where the arriving port has it switched on.
+    /// The option 130 with its offset, where check 4 lets it pass.
     pub basic: Option<(usize, &'a [u8])>,
     /// "each kept option (one the walk meets, not 134, 0 or 1)", in order. Of the 130: "It stays among the kept options, octet for octet."
     pub kept: Vec<&'a [u8]>,
@@ -28,6 +28,16 @@ pub fn size_fits(area: &[u8]) -> bool {
 /// follows is ignored; type 1 is one octet." Offsets are those of the option's type octet. `basic_on` says whether the arriving port has
 /// switched option 130 on.
 pub fn walk(area: &[u8], basic_on: bool) -> Result<Walk<'_>, Fault> {
+    // 4 "covers 133, and 130 only where the arriving port hasn't switched it on".
+    walk_refusing(area, |option_type| option_type == EXTENDED_SECURITY || option_type == BASIC_SECURITY && !basic_on)
+}
+
+/// Wish 9: "the walk, check 4 left out".
+pub fn walk_without_4(area: &[u8]) -> Result<Walk<'_>, Fault> {
+    walk_refusing(area, |_| false)
+}
+
+fn walk_refusing(area: &[u8], refused_by_4: impl Fn(u8) -> bool) -> Result<Walk<'_>, Fault> {
     let mut met = Walk { cipso: None, basic: None, kept: Vec::new() };
     let mut at = 0;
     while at < area.len() {
@@ -49,9 +59,8 @@ pub fn walk(area: &[u8], basic_on: bool) -> Result<Walk<'_>, Fault> {
         }
         let option = &area[at..at + length];
         match option_type {
-            // 4 "covers 133, and 130 only where the arriving port hasn't switched it on".
-            EXTENDED_SECURITY => return fault(4, at),
-            BASIC_SECURITY if !basic_on => return fault(4, at),
+            // 4.
+            _ if refused_by_4(option_type) => return fault(4, at),
             // 5: "second option 134". "A second 130 is 5".
             CIPSO if met.cipso.is_some() => return fault(5, at),
             BASIC_SECURITY if met.basic.is_some() => return fault(5, at),

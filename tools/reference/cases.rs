@@ -24,8 +24,14 @@
 //   17 spell       label, spellings (1), output                             as 4
 //   18 in a box    ports (1, at most 64), that many wide ports, tables (1, at most 8), that many wide tables, routes (2, at most 256),
 //                  that many routes, arriving port (1), destination (4), facts, n (1), n octets, output       as 6
+//   20 build a message  number (1), type (1), code (1), pointer (1), n (1), n octets of header, m (2), m octets of data, output, output
+//                                                                           number, message count, options count, output, output
+//   21 read a message   n (2), n octets                                     25; or 0, type, code, pointer, header and data in hex
 //   22 reverse          wide table, room (2, at most 1024 rows)             number, from, to, pair count, each pair, row count, each row
 //   24 bitmap    n (1), n octets                                            number, count, low and high of each run
+//   25 memory    count (1), stored (1, at most 64), that many addresses (4), then calls: 1 note, 2 ask, 3 forget (each with an
+//                address, 4), 4 clear, 5 message (n (2), n octets)          for each call its number and YES, NO or -; then the
+//                                                                           count and the addresses, at most 64
 //
 //   label    domain (4), level (1), count (1), stored (1, at most 120), that many runs of low (2) and high (2)
 //   port     domain (4), lowest label, highest label, required (1), assigned label
@@ -53,6 +59,8 @@ use crate::decision::{deliver, forward, forward_in_box, Decision, Facts};
 use crate::entries::{Entries, BASIC_GROUP, DEFAULT_GROUP, GROUPS, SPELLINGS_GROUP};
 use crate::file::{self, Refusal, SetRecord, Unwritten, MAX_PORTS, MAX_TABLES};
 use crate::label::{HeldLabel, Run, MAX_RUNS};
+use crate::memory::{Call, MemoryRecord, MAX_DESTINATIONS};
+use crate::messages::{self, Report};
 use crate::option::{read_alone, read_bitmap_alone, spell_alone, ALL_SPELLINGS, PLAIN_SPELLINGS};
 use crate::records::{renumber_alone, reverse, HostRecord, PortRecord, Row, TableRecord, MAX_LEVEL_PAIRS, MAX_ROWS};
 use crate::routes::{BoxRecord, Route, MAX_BOX_PORTS, MAX_BOX_TABLES, MAX_ROUTES};
@@ -75,8 +83,18 @@ pub const FORWARD_WIDE: u8 = 15;
 pub const DELIVER_WIDE: u8 = 16;
 pub const SPELL_PERMITTED: u8 = 17;
 pub const IN_BOX: u8 = 18;
+pub const BUILD_MESSAGE: u8 = 20;
+pub const READ_MESSAGE: u8 = 21;
 pub const REVERSE: u8 = 22;
 pub const BITMAP: u8 = 24;
+pub const MEMORY: u8 = 25;
+
+/// The calls of a memory.
+pub const NOTE: u8 = 1;
+pub const ASK: u8 = 2;
+pub const FORGET: u8 = 3;
+pub const CLEAR: u8 = 4;
+pub const MESSAGE: u8 = 5;
 
 pub const MAX_OUTPUT: usize = 512;
 pub const MAX_FILE_OUTPUT: usize = 65_535;
@@ -119,6 +137,16 @@ pub struct BoxCase {
 }
 
 #[derive(Clone)]
+pub struct MessageCase {
+    pub number: u8,
+    pub report: Report,
+    pub header: Vec<u8>,
+    pub data: Vec<u8>,
+    pub message_output: Output,
+    pub options_output: Output,
+}
+
+#[derive(Clone)]
 pub enum Case {
     Contains(HeldLabel, u16),
     Within(HeldLabel, HeldLabel),
@@ -138,8 +166,11 @@ pub enum Case {
     DeliverWide(Box<DeliverCase>),
     SpellPermitted(HeldLabel, u8, Output),
     InBox(Box<BoxCase>),
+    BuildMessage(MessageCase),
+    ReadMessage(Vec<u8>),
     Reverse(TableRecord, usize),
     Bitmap(Vec<u8>),
+    Memory(Box<MemoryRecord>, Vec<Call>),
 }
 
 /// Takes fields from the front of a case. None where a field is cut off or a number is over its limit.
@@ -360,6 +391,41 @@ impl<'a> Fields<'a> {
         })
     }
 
+    fn message(&mut self) -> Option<MessageCase> {
+        Some(MessageCase {
+            number: self.one()?,
+            report: Report { icmp_type: self.one()?, icmp_code: self.one()?, pointer: self.one()? },
+            header: self.counted_octets()?,
+            data: self.long_octets()?,
+            message_output: self.output()?,
+            options_output: self.output()?,
+        })
+    }
+
+    fn memory(&mut self) -> Option<MemoryRecord> {
+        let mut memory = MemoryRecord { count: self.one()?, ..MemoryRecord::CLEAR };
+        for place in 0..self.stored(MAX_DESTINATIONS)? {
+            memory.places[place] = self.four()?;
+        }
+        Some(memory)
+    }
+
+    /// Calls up to the end of the case.
+    fn calls(&mut self) -> Option<Vec<Call>> {
+        let mut calls = Vec::new();
+        while !self.rest.is_empty() {
+            calls.push(match self.one()? {
+                NOTE => Call::Note(self.four()?),
+                ASK => Call::Ask(self.four()?),
+                FORGET => Call::Forget(self.four()?),
+                CLEAR => Call::Clear,
+                MESSAGE => Call::Message(self.long_octets()?),
+                _ => return None,
+            });
+        }
+        Some(calls)
+    }
+
     fn deliver_wide(&mut self) -> Option<DeliverCase> {
         Some(DeliverCase { port: self.wide_port()?, host: self.host()?, facts: self.facts()?, area: self.counted_octets()? })
     }
@@ -391,8 +457,11 @@ pub fn parse(octets: &[u8], entries: &Entries) -> Option<Case> {
         DELIVER_WIDE => Case::DeliverWide(Box::new(fields.deliver_wide()?)),
         SPELL_PERMITTED => Case::SpellPermitted(fields.label()?, fields.spellings()?, fields.output()?),
         IN_BOX => Case::InBox(Box::new(fields.in_box()?)),
+        BUILD_MESSAGE => Case::BuildMessage(fields.message()?),
+        READ_MESSAGE => Case::ReadMessage(fields.long_octets()?),
         REVERSE => Case::Reverse(fields.wide_table()?, fields.long_stored(MAX_ROOM)?),
         BITMAP => Case::Bitmap(fields.counted_octets()?),
+        MEMORY => Case::Memory(Box::new(fields.memory()?), fields.calls()?),
         _ => return None,
     };
     if fields.rest.is_empty() {
@@ -593,6 +662,29 @@ impl Encoder {
         self.output(case.output);
     }
 
+    fn memory(&mut self, memory: &MemoryRecord) {
+        let stored = self.stored(memory.needed(), MAX_DESTINATIONS);
+        self.octets.extend([memory.count, stored as u8]);
+        for address in &memory.places[..stored] {
+            self.four(*address);
+        }
+    }
+
+    fn call(&mut self, call: &Call) {
+        let (kind, address) = match call {
+            Call::Note(address) => (NOTE, *address),
+            Call::Ask(address) => (ASK, *address),
+            Call::Forget(address) => (FORGET, *address),
+            Call::Clear => return self.octets.push(CLEAR),
+            Call::Message(message) => {
+                self.octets.push(MESSAGE);
+                return self.long_octets(message);
+            }
+        };
+        self.octets.push(kind);
+        self.four(address);
+    }
+
     fn deliver_wide(&mut self, case: &DeliverCase) {
         self.wide_port(&case.port);
         self.host(&case.host);
@@ -686,6 +778,18 @@ pub fn encode(case: &Case, spare: usize) -> Vec<u8> {
             encoder.octets.push(IN_BOX);
             encoder.in_box(case);
         }
+        Case::BuildMessage(case) => {
+            let Report { icmp_type, icmp_code, pointer } = case.report;
+            encoder.octets.extend([BUILD_MESSAGE, case.number, icmp_type, icmp_code, pointer]);
+            encoder.counted_octets(&case.header);
+            encoder.long_octets(&case.data);
+            encoder.output(case.message_output);
+            encoder.output(case.options_output);
+        }
+        Case::ReadMessage(octets) => {
+            encoder.octets.push(READ_MESSAGE);
+            encoder.long_octets(octets);
+        }
         Case::Reverse(table, room) => {
             encoder.octets.push(REVERSE);
             encoder.wide_table(table);
@@ -694,6 +798,13 @@ pub fn encode(case: &Case, spare: usize) -> Vec<u8> {
         Case::Bitmap(octets) => {
             encoder.octets.push(BITMAP);
             encoder.counted_octets(octets);
+        }
+        Case::Memory(memory, calls) => {
+            encoder.octets.push(MEMORY);
+            encoder.memory(memory);
+            for call in calls {
+                encoder.call(call);
+            }
         }
     }
     encoder.octets
@@ -900,6 +1011,28 @@ pub fn answer(case: &Case) -> String {
             line.number(count);
             line.output(&octets);
         }
+        Case::BuildMessage(case) => {
+            let octets = |output: Output| vec![output.fill; output.length];
+            let (mut message, mut options) = (octets(case.message_output), octets(case.options_output));
+            let (number, message_count, options_count) =
+                messages::build(case.number, &case.report, &case.header, &case.data, &mut message, &mut options);
+            line.number(number as usize);
+            line.number(message_count);
+            line.number(options_count);
+            line.output(&message);
+            line.output(&options);
+        }
+        Case::ReadMessage(octets) => match messages::read(octets) {
+            None => line.number(25),
+            Some(parts) => {
+                line.number(0);
+                line.number(parts.report.icmp_type as usize);
+                line.number(parts.report.icmp_code as usize);
+                line.number(parts.report.pointer as usize);
+                line.output(&parts.header);
+                line.output(&parts.data);
+            }
+        },
         Case::Reverse(table, room) => {
             let (number, reversed) = match reverse(table, *room) {
                 Ok(reversed) => (0, reversed),
@@ -913,6 +1046,18 @@ pub fn answer(case: &Case) -> String {
             line.number(number as usize);
             line.number(runs.len());
             line.runs(&runs);
+        }
+        Case::Memory(memory, calls) => {
+            let mut memory = memory.clone();
+            for call in calls {
+                let reply = memory.call(call);
+                line.number(reply.number as usize);
+                line.word(reply.was_in.map_or("-", yes_or_no));
+            }
+            line.number(memory.count as usize);
+            for address in &memory.places[..MAX_DESTINATIONS.min(memory.count as usize)] {
+                line.number(*address as usize);
+            }
         }
     }
     line.text

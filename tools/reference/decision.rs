@@ -11,17 +11,17 @@ use crate::records::{HostRecord, Port, PortRecord, Table, TableRecord};
 use crate::routes::BoxRecord;
 
 /// "Pointers count from the header's start: 20 plus the offset in the area."
-const HEADER_OCTETS: usize = 20;
+pub const HEADER_OCTETS: usize = 20;
 /// "Gateway code is 9, host code 10."
 const GATEWAY_CODE: u8 = 9;
 const HOST_CODE: u8 = 10;
 /// "No matching route is 22, 3/0/0".
 const NO_ROUTE_CODE: u8 = 0;
 
-const PARAMETER_PROBLEM: u8 = 12;
-const UNREACHABLE: u8 = 3;
+pub const PARAMETER_PROBLEM: u8 = 12;
+pub const UNREACHABLE: u8 = 3;
 /// Code of a parameter problem where an option is missing; the pointer is then the missing type.
-const OPTION_MISSING: u8 = 1;
+pub const OPTION_MISSING: u8 = 1;
 
 /// What the caller states of a datagram. Document 02, wish 2: "no error goes out about an ICMP error message, a broadcast or multicast
 /// destination, a link-layer broadcast, a fragment other than the first, or a source that isn't one host".

@@ -6,6 +6,7 @@
 //   sample                the sample program's job   fast       the same answers, written for speed
 //   file                  the house file             entries    which calls are built
 //   basic                 one Basic Security option  routes     a box of many ports
+//   messages              ICMP messages              memory     which destinations want labels
 //
 // The other files generate cases and compare answers.
 
@@ -21,6 +22,8 @@ mod fastcheck;
 mod file;
 mod generator;
 mod label;
+mod memory;
+mod messages;
 mod option;
 mod records;
 mod routes;

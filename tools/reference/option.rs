@@ -107,7 +107,7 @@ pub fn read(option: &[u8], domain_fits: impl Fn(u32) -> bool) -> Result<Label, F
     }
     // 8: "domain 0, or not the port's", at the domain field.
     let domain = u32::from_be_bytes([option[DOMAIN_AT], option[DOMAIN_AT + 1], option[DOMAIN_AT + 2], option[DOMAIN_AT + 3]]);
-    if domain == 0 || !domain_fits(domain) {
+    if !domain_fits(domain) {
         return fault(8, DOMAIN_AT);
     }
     // 9: "tag type not 1, 2 or 5", at the tag type.
@@ -150,7 +150,13 @@ pub fn read_alone(octets: &[u8]) -> Result<Label, Fault> {
     if !begins || !fills {
         return fault(3, 0);
     }
-    read(octets, |_| true)
+    read(octets, |domain| domain != 0)
+}
+
+/// "An option is valid when it has the form above, one tag that keeps to the table, length 6 plus its tag's length, and at most 40 octets."
+/// Its domain is free. Asked of an option whose length octet gives its length.
+pub fn valid(option: &[u8]) -> bool {
+    read(option, |_| true).is_ok()
 }
 
 /// The longest bitmap of tag 1.

@@ -7,19 +7,19 @@ use mathlib.Core.Option.{Option, none, some}
 use native.Mathlib.Omega.{arith}
 use lib.ListN.{getD, take, drop}
 use lib.Seq.{getD-drop}
-use Rattle.kinds.specs.declared.Kind.{Kind}
-use Rattle.kinds.specs.declared.Kind.the-variants.{End, NoOperation, Basic, Extended, Cipso, Other}
-use Rattle.kinds.specs.declared.Size.{Size}
-use Rattle.kinds.specs.declared.Size.the-variants.{Whole, Bad}
-use Rattle.turn.specs.declared.Place.{Place}
-use Rattle.turn.specs.declared.Place.the-variants.{Nowhere, At}
-use Rattle.turn.specs.declared.Walk.{Walk}
-use Rattle.turn.specs.declared.Walk.the-variants.{Sound, Refused}
-use Rattle.kinds.specs.Kinds.{sizeOf}
-use Rattle.turn.specs.Turn.{judge}
+use Rattle.area.specs.declared.Kind.{Kind}
+use Rattle.area.specs.declared.Kind.the-variants.{End, NoOperation, Basic, Extended, Cipso, Other}
+use Rattle.area.specs.declared.Size.{Size}
+use Rattle.area.specs.declared.Size.the-variants.{Whole, Bad}
+use Rattle.area.specs.declared.Place.{Place}
+use Rattle.area.specs.declared.Place.the-variants.{Nowhere, At}
+use Rattle.area.specs.declared.Walk.{Walk}
+use Rattle.area.specs.declared.Walk.the-variants.{Sound, Refused}
+use Rattle.area.specs.Kinds.{sizeOf}
+use Rattle.area.specs.Turn.{judge}
 use Rattle.area.specs.Area.{Met, spanOf, metOf, judged, walkOf, octetsAt}
 use Rattle.area.specs.Meets.{StandIn}
-use Rattle.kinds.proofs.Laws.{whole-size}
+use Rattle.area.proofs.KindLaws.{whole-size}
 use Rattle.area.proofs.Meets.{met-stand}
 
 -- the octets of the first option 130 among those met, if there is one
@@ -37,14 +37,14 @@ basicAmong area [] = none
 basicAmong area (m ∷ ms) = basicFront area (m .kind) (m .size) (m .at) (basicAmong area ms)
 
 -- behind one that was met there is none
-pub met-once : (on : Bool) (area : List ℕ) (ms : List Met) (label l b : Place) (p : ℕ) → judged on ms label (At p) ≡ Sound l b
+pub met-once : (on : Bool) (area : List ℕ) (ms : List Met) (label l b : Place) (p : ℕ) → judged on false ms label (At p) ≡ Sound l b
     → (basicAmong area ms ≡ none) × (At p ≡ b)
 met-once on area [] label l b p e = (refl, cc)
 met-once on area (m ∷ ms) label l b p e = go on (m .kind) (m .size) label (λ x f. met-once on area ms x l b p f) e
   where
     go : (t : Bool) (k : Kind) (z : Size) (label : Place)
-        → ((x : Place) → judged on ms x (At p) ≡ Sound l b → (basicAmong area ms ≡ none) × (At p ≡ b))
-        → elim (judge t k z (m .at) label (At p)) as (λ _. Walk) [ Sound x y ↦ judged on ms x y | Refused n at ↦ Refused n at ] ≡ Sound l b
+        → ((x : Place) → judged on false ms x (At p) ≡ Sound l b → (basicAmong area ms ≡ none) × (At p ≡ b))
+        → elim (judge t false k z (m .at) label (At p)) as (λ _. Walk) [ Sound x y ↦ judged on false ms x y | Refused n at ↦ Refused n at ] ≡ Sound l b
         → (basicFront area k z (m .at) (basicAmong area ms) ≡ none) × (At p ≡ b)
     go t End Bad label g e = let z : _≡_ {A = ℕ} 0 1 = cc in absurd (omega arith)
     go t NoOperation Bad label g e = let z : _≡_ {A = ℕ} 0 1 = cc in absurd (omega arith)
@@ -62,7 +62,7 @@ met-once on area (m ∷ ms) label l b p e = go on (m .kind) (m .size) label (λ 
     go t Other (Whole n) label g e = g label e
 
 -- the place that the walk answers is that of the first one
-judged-basic : (on : Bool) (area : List ℕ) (ms : List Met) (label l b : Place) → StandIn area ms → judged on ms label Nowhere ≡ Sound l b
+judged-basic : (on : Bool) (area : List ℕ) (ms : List Met) (label l b : Place) → StandIn area ms → judged on false ms label Nowhere ≡ Sound l b
     → octetsAt b area ≡ basicAmong area ms
 judged-basic on area [] label l b s e = let q : b ≡ Nowhere = cc in rw q
 judged-basic on area (m ∷ ms) label l b s e =
@@ -74,9 +74,9 @@ judged-basic on area (m ∷ ms) label l b s e =
         ap (λ (x : Place). octetsAt x area) (sym q) ∙ ap (λ (i : ℕ). some (take i (drop (m .at) area))) k
 
     go : (t : Bool) (k : Kind) (z : Size) (label : Place) → z ≡ spanOf k (sizeOf (drop (m .at) area))
-        → ((x : Place) → judged on ms x Nowhere ≡ Sound l b → octetsAt b area ≡ basicAmong area ms)
-        → ((x : Place) → judged on ms x (At (m .at)) ≡ Sound l b → (basicAmong area ms ≡ none) × (At (m .at) ≡ b))
-        → elim (judge t k z (m .at) label Nowhere) as (λ _. Walk) [ Sound x y ↦ judged on ms x y | Refused n at ↦ Refused n at ] ≡ Sound l b
+        → ((x : Place) → judged on false ms x Nowhere ≡ Sound l b → octetsAt b area ≡ basicAmong area ms)
+        → ((x : Place) → judged on false ms x (At (m .at)) ≡ Sound l b → (basicAmong area ms ≡ none) × (At (m .at) ≡ b))
+        → elim (judge t false k z (m .at) label Nowhere) as (λ _. Walk) [ Sound x y ↦ judged on false ms x y | Refused n at ↦ Refused n at ] ≡ Sound l b
         → octetsAt b area ≡ basicFront area k z (m .at) (basicAmong area ms)
     go t End Bad label y g h e = let z : _≡_ {A = ℕ} 0 1 = cc in absurd (omega arith)
     go t NoOperation Bad label y g h e = let z : _≡_ {A = ℕ} 0 1 = cc in absurd (omega arith)

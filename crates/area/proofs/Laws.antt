@@ -6,22 +6,22 @@ use mathlib.Core.Bool.{Bool, true, false}
 use native.Mathlib.Nat.{add-zero}
 use native.Mathlib.Omega.{arith}
 use lib.ListN.{length, getD, take, drop, length-drop, drop-of-length-le}
-use lib.Seq.{getD-drop, drop-drop}
+use lib.Seq.{getD-drop, getD-take, drop-drop, length-take-le}
 use Rattle.lists.proofs.Laws.{tail-is}
-use Rattle.kinds.proofs.Laws.{size-whole}
-use Rattle.kinds.specs.declared.Kind.{Kind}
-use Rattle.kinds.specs.declared.Kind.the-variants.{End, NoOperation, Basic, Extended, Cipso, Other}
-use Rattle.kinds.specs.declared.Size.{Size}
-use Rattle.kinds.specs.declared.Size.the-variants.{Whole, Bad}
-use Rattle.turn.specs.declared.Place.{Place}
-use Rattle.turn.specs.declared.Place.the-variants.{Nowhere, At}
-use Rattle.turn.specs.declared.Walk.{Walk}
-use Rattle.turn.specs.declared.Walk.the-variants.{Sound, Refused}
-use Rattle.turn.specs.declared.Turn.{Turn}
-use Rattle.turn.specs.declared.Turn.the-variants.{Done, On}
-use Rattle.kinds.specs.Kinds.{kindOf, sizeOf}
-use Rattle.turn.specs.Turn.{judge, turnOf}
-use Rattle.area.specs.Area.{Met, spanOf, frontOf, metFrom, metOf, judged, walkOf, WholeAt, placedIn}
+use Rattle.area.proofs.KindLaws.{size-whole, whole-size}
+use Rattle.area.specs.declared.Kind.{Kind}
+use Rattle.area.specs.declared.Kind.the-variants.{End, NoOperation, Basic, Extended, Cipso, Other}
+use Rattle.area.specs.declared.Size.{Size}
+use Rattle.area.specs.declared.Size.the-variants.{Whole, Bad}
+use Rattle.area.specs.declared.Place.{Place}
+use Rattle.area.specs.declared.Place.the-variants.{Nowhere, At}
+use Rattle.area.specs.declared.Walk.{Walk}
+use Rattle.area.specs.declared.Walk.the-variants.{Sound, Refused}
+use Rattle.area.specs.declared.Turn.{Turn}
+use Rattle.area.specs.declared.Turn.the-variants.{Done, On}
+use Rattle.area.specs.Kinds.{kindOf, sizeOf}
+use Rattle.area.specs.Turn.{judge, turnOf}
+use Rattle.area.specs.Area.{Met, spanOf, frontOf, metFrom, metOf, judged, walkOf, openWalk, optionAt, WholeAt, placedIn}
 use Rattle.area.specs.Meets.{StandIn}
 use Rattle.area.specs.Stages.{isMet, octetOf, placeOf}
 use Rattle.area.proofs.Meets.{met-stand}
@@ -67,106 +67,109 @@ unfolding metFrom
 met-end area at h = rw (drop-of-length-le area h)
 
 -- what follows a turn of the walk
-abbrev pub afterTurn : Bool → List ℕ → ℕ → Turn → Walk
-afterTurn on l at (Done w) = w
-afterTurn on l at (On n label basic) = judged on (metFrom (drop n l) 0 (at + n)) label basic
+abbrev pub afterTurn : Bool → Bool → List ℕ → ℕ → Turn → Walk
+afterTurn on lax l at (Done w) = w
+afterTurn on lax l at (On n label basic) = judged on lax (metFrom (drop n l) 0 (at + n)) label basic
 
-judged-front : (on : Bool) (l : List ℕ) (at : ℕ) (k : Kind) (z : Size) (label basic : Place)
-    → judged on (frontOf k z at ++ behind l at (spanOf k z)) label basic ≡ afterTurn on l at (turnOf on k z at label basic)
-judged-front on l at End z label basic = refl
-judged-front on l at NoOperation z label basic = refl
-judged-front false l at Basic (Whole n) label basic = refl
-judged-front true l at Basic (Whole n) label Nowhere = refl
-judged-front true l at Basic (Whole n) label (At p) = refl
-judged-front on l at Basic Bad label basic = refl
-judged-front on l at Extended (Whole n) label basic = refl
-judged-front on l at Extended Bad label basic = refl
-judged-front on l at Cipso (Whole n) Nowhere basic = refl
-judged-front on l at Cipso (Whole n) (At p) basic = refl
-judged-front on l at Cipso Bad label basic = refl
-judged-front on l at Other (Whole n) label basic = refl
-judged-front on l at Other Bad label basic = refl
+judged-front : (on lax : Bool) (l : List ℕ) (at : ℕ) (k : Kind) (z : Size) (label basic : Place)
+    → judged on lax (frontOf k z at ++ behind l at (spanOf k z)) label basic ≡ afterTurn on lax l at (turnOf on lax k z at label basic)
+judged-front on lax l at End z label basic = refl
+judged-front on lax l at NoOperation z label basic = refl
+judged-front false lax l at Basic (Whole n) label basic = refl
+judged-front true lax l at Basic (Whole n) label Nowhere = refl
+judged-front true lax l at Basic (Whole n) label (At p) = refl
+judged-front on lax l at Basic Bad label basic = refl
+judged-front on false l at Extended (Whole n) label basic = refl
+judged-front on true l at Extended (Whole n) label basic = refl
+judged-front on lax l at Extended Bad label basic = refl
+judged-front on lax l at Cipso (Whole n) Nowhere basic = refl
+judged-front on lax l at Cipso (Whole n) (At p) basic = refl
+judged-front on lax l at Cipso Bad label basic = refl
+judged-front on lax l at Other (Whole n) label basic = refl
+judged-front on lax l at Other Bad label basic = refl
 
-pub walk-turn : (on : Bool) (l : List ℕ) (at : ℕ) (label basic : Place) → 0 < length l
-    → judged on (metFrom l 0 at) label basic ≡ afterTurn on l at (turnOf on (kindOf (getD l 0 0)) (sizeOf l) at label basic)
-walk-turn on l at label basic h =
-    ap (λ (ms : List Met). judged on ms label basic) (met-turn l at h) ∙ judged-front on l at (kindOf (getD l 0 0)) (sizeOf l) label basic
+pub walk-turn : (on lax : Bool) (l : List ℕ) (at : ℕ) (label basic : Place) → 0 < length l
+    → judged on lax (metFrom l 0 at) label basic ≡ afterTurn on lax l at (turnOf on lax (kindOf (getD l 0 0)) (sizeOf l) at label basic)
+walk-turn on lax l at label basic h =
+    ap (λ (ms : List Met). judged on lax ms label basic) (met-turn l at h) ∙ judged-front on lax l at (kindOf (getD l 0 0)) (sizeOf l) label basic
 
 -- a turn that goes on passes over the whole option
-turn-on : (on : Bool) (k : Kind) (z : Size) (at : ℕ) (label basic : Place) (n : ℕ) (l b : Place) → turnOf on k z at label basic ≡ On n l b → spanOf k z ≡ Whole n
-turn-on on End z at label basic n l b e = let z : _≡_ {A = ℕ} 0 1 = cc in absurd (omega arith)
-turn-on on NoOperation z at label basic n l b e = cc
-turn-on false Basic (Whole m) at label basic n l b e = let z : _≡_ {A = ℕ} 0 1 = cc in absurd (omega arith)
-turn-on true Basic (Whole m) at label Nowhere n l b e = cc
-turn-on true Basic (Whole m) at label (At x) n l b e = let z : _≡_ {A = ℕ} 0 1 = cc in absurd (omega arith)
-turn-on on Basic Bad at label basic n l b e = let z : _≡_ {A = ℕ} 0 1 = cc in absurd (omega arith)
-turn-on on Extended (Whole m) at label basic n l b e = let z : _≡_ {A = ℕ} 0 1 = cc in absurd (omega arith)
-turn-on on Extended Bad at label basic n l b e = let z : _≡_ {A = ℕ} 0 1 = cc in absurd (omega arith)
-turn-on on Cipso (Whole m) at Nowhere basic n l b e = cc
-turn-on on Cipso (Whole m) at (At x) basic n l b e = let z : _≡_ {A = ℕ} 0 1 = cc in absurd (omega arith)
-turn-on on Cipso Bad at label basic n l b e = let z : _≡_ {A = ℕ} 0 1 = cc in absurd (omega arith)
-turn-on on Other (Whole m) at label basic n l b e = cc
-turn-on on Other Bad at label basic n l b e = let z : _≡_ {A = ℕ} 0 1 = cc in absurd (omega arith)
+turn-on : (on lax : Bool) (k : Kind) (z : Size) (at : ℕ) (label basic : Place) (n : ℕ) (l b : Place) → turnOf on lax k z at label basic ≡ On n l b → spanOf k z ≡ Whole n
+turn-on on lax End z at label basic n l b e = let z : _≡_ {A = ℕ} 0 1 = cc in absurd (omega arith)
+turn-on on lax NoOperation z at label basic n l b e = cc
+turn-on false lax Basic (Whole m) at label basic n l b e = let z : _≡_ {A = ℕ} 0 1 = cc in absurd (omega arith)
+turn-on true lax Basic (Whole m) at label Nowhere n l b e = cc
+turn-on true lax Basic (Whole m) at label (At x) n l b e = let z : _≡_ {A = ℕ} 0 1 = cc in absurd (omega arith)
+turn-on on lax Basic Bad at label basic n l b e = let z : _≡_ {A = ℕ} 0 1 = cc in absurd (omega arith)
+turn-on on false Extended (Whole m) at label basic n l b e = let z : _≡_ {A = ℕ} 0 1 = cc in absurd (omega arith)
+turn-on on true Extended (Whole m) at label basic n l b e = cc
+turn-on on lax Extended Bad at label basic n l b e = let z : _≡_ {A = ℕ} 0 1 = cc in absurd (omega arith)
+turn-on on lax Cipso (Whole m) at Nowhere basic n l b e = cc
+turn-on on lax Cipso (Whole m) at (At x) basic n l b e = let z : _≡_ {A = ℕ} 0 1 = cc in absurd (omega arith)
+turn-on on lax Cipso Bad at label basic n l b e = let z : _≡_ {A = ℕ} 0 1 = cc in absurd (omega arith)
+turn-on on lax Other (Whole m) at label basic n l b e = cc
+turn-on on lax Other Bad at label basic n l b e = let z : _≡_ {A = ℕ} 0 1 = cc in absurd (omega arith)
 
 -- one turn of the loop, from what the calls gave: k the kind, z the size, u the turn
-module _ (on : Bool) (area : List ℕ) (at : ℕ) (label basic : Place) (k : Kind) (z : Size) (u : Turn) (h : at < length area)
-    (ez : z ≡ sizeOf (take (length area - at) (drop at area))) (eu : u ≡ turnOf on k z at label basic) where
+module _ (on lax : Bool) (area : List ℕ) (at : ℕ) (label basic : Place) (k : Kind) (z : Size) (u : Turn) (h : at < length area)
+    (ez : z ≡ sizeOf (take (length area - at) (drop at area))) (eu : u ≡ turnOf on lax k z at label basic) where
   pub turn-here :
       k ≡ kindOf (getD (take (length area - at) (drop at area)) 0 0)
-      → judged on (metFrom (drop at area) 0 at) label basic ≡ afterTurn on (drop at area) at u
-  turn-here ek = rw (eu, ek, ez, tail-is) (walk-turn on (drop at area) at label basic (simp length-drop (omega arith)))
+      → judged on lax (metFrom (drop at area) 0 at) label basic ≡ afterTurn on lax (drop at area) at u
+  turn-here ek = rw (eu, ek, ez, tail-is) (walk-turn on lax (drop at area) at label basic (simp length-drop (omega arith)))
 
   pub turn-moves : (n : ℕ) (l b : Place) → u ≡ On n l b → (1 ≤ n) × (at + n ≤ length area)
   turn-moves n l b e =
       let ez′ : z ≡ sizeOf (drop at area) = rw tail-is at ez in
-      let q = span-on k (drop at area) z n (sym ez′) (simp length-drop (omega arith)) (turn-on on k z at label basic n l b (sym eu ∙ e)) in
+      let q = span-on k (drop at area) z n (sym ez′) (simp length-drop (omega arith)) (turn-on on lax k z at label basic n l b (sym eu ∙ e)) in
       omega (arith, length-drop at area)
 
 -- over an octet of type 1 the walk goes on
-pub no-operation : (on : Bool) (area : List ℕ) (at : ℕ) (label basic : Place) → at < length area → getD area at 0 ≡ 1
-    → judged on (metFrom (drop at area) 0 at) label basic ≡ judged on (metFrom (drop (at + 1) area) 0 (at + 1)) label basic
-no-operation on area at label basic h e =
+pub no-operation : (on lax : Bool) (area : List ℕ) (at : ℕ) (label basic : Place) → at < length area → getD area at 0 ≡ 1
+    → judged on lax (metFrom (drop at area) 0 at) label basic ≡ judged on lax (metFrom (drop (at + 1) area) 0 (at + 1)) label basic
+no-operation on lax area at label basic h e =
     let k : getD (drop at area) 0 0 ≡ 1 = getD-drop at area 0 0 ∙ rw add-zero e in
-    walk-turn on (drop at area) at label basic (simp length-drop (omega arith))
-    ∙ ap (λ (t : ℕ). afterTurn on (drop at area) at (turnOf on (kindOf t) (sizeOf (drop at area)) at label basic)) k
+    walk-turn on lax (drop at area) at label basic (simp length-drop (omega arith))
+    ∙ ap (λ (t : ℕ). afterTurn on lax (drop at area) at (turnOf on lax (kindOf t) (sizeOf (drop at area)) at label basic)) k
     ∙ rw drop-drop
 
-pub walk-end : (on : Bool) (area : List ℕ) (at : ℕ) (label basic : Place) → length area ≤ at
-    → judged on (metFrom (drop at area) 0 at) label basic ≡ Sound label basic
-walk-end on area at label basic h = ap (λ (ms : List Met). judged on ms label basic) (met-end area at h)
+pub walk-end : (on lax : Bool) (area : List ℕ) (at : ℕ) (label basic : Place) → length area ≤ at
+    → judged on lax (metFrom (drop at area) 0 at) label basic ≡ Sound label basic
+walk-end on lax area at label basic h = ap (λ (ms : List Met). judged on lax ms label basic) (met-end area at h)
 
 -- a refusal is 3, 4 or 5, and has the option's place
-judge-refused : (on : Bool) (k : Kind) (z : Size) (at : ℕ) (label basic : Place) (num p : ℕ) → judge on k z at label basic ≡ Refused num p
+judge-refused : (on lax : Bool) (k : Kind) (z : Size) (at : ℕ) (label basic : Place) (num p : ℕ) → judge on lax k z at label basic ≡ Refused num p
     → (3 ≤ num) × (num ≤ 5) × (at ≡ p)
-judge-refused on k Bad at label basic num p e = let q : 3 ≡ num = cc in (omega arith, omega arith, cc)
-judge-refused on End (Whole m) at label basic num p e = let z : _≡_ {A = ℕ} 0 1 = cc in absurd (omega arith)
-judge-refused on NoOperation (Whole m) at label basic num p e = let z : _≡_ {A = ℕ} 0 1 = cc in absurd (omega arith)
-judge-refused false Basic (Whole m) at label basic num p e = let q : 4 ≡ num = cc in (omega arith, omega arith, cc)
-judge-refused true Basic (Whole m) at label Nowhere num p e = let z : _≡_ {A = ℕ} 0 1 = cc in absurd (omega arith)
-judge-refused true Basic (Whole m) at label (At x) num p e = let q : 5 ≡ num = cc in (omega arith, omega arith, cc)
-judge-refused on Extended (Whole m) at label basic num p e = let q : 4 ≡ num = cc in (omega arith, omega arith, cc)
-judge-refused on Cipso (Whole m) at Nowhere basic num p e = let z : _≡_ {A = ℕ} 0 1 = cc in absurd (omega arith)
-judge-refused on Cipso (Whole m) at (At x) basic num p e = let q : 5 ≡ num = cc in (omega arith, omega arith, cc)
-judge-refused on Other (Whole m) at label basic num p e = let z : _≡_ {A = ℕ} 0 1 = cc in absurd (omega arith)
+judge-refused on lax k Bad at label basic num p e = let q : 3 ≡ num = cc in (omega arith, omega arith, cc)
+judge-refused on lax End (Whole m) at label basic num p e = let z : _≡_ {A = ℕ} 0 1 = cc in absurd (omega arith)
+judge-refused on lax NoOperation (Whole m) at label basic num p e = let z : _≡_ {A = ℕ} 0 1 = cc in absurd (omega arith)
+judge-refused false lax Basic (Whole m) at label basic num p e = let q : 4 ≡ num = cc in (omega arith, omega arith, cc)
+judge-refused true lax Basic (Whole m) at label Nowhere num p e = let z : _≡_ {A = ℕ} 0 1 = cc in absurd (omega arith)
+judge-refused true lax Basic (Whole m) at label (At x) num p e = let q : 5 ≡ num = cc in (omega arith, omega arith, cc)
+judge-refused on false Extended (Whole m) at label basic num p e = let q : 4 ≡ num = cc in (omega arith, omega arith, cc)
+judge-refused on true Extended (Whole m) at label basic num p e = let z : _≡_ {A = ℕ} 0 1 = cc in absurd (omega arith)
+judge-refused on lax Cipso (Whole m) at Nowhere basic num p e = let z : _≡_ {A = ℕ} 0 1 = cc in absurd (omega arith)
+judge-refused on lax Cipso (Whole m) at (At x) basic num p e = let q : 5 ≡ num = cc in (omega arith, omega arith, cc)
+judge-refused on lax Other (Whole m) at label basic num p e = let z : _≡_ {A = ℕ} 0 1 = cc in absurd (omega arith)
 
 -- the same of options that stand in an area
-judged-refused : (on : Bool) (area : List ℕ) (ms : List Met) (label basic : Place) (num p : ℕ) → StandIn area ms → judged on ms label basic ≡ Refused num p
+judged-refused : (on lax : Bool) (area : List ℕ) (ms : List Met) (label basic : Place) (num p : ℕ) → StandIn area ms → judged on lax ms label basic ≡ Refused num p
     → (3 ≤ num) × (num ≤ 5) × (p < length area)
-judged-refused on area [] label basic num p s e = let z : _≡_ {A = ℕ} 0 1 = cc in absurd (omega arith)
-judged-refused on area (m ∷ ms) label basic num p s e =
-    go (judge on (m .kind) (m .size) (m .at) label basic) refl (λ l b f. judged-refused on area ms l b num p (s .3) f) e
+judged-refused on lax area [] label basic num p s e = let z : _≡_ {A = ℕ} 0 1 = cc in absurd (omega arith)
+judged-refused on lax area (m ∷ ms) label basic num p s e =
+    go (judge on lax (m .kind) (m .size) (m .at) label basic) refl (λ l b f. judged-refused on lax area ms l b num p (s .3) f) e
   where
-    go : (w : Walk) → judge on (m .kind) (m .size) (m .at) label basic ≡ w
-        → ((l b : Place) → judged on ms l b ≡ Refused num p → (3 ≤ num) × (num ≤ 5) × (p < length area))
-        → elim w as (λ _. Walk) [ Sound l b ↦ judged on ms l b | Refused n at ↦ Refused n at ] ≡ Refused num p → (3 ≤ num) × (num ≤ 5) × (p < length area)
+    go : (w : Walk) → judge on lax (m .kind) (m .size) (m .at) label basic ≡ w
+        → ((l b : Place) → judged on lax ms l b ≡ Refused num p → (3 ≤ num) × (num ≤ 5) × (p < length area))
+        → elim w as (λ _. Walk) [ Sound l b ↦ judged on lax ms l b | Refused n at ↦ Refused n at ] ≡ Refused num p → (3 ≤ num) × (num ≤ 5) × (p < length area)
     go (Sound l b) ew g e = g l b e
     go (Refused n at) ew g e =
-        let q = judge-refused on (m .kind) (m .size) (m .at) label basic num p (ew ∙ e) in
+        let q = judge-refused on lax (m .kind) (m .size) (m .at) label basic num p (ew ∙ e) in
         (q .0, q .1, omega (arith, s .0, q .2))
 
 pub area-refused : (on : Bool) (area : List ℕ) (num p : ℕ) → walkOf on area ≡ Refused num p → (3 ≤ num) × (num ≤ 5) × (p < length area)
 unfolding walkOf
-area-refused on area num p e = judged-refused on area (metOf area) Nowhere Nowhere num p (met-stand area) e
+area-refused on area num p e = judged-refused on false area (metOf area) Nowhere Nowhere num p (met-stand area) e
 
 -- an option that the walk meets whole is a whole option of its kind
 whole-at : (area : List ℕ) (m : Met) (k : Kind) (n : ℕ) → m .kind ≡ kindOf (getD area (m .at) 0)
@@ -189,53 +192,58 @@ moved-on area label basic l b h e =
     let q : basic ≡ b = cc in
     moved area label basic l b h p q
 
-judge-placed : (on : Bool) (area : List ℕ) (k : Kind) (z : Size) (at : ℕ) (label basic l b : Place)
+judge-placed : (on lax : Bool) (area : List ℕ) (k : Kind) (z : Size) (at : ℕ) (label basic l b : Place)
     → ((n : ℕ) → k ≡ Cipso → z ≡ Whole n → WholeAt Cipso area at) → ((n : ℕ) → k ≡ Basic → z ≡ Whole n → WholeAt Basic area at)
-    → Placed area label basic → judge on k z at label basic ≡ Sound l b → Placed area l b
-judge-placed on area k Bad at label basic l b c d h e = let z : _≡_ {A = ℕ} 0 1 = cc in absurd (omega arith)
-judge-placed on area End (Whole m) at label basic l b c d h e = moved-on area label basic l b h e
-judge-placed on area NoOperation (Whole m) at label basic l b c d h e = moved-on area label basic l b h e
-judge-placed false area Basic (Whole m) at label basic l b c d h e = let z : _≡_ {A = ℕ} 0 1 = cc in absurd (omega arith)
-judge-placed true area Basic (Whole m) at label Nowhere l b c d h e =
+    → Placed area label basic → judge on lax k z at label basic ≡ Sound l b → Placed area l b
+judge-placed on lax area k Bad at label basic l b c d h e = let z : _≡_ {A = ℕ} 0 1 = cc in absurd (omega arith)
+judge-placed on lax area End (Whole m) at label basic l b c d h e = moved-on area label basic l b h e
+judge-placed on lax area NoOperation (Whole m) at label basic l b c d h e = moved-on area label basic l b h e
+judge-placed false lax area Basic (Whole m) at label basic l b c d h e = let z : _≡_ {A = ℕ} 0 1 = cc in absurd (omega arith)
+judge-placed true lax area Basic (Whole m) at label Nowhere l b c d h e =
     let p : label ≡ l = cc in
     let q : At at ≡ b = cc in
     moved area label (At at) l b (h .0, d m refl refl) p q
-judge-placed true area Basic (Whole m) at label (At x) l b c d h e = let z : _≡_ {A = ℕ} 0 1 = cc in absurd (omega arith)
-judge-placed on area Extended (Whole m) at label basic l b c d h e = let z : _≡_ {A = ℕ} 0 1 = cc in absurd (omega arith)
-judge-placed on area Cipso (Whole m) at Nowhere basic l b c d h e =
+judge-placed true lax area Basic (Whole m) at label (At x) l b c d h e = let z : _≡_ {A = ℕ} 0 1 = cc in absurd (omega arith)
+judge-placed on false area Extended (Whole m) at label basic l b c d h e = let z : _≡_ {A = ℕ} 0 1 = cc in absurd (omega arith)
+judge-placed on true area Extended (Whole m) at label basic l b c d h e = moved-on area label basic l b h e
+judge-placed on lax area Cipso (Whole m) at Nowhere basic l b c d h e =
     let p : At at ≡ l = cc in
     let q : basic ≡ b = cc in
     moved area (At at) basic l b (c m refl refl, h .1) p q
-judge-placed on area Cipso (Whole m) at (At x) basic l b c d h e = let z : _≡_ {A = ℕ} 0 1 = cc in absurd (omega arith)
-judge-placed on area Other (Whole m) at label basic l b c d h e = moved-on area label basic l b h e
+judge-placed on lax area Cipso (Whole m) at (At x) basic l b c d h e = let z : _≡_ {A = ℕ} 0 1 = cc in absurd (omega arith)
+judge-placed on lax area Other (Whole m) at label basic l b c d h e = moved-on area label basic l b h e
 
-judged-placed : (on : Bool) (area : List ℕ) (ms : List Met) (label basic l b : Place) → StandIn area ms → Placed area label basic
-    → judged on ms label basic ≡ Sound l b → Placed area l b
-judged-placed on area [] label basic l b s h e = moved-on area label basic l b h e
-judged-placed on area (m ∷ ms) label basic l b s h e =
-    go (judge on (m .kind) (m .size) (m .at) label basic) refl (λ x y g f. judged-placed on area ms x y l b (s .3) g f) e
+judged-placed : (on lax : Bool) (area : List ℕ) (ms : List Met) (label basic l b : Place) → StandIn area ms → Placed area label basic
+    → judged on lax ms label basic ≡ Sound l b → Placed area l b
+judged-placed on lax area [] label basic l b s h e = moved-on area label basic l b h e
+judged-placed on lax area (m ∷ ms) label basic l b s h e =
+    go (judge on lax (m .kind) (m .size) (m .at) label basic) refl (λ x y g f. judged-placed on lax area ms x y l b (s .3) g f) e
   where
-    go : (w : Walk) → judge on (m .kind) (m .size) (m .at) label basic ≡ w
-        → ((x y : Place) → Placed area x y → judged on ms x y ≡ Sound l b → Placed area l b)
-        → elim w as (λ _. Walk) [ Sound x y ↦ judged on ms x y | Refused n at ↦ Refused n at ] ≡ Sound l b → Placed area l b
+    go : (w : Walk) → judge on lax (m .kind) (m .size) (m .at) label basic ≡ w
+        → ((x y : Place) → Placed area x y → judged on lax ms x y ≡ Sound l b → Placed area l b)
+        → elim w as (λ _. Walk) [ Sound x y ↦ judged on lax ms x y | Refused n at ↦ Refused n at ] ≡ Sound l b → Placed area l b
     go (Sound x y) ew g e =
         g x y
-        (judge-placed on area (m .kind) (m .size) (m .at) label basic x y
+        (judge-placed on lax area (m .kind) (m .size) (m .at) label basic x y
         (λ n k z. whole-at area m Cipso n (s .1) (s .2) k refl z) (λ n k z. whole-at area m Basic n (s .1) (s .2) k refl z) h ew) e
     go (Refused n at) ew g e = let z : _≡_ {A = ℕ} 0 1 = cc in absurd (omega arith)
 
--- the places that the walk answers are those of a whole option 134 and of a whole option 130
+-- the places that the walk answers are those of a whole option 134 and of a whole option 130, check 4 left out or not
 pub sound-placed : (on : Bool) (area : List ℕ) (l b : Place) → walkOf on area ≡ Sound l b → placedIn Cipso l area × placedIn Basic b area
 unfolding walkOf
-sound-placed on area l b e = judged-placed on area (metOf area) Nowhere Nowhere l b (met-stand area) (tt, tt) e
+sound-placed on area l b e = judged-placed on false area (metOf area) Nowhere Nowhere l b (met-stand area) (tt, tt) e
+
+pub open-placed : (area : List ℕ) (l b : Place) → openWalk area ≡ Sound l b → placedIn Cipso l area × placedIn Basic b area
+unfolding openWalk
+open-placed area l b e = judged-placed true true area (metOf area) Nowhere Nowhere l b (met-stand area) (tt, tt) e
 
 -- where option 130 is not read, none is met
-judged-off : (ms : List Met) (label basic l b : Place) → judged false ms label basic ≡ Sound l b → basic ≡ b
+judged-off : (ms : List Met) (label basic l b : Place) → judged false false ms label basic ≡ Sound l b → basic ≡ b
 judged-off [] label basic l b e = cc
 judged-off (m ∷ ms) label basic l b e = go (m .kind) (m .size) label (λ x f. judged-off ms x basic l b f) e
   where
-    go : (k : Kind) (z : Size) (label : Place) → ((x : Place) → judged false ms x basic ≡ Sound l b → basic ≡ b)
-        → elim (judge false k z (m .at) label basic) as (λ _. Walk) [ Sound x y ↦ judged false ms x y | Refused n at ↦ Refused n at ] ≡ Sound l b → basic ≡ b
+    go : (k : Kind) (z : Size) (label : Place) → ((x : Place) → judged false false ms x basic ≡ Sound l b → basic ≡ b)
+        → elim (judge false false k z (m .at) label basic) as (λ _. Walk) [ Sound x y ↦ judged false false ms x y | Refused n at ↦ Refused n at ] ≡ Sound l b → basic ≡ b
     go k Bad label g e = let z : _≡_ {A = ℕ} 0 1 = cc in absurd (omega arith)
     go End (Whole n) label g e = g label e
     go NoOperation (Whole n) label g e = g label e
@@ -255,12 +263,40 @@ whole-in k l i o =
     let q = size-whole (drop i l) (o .size) (o .whole) in
     omega (arith, length-drop i l)
 
+-- an option of a kind that stands in the area: its length octet says how long it is
+pub record Inside (k : Kind) (area : List ℕ) (at : ℕ) : Type 0 where
+  pub inside : at + getD area (at + 1) 0 ≤ length area
+  pub least : 2 ≤ getD area (at + 1) 0
+  pub size : length (optionAt at area) ≡ getD area (at + 1) 0
+  pub first : kindOf (getD (optionAt at area) 0 0) ≡ k
+  pub second : getD (optionAt at area) 1 0 ≡ length (optionAt at area)
+
+pub whole-inside : (k : Kind) (area : List ℕ) (at : ℕ) → WholeAt k area at → Inside k area at
+whole-inside k area at o =
+    let i = whole-in k area at o in
+    let n : getD area (at + 1) 0 ≡ o .size = sym (getD-drop at area 1 0) ∙ whole-size (drop at area) (o .size) (o .whole) in
+    let h : getD area (at + 1) 0 ≤ length (drop at area) = simp length-drop (omega arith) in
+    let s : length (optionAt at area) ≡ getD area (at + 1) 0 = length-take-le (getD area (at + 1) 0) (drop at area) h in
+    record {
+      inside = omega arith;
+      least = omega arith;
+      size = s;
+      first = ap kindOf (getD-take (getD area (at + 1) 0) (drop at area) 0 0 (omega arith)) ∙ o .kind;
+      second = getD-take (getD area (at + 1) 0) (drop at area) 1 0 (omega arith) ∙ getD-drop at area 1 0 ∙ sym s;
+    }
+
+-- its slice
+pub slice-is : (at : ℕ) (area : List ℕ) → take (at + getD area (at + 1) 0 - at) (drop at area) ≡ optionAt at area
+slice-is at area =
+    let e : at + getD area (at + 1) 0 - at ≡ getD area (at + 1) 0 = omega arith in
+    ap (λ (k : ℕ). take k (drop at area)) e
+
 -- a place is what its two numbers say, and so is what is judged from it on
 place-is : (p : Place) → placeOf (isMet p) (octetOf p) ≡ p
 place-is Nowhere = refl
 place-is (At n) = refl
 
-pub judged-by : (on : Bool) (ms : List Met) (p q : Place) (a c : Bool) (x y : ℕ) → a ≡ isMet p → x ≡ octetOf p → c ≡ isMet q → y ≡ octetOf q
-    → judged on ms p q ≡ judged on ms (placeOf a x) (placeOf c y)
-judged-by on ms p q a c x y e f g h =
-    sym ((λ i. judged on ms (placeOf (e i) (f i)) (placeOf (g i) (h i))) ∙ (λ i. judged on ms (place-is p i) (place-is q i)))
+pub judged-by : (on lax : Bool) (ms : List Met) (p q : Place) (a c : Bool) (x y : ℕ) → a ≡ isMet p → x ≡ octetOf p → c ≡ isMet q → y ≡ octetOf q
+    → judged on lax ms p q ≡ judged on lax ms (placeOf a x) (placeOf c y)
+judged-by on lax ms p q a c x y e f g h =
+    sym ((λ i. judged on lax ms (placeOf (e i) (f i)) (placeOf (g i) (h i))) ∙ (λ i. judged on lax ms (place-is p i) (place-is q i)))

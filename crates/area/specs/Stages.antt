@@ -1,8 +1,8 @@
 -- A place as the walk carries it from turn to turn; no public contract names it.
 use Prim.Native.Nat.{ℕ}
 use mathlib.Core.Bool.{Bool, true, false, cond}
-use Rattle.turn.specs.declared.Place.{Place}
-use Rattle.turn.specs.declared.Place.the-variants.{Nowhere, At}
+use Rattle.area.specs.declared.Place.{Place}
+use Rattle.area.specs.declared.Place.the-variants.{Nowhere, At}
 
 -- a place in two numbers: whether it is met, and its octet, which is 0 where it is not
 abbrev pub isMet : Place → Bool

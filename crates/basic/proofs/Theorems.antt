@@ -7,7 +7,7 @@ use lib.ListN.{length, take, length-take}
 use lib.Seq.{getD-take}
 use borrow.Author.Tests.{leb-true, le-leb}
 use Rattle.label.proofs.Bools.{and-left, and-right, and-both}
-use Rattle.classification.specs.Levels.{isLevel, rankOf, atMost}
+use Rattle.basic.specs.Levels.{isLevel, rankOf, atMost}
 use Rattle.basic.specs.declared.Way.{Way}
 use Rattle.basic.specs.Settings.{waySound, passesWay}
 use Rattle.basic.specs.Theorems.{BasicPermitted, PassesExactly}

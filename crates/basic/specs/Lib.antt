@@ -1,2 +1,9 @@
+pub mod Levels
+pub mod LevelTheorems
+pub mod Option
+pub mod Alone
+pub mod Stages
+pub mod OptionTheorems
+pub mod Examples
 pub mod Settings
 pub mod Theorems

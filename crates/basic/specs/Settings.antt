@@ -4,7 +4,7 @@ use mathlib.Core.Bool.{Bool, true, false, cond, not, _&&_, _||_}
 use mathlib.Core.List.{List, [], _∷_}
 use lib.ListN.{take, drop, replicate}
 use lib.Dec.{leb, eqb}
-use Rattle.classification.specs.Levels.{atMost}
+use Rattle.basic.specs.Levels.{atMost}
 use Rattle.basic.specs.declared.Way.{Way}
 use Rattle.basic.specs.declared.Basic.{Basic}
 

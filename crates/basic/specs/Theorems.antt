@@ -4,7 +4,7 @@ use mathlib.Core.Path.{_≡_}
 use mathlib.Core.Bool.{true}
 use mathlib.Core.Logic.{_↔_}
 use lib.ListN.{length, getD}
-use Rattle.classification.specs.Levels.{isLevel, rankOf}
+use Rattle.basic.specs.Levels.{isLevel, rankOf}
 use Rattle.basic.specs.declared.Way.{Way}
 use Rattle.basic.specs.Settings.{waySound, passesWay}
 

@@ -1,8 +1,8 @@
 -- The words of the lines that `cases` writes: a decision, a label, an output, yes or no.
-use Prim.Native.Nat.{ℕ}
+use Prim.Native.Nat.{ℕ, _/_, _%_}
 use mathlib.Core.Bool.{Bool, cond}
 use mathlib.Core.List.{List, [], _∷_, _++_}
-use lib.ListN.{length}
+use lib.ListN.{length, getD}
 use lib.Dec.{eqb}
 use Rattle.label.specs.declared.Run.{Run}
 use Rattle.label.specs.declared.Label.{Label}
@@ -19,10 +19,35 @@ answerWord b = cond b (89 ∷ 69 ∷ 83 ∷ []) (78 ∷ 79 ∷ [])
 abbrev pub brokenWord : List ℕ
 brokenWord = 66 ∷ 82 ∷ 79 ∷ 75 ∷ 69 ∷ 78 ∷ []
 
--- low and high of each run
-unfoldable pub runsWords : List Run → List ℕ
-runsWords [] = []
-runsWords (r ∷ rs) = (next (r .low) ++ next (r .high)) ++ runsWords rs
+-- the words of each of a list, one after the other
+unfoldable pub each : {A : Type 0} → (A → List ℕ) → List A → List ℕ
+each words [] = []
+each words (x ∷ xs) = words x ++ each words xs
+
+-- low and high of a run
+abbrev pub runWords : Run → List ℕ
+runWords r = next (r .low) ++ next (r .high)
+
+abbrev pub runsWords : List Run → List ℕ
+runsWords = each runWords
+
+-- low and high of a run that is one number
+abbrev pub keyWords : ℕ → List ℕ
+keyWords key = next (key / 65536) ++ next (key % 65536)
+
+abbrev pub keysWords : List ℕ → List ℕ
+keysWords = each keyWords
+
+-- both levels of a pair
+abbrev pub pairWords : List ℕ → List ℕ
+pairWords p = next (getD p 0 0) ++ next (getD p 1 0)
+
+abbrev pub pairsWords : List (List ℕ) → List ℕ
+pairsWords = each pairWords
+
+-- numbers
+abbrev pub numbersWords : List ℕ → List ℕ
+numbersWords = each next
 
 -- domain, level, count, and the first `count` runs
 unfoldable pub labelWords : Label → List ℕ

@@ -1,24 +1,27 @@
 // Which function a case asks: its first octet names the entry. An entry takes its fields, calls its function and puts its line.
+use crate::decision_entries::ask_deliver;
+use crate::decision_entries::ask_forward;
+use crate::decision_entries::ask_wide_deliver;
+use crate::decision_entries::ask_wide_forward;
+use crate::field::take_octet;
+use crate::file_entries::ask_read_file;
+use crate::file_entries::ask_read_write;
+use crate::file_entries::ask_write;
+use crate::label_entries::ask_contains;
+use crate::label_entries::ask_renumber;
+use crate::label_entries::ask_within;
+use crate::memory_entries::ask_memory;
+use crate::message_entries::ask_build;
+use crate::message_entries::ask_message;
+use crate::option_entries::ask_bitmap;
+use crate::option_entries::ask_read;
+use crate::option_entries::ask_read_basic;
+use crate::option_entries::ask_spell;
+use crate::option_entries::ask_spell_permitted;
+use crate::option_entries::ask_write_basic;
 use crate::routing_entries::ask_decide;
-use case_decisions::ask_deliver;
-use case_decisions::ask_forward;
-use case_decisions::ask_wide_deliver;
-use case_decisions::ask_wide_forward;
-use case_fields::take_octet;
-use case_files::ask_read_file;
-use case_files::ask_read_write;
-use case_files::ask_write;
-use case_labels::ask_contains;
-use case_labels::ask_renumber;
-use case_labels::ask_reverse;
-use case_labels::ask_within;
+use crate::table_entries::ask_reverse;
 use case_lines::put_broken;
-use case_options::ask_bitmap;
-use case_options::ask_read;
-use case_options::ask_read_basic;
-use case_options::ask_spell;
-use case_options::ask_spell_permitted;
-use case_options::ask_write_basic;
 
 // The line of one case.
 pub fn answer(case: &[u8], out: &mut [u8], n: usize) -> usize {
@@ -44,8 +47,11 @@ pub fn answer(case: &[u8], out: &mut [u8], n: usize) -> usize {
         16 => ask_wide_deliver(case, at, out, n),
         17 => ask_spell_permitted(case, at, out, n),
         18 => ask_decide(case, at, out, n),
+        20 => ask_build(case, at, out, n),
+        21 => ask_message(case, at, out, n),
         22 => ask_reverse(case, at, out, n),
         24 => ask_bitmap(case, at, out, n),
+        25 => ask_memory(case, at, out, n),
         _ => put_broken(out, n),
     }
 }

@@ -5,8 +5,18 @@
 ghost use Prim.Native.Nat.{_≤_};
 ghost use lib.ListN.{length};
 
+mod box_record;
+mod decision_entries;
 mod entry;
+mod field;
+mod file_entries;
+mod label_entries;
+mod memory_entries;
+mod message_entries;
+mod option_entries;
+mod record;
 mod routing_entries;
+mod table_entries;
 
 use case_lines::put_broken;
 use entry::answer;
@@ -22,9 +32,9 @@ use text::put_octet;
 // Two octets of length and the longest case that they can lead, and as much again, so that what is moved to the front is less than what is read.
 const INPUT: usize = 131072;
 // How much of the output waits at a time.
-const OUTPUT: usize = 262144;
-// More octets than a line has: an output of 65,535 octets in hex has 131,070.
-const LINE: usize = 131200;
+const OUTPUT: usize = 524288;
+// More octets than a line has: a case of entry 25 has at most 65,535 calls, each with four octets of the line, and 64 addresses behind them.
+const LINE: usize = 263168;
 
 // The line of a case of `size` octets in the window, or BROKEN where it is cut off. What waits is written where a line might not fit.
 fn answer_case(input: &[u8], out: &mut [u8], place: Place, size: usize) -> Place

@@ -2,26 +2,25 @@
 ghost use mathlib.Core.Path.{_≡_};
 ghost use Prim.Native.Nat.{_≤_};
 ghost use lib.ListN.{length, take};
-ghost use Rattle.routing.specs.Routing.{routingOf, routedOutput};
-ghost use Rattle.routing.specs.Stages.{routingFor};
-use case_fields::LONGEST;
-use case_fields::octets_of;
+ghost use Rattle.route_decide.specs.Routing.{routingOf, routedOutput};
+ghost use Rattle.route_decide.specs.Stages.{routingFor};
+use crate::box_record::TakenDatagram;
+use crate::box_record::TakenPorts;
+use crate::box_record::TakenRoutes;
+use crate::box_record::TakenTables;
+use crate::box_record::take_datagram;
+use crate::box_record::take_ports;
+use crate::box_record::take_routes;
+use crate::box_record::take_tables;
+use crate::field::octets_of;
+use case_lines::LONGEST;
 use case_lines::put_broken;
-use case_lines::put_decision;
-use case_lines::put_lent;
-use case_routes::TakenDatagram;
-use case_routes::TakenPorts;
-use case_routes::TakenRoutes;
-use case_routes::TakenTables;
-use case_routes::take_datagram;
-use case_routes::take_ports;
-use case_routes::take_routes;
-use case_routes::take_tables;
+use case_lines::put_decided;
 use decision::Decision;
 use decision::Facts;
 use port::Port;
-use routing::decide;
-use tables::Tables;
+use route_decide::decide;
+use table_choose::Tables;
 
 // Lends the first `n` of the ports. No function that makes a slice of a local array of structs is covered, so this one is proved by a walk of its MIR, by hand,
 // and has no more in it than it must.
@@ -60,11 +59,11 @@ pub fn ask_decide(case: &[u8], at: usize, out: &mut [u8], n: usize) -> usize {
     if datagram.next != case.len() {
         return put_broken(out, n);
     }
-    put_decided(case, ports, tables, routes, datagram, out, n)
+    put_routed(case, ports, tables, routes, datagram, out, n)
 }
 
 // What the box decides, and the output.
-fn put_decided(
+fn put_routed(
     case: &[u8],
     p: TakenPorts,
     t: TakenTables,
@@ -79,8 +78,7 @@ fn put_decided(
     let room = d.room;
     let mut space = [d.fill; LONGEST];
     let decision = decide_taken(p, t, r, d, area, &mut space[0..room]);
-    let decided = put_decision(out, n, decision);
-    put_lent(out, decided, &space, room)
+    put_decided(out, n, decision, &space, room)
 }
 
 // Lends the ports and the routes that are used.

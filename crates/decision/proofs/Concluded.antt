@@ -9,7 +9,7 @@ use lib.ListN.{take}
 use borrow.Author.Tests.{ne-eqb}
 use Rattle.label.specs.declared.Label.{Label}
 use Rattle.label.specs.Label.{zeroLabel}
-use Rattle.keys.specs.Keys.{keyRuns, labelFrom}
+use Rattle.label_keys.specs.Keys.{keyRuns, labelFrom}
 use Rattle.decision.specs.declared.Decision.{Decision}
 use Rattle.decision.specs.declared.Verdict.{Verdict}
 use Rattle.decision.specs.Decision.{Refusal, refused, done}

@@ -1,3 +1,4 @@
 pub mod Decision
 pub mod Verdict
 pub mod Stages
+pub mod Theorems

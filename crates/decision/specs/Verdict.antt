@@ -5,7 +5,7 @@ use mathlib.Core.Option.{Option, none, some}
 use Prim.Native.Nat.{ℕ}
 use lib.Dec.{eqb}
 use lib.ListN.{take}
-use Rattle.keys.specs.Keys.{keyRuns, labelFrom}
+use Rattle.label_keys.specs.Keys.{keyRuns, labelFrom}
 use Rattle.decision.specs.declared.Decision.{Decision}
 use Rattle.decision.specs.declared.Verdict.{Verdict}
 use Rattle.decision.specs.Decision.{Refusal, refused, done}

@@ -1,7 +1,7 @@
 // What is decided of a datagram, what is decided on the way to it, and when the report of a refusal stays silent (document 01, "The order of checks";
 // document 02, Wish 2).
-use keys::to_label;
 use label::Label;
+use label_keys::to_label;
 ghost use mathlib.Core.Path.{_≡_};
 ghost use mathlib.Core.Bool.{cond};
 ghost use lib.Dec.{eqb};
@@ -65,6 +65,47 @@ pub fn conclude(verdict: Verdict, domain: u32, facts: Facts, count: usize, keys:
     }
 }
 
+// ICMP types (RFC 792): destination unreachable, and parameter problem.
+const UNREACHABLE: u8 = 3;
+
+const PARAMETER_PROBLEM: u8 = 12;
+
+// Codes of "unreachable" (RFC 1812, section 5.2.7.1): the network, and the host, is prohibited by the administration.
+pub const NETWORK_PROHIBITED: u8 = 9;
+
+pub const HOST_PROHIBITED: u8 = 10;
+
+// The octets of a header before its options.
+pub const HEADER_OCTETS: usize = 20;
+
+// A check that applies, and nothing is reported: type, code and pointer are 0.
+pub fn silent(number: u8) -> Verdict
+    ensures { λ r. ⌜ r ≡ stopped number 0 0 0 ⌝ }
+{
+    stop(number, 0, 0, 0)
+}
+
+// A check that blames an octet of the header.
+pub fn faulty(number: u8, pointer: u8) -> Verdict
+    ensures { λ r. ⌜ r ≡ stopped number 12 0 pointer ⌝ }
+{
+    stop(number, PARAMETER_PROBLEM, 0, pointer)
+}
+
+// A check that misses an option: its type stands for the pointer.
+pub fn missing(number: u8, option: u8) -> Verdict
+    ensures { λ r. ⌜ r ≡ stopped number 12 1 option ⌝ }
+{
+    stop(number, PARAMETER_PROBLEM, 1, option)
+}
+
+// A check that the datagram may not pass, with the code.
+pub fn barred(number: u8, code: u8) -> Verdict
+    ensures { λ r. ⌜ r ≡ stopped number 3 code 0 ⌝ }
+{
+    stop(number, UNREACHABLE, code, 0)
+}
+
 // The first check that applies.
 pub fn stop(number: u8, kind: u8, code: u8, pointer: u8) -> Verdict
     ensures { λ r. ⌜ r ≡ stopped number kind code pointer ⌝ }
@@ -108,7 +149,7 @@ fn report(verdict: Verdict, quiet: bool) -> Verdict
         return go_on(verdict.level, verdict.count);
     }
     if quiet {
-        return stop(verdict.number, 0, 0, 0);
+        return silent(verdict.number);
     }
     stop(verdict.number, verdict.kind, verdict.code, verdict.pointer)
 }

@@ -14,25 +14,25 @@ use Rattle.option.specs.Spelling.{spelledOf}
 use Rattle.option.specs.Theorems.{Spells}
 use Rattle.option.proofs.Meaning.{parts}
 use Rattle.option.proofs.OneSpelling.{one-spelling}
-use Rattle.kinds.specs.declared.Kind.the-variants.{Cipso}
-use Rattle.turn.specs.declared.Place.{Place}
-use Rattle.turn.specs.declared.Place.the-variants.{Nowhere, At}
-use Rattle.turn.specs.declared.Walk.{Walk}
-use Rattle.turn.specs.declared.Walk.the-variants.{Sound}
-use Rattle.kinds.specs.Kinds.{kindOf}
+use Rattle.area.specs.declared.Kind.the-variants.{Cipso}
+use Rattle.area.specs.declared.Place.{Place}
+use Rattle.area.specs.declared.Place.the-variants.{Nowhere, At}
+use Rattle.area.specs.declared.Walk.{Walk}
+use Rattle.area.specs.declared.Walk.the-variants.{Sound}
+use Rattle.area.specs.Kinds.{kindOf}
 use Rattle.area.specs.Area.{metOf, walkOf, octetsAt}
-use Rattle.leaving.specs.Kept.{keptOf, roundUp, leavingOf}
-use Rattle.leaving.proofs.Again.{Starts, Again, free-nowhere, basicFrom, kept-again, front-walk, front-kept}
+use Rattle.area_leaving.specs.Kept.{keptOf, roundUp, leavingOf}
+use Rattle.area_leaving.proofs.Again.{Starts, Again, free-nowhere, basicFrom, kept-again, front-walk, front-kept}
 use Rattle.port.specs.declared.Port.{Port}
 use Rattle.port.specs.Port.{portSound}
 use Rattle.decision.specs.declared.Decision.{Decision}
-use Rattle.arrival.specs.Checks.{walkAt, basicIn, optionAt, arrivingBasic, arrivingLabel}
+use Rattle.arrive.specs.Checks.{walkAt, basicIn, optionAt, arrivingBasic, arrivingLabel}
 use Rattle.decision.specs.Decision.{done}
-use Rattle.arrival.proofs.Arrival.{arrival-held}
-use Rattle.forwarding.specs.Crossing.{Forwarding, crossing, leavingLabel}
-use Rattle.forwarding.specs.Forward.{forwardOf, outputOf}
-use Rattle.forwarding.proofs.Crossings.{label-stays}
-use Rattle.forwarding.proofs.Forwards.{Passed, forward-passed, passed-formed, forward-done, leaving-spelled, kept-fits}
+use Rattle.arrive.proofs.Arrival.{arrival-held}
+use Rattle.forward_rules.specs.Crossing.{Forwarding, crossing, leavingLabel}
+use Rattle.forward_rules.specs.Forward.{forwardOf, outputOf}
+use Rattle.forward_rules.proofs.Crossings.{label-stays}
+use Rattle.forward_rules.proofs.Forwards.{Passed, forward-passed, passed-formed, forward-done, leaving-spelled, kept-fits}
 use Rattle.demands.specs.Demands.{LabelOf, own}
 use Rattle.demands.specs.Guards.{Counts, Reads, leavingArea, ReadsBare}
 use Rattle.demands.proofs.Basic.{basic-kept, there, passed-walk, passed-switch, same-switch}

@@ -13,16 +13,16 @@ use Rattle.label.specs.Label.{used, labelOf, zeroLabel, emptyOf, wellFormed, me
 use Rattle.option.specs.Option.{domainOf}
 use Rattle.option.specs.declared.Spellings.{Spellings}
 use Rattle.option.specs.Spelling.{spelledOf}
-use Rattle.reading.specs.declared.Reading.{Reading}
-use Rattle.reading.specs.Reading.{Check, check, notRead, checkedReading, framed, tagChecks, labelIn, readingBy, readingOf}
-use Rattle.forms.specs.Spelled.{lacking}
-use Rattle.spelling.specs.Spelling.{spellingNumber, spellingAnswer, spellingOut}
-use Rattle.spelling.proofs.Answers.{answer-refused, out-refused}
+use Rattle.option_read.specs.declared.Reading.{Reading}
+use Rattle.option_read.specs.Reading.{Check, check, notRead, checkedReading, framed, tagChecks, labelIn, readingBy, readingOf}
+use Rattle.option_form.specs.Spelled.{lacking}
+use Rattle.option_spell.specs.Spelling.{spellingNumber, spellingAnswer, spellingOut}
+use Rattle.option_spell.proofs.Answers.{answer-refused, out-refused}
 use Rattle.table.specs.declared.Table.{Table}
-use Rattle.levels.specs.declared.Partner.{Partner}
-use Rattle.levels.specs.declared.Partner.the-variants.{Level, Missing}
+use Rattle.table_levels.specs.declared.Partner.{Partner}
+use Rattle.table_levels.specs.declared.Partner.the-variants.{Level, Missing}
 use Rattle.table.specs.Table.{usedRows, tableSound}
-use Rattle.levels.specs.Levels.{partnerOf, known}
+use Rattle.table_levels.specs.Levels.{partnerOf, known}
 use Rattle.table.specs.Numbers.{numbered}
 use Rattle.renumber.specs.Renumber as renumbers
 use Rattle.renumber.specs.Renumber.{imageRuns, whenNumbered, renumberedOf}

@@ -10,31 +10,32 @@ use lib.ListN.{getD}
 use borrow.Author.Tests.{eqb-true}
 use Rattle.label.proofs.Bools.{never, and-right}
 use Rattle.option.specs.Option.{Octets}
-use Rattle.basic_option.specs.declared.BasicReading.{BasicReading}
+use Rattle.basic.specs.declared.BasicReading.{BasicReading}
 use Rattle.basic.specs.declared.Way.{Way}
-use Rattle.basic_option.specs.Option.{BasicMeans}
-use Rattle.basic_option.specs.Alone.{basicReading}
+use Rattle.basic.specs.Option.{BasicMeans}
+use Rattle.basic.specs.Alone.{basicReading}
 use Rattle.basic.specs.Settings.{waySound, passesWay}
 use Rattle.basic.specs.Theorems.{BasicPermitted}
 use Rattle.basic.proofs.Settings.{on-ways}
-use Rattle.basic_option.proofs.Theorems.{reads-basic}
+use Rattle.basic.proofs.OptionTheorems.{reads-basic}
 use Rattle.basic.proofs.Theorems.{passes-exactly}
-use Rattle.turn.specs.declared.Place.{Place}
-use Rattle.turn.specs.declared.Place.the-variants.{Nowhere, At}
-use Rattle.turn.specs.declared.Walk.{Walk}
-use Rattle.turn.specs.declared.Walk.the-variants.{Sound, Refused}
+use Rattle.area.specs.declared.Place.{Place}
+use Rattle.area.specs.declared.Place.the-variants.{Nowhere, At}
+use Rattle.area.specs.declared.Walk.{Walk}
+use Rattle.area.specs.declared.Walk.the-variants.{Sound, Refused}
 use Rattle.area.specs.Area.{walkOf, octetsAt}
 use Rattle.area.proofs.Laws.{off-nowhere}
-use Rattle.leaving.specs.Kept.{keptOf}
-use Rattle.leaving.proofs.Again.{basicFrom, basic-of-kept}
+use Rattle.area_leaving.specs.Kept.{keptOf}
+use Rattle.area_leaving.proofs.Again.{basicFrom, basic-of-kept}
 use Rattle.port.specs.declared.Port.{Port}
 use Rattle.port.specs.Port.{portSound}
 use Rattle.port.proofs.Laws.{sound}
-use Rattle.arrival.specs.Checks.{faulty, barred, when, firstOf, NoneApplies, walkAt, walkRefusal, walkCheck, basicIn, optionAt, badBasicBy, badBasicCheck, arrivingBasic, missingBasicBy, missingBasicCheck, basicPasses, basicRangeCheck, arrivalChecks}
-use Rattle.arrival.proofs.First.{first-none, when-none, not-false-yes}
-use Rattle.arrival.proofs.Arrival.{octets-part, off-none}
-use Rattle.forwarding.specs.Crossing.{Forwarding, leavingBasicCheck}
-use Rattle.forwarding.proofs.Forwards.{Passed}
+use Rattle.arrive.specs.Checks.{faulty, barred, when, firstOf, NoneApplies, walkAt, walkRefusal, walkCheck, basicIn, optionAt, badBasicBy, badBasicCheck, arrivingBasic, missingBasicBy, missingBasicCheck, basicPasses, basicRangeCheck, arrivalChecks}
+use Rattle.arrive.proofs.First.{first-none, when-none, not-false-yes}
+use Rattle.option.proofs.Octets.{octets-part}
+use Rattle.arrive.proofs.Arrival.{off-none}
+use Rattle.forward_rules.specs.Crossing.{Forwarding, leavingBasicCheck}
+use Rattle.forward_rules.proofs.Forwards.{Passed}
 use Rattle.demands.specs.Demands.{BasicArrives, unread, read, BasicPasses, neither, both}
 
 pub octets-at : (xs : List ℕ) → Octets xs → (i : ℕ) → getD xs i 0 < 256

@@ -3,12 +3,12 @@ use mathlib.Core.Path.{_≡_, sym, _∙_, ap}
 use mathlib.Core.List.{List, _∷_}
 use mathlib.Core.Option.{Option, some}
 use Rattle.decision.specs.Decision.{Refusal}
-use Rattle.arrival.specs.Checks.{firstOf}
-use Rattle.delivery.specs.Delivery.{deliverChecks}
-use Rattle.arrival.proofs.First.{first-append, none-first}
-use Rattle.delivery.proofs.Deliveries.{deliver-refused}
-use Rattle.forwarding.specs.Forward.{forwardChecks}
-use Rattle.forwarding.proofs.Forwards.{forward-refused}
+use Rattle.arrive.specs.Checks.{firstOf}
+use Rattle.deliver.specs.Delivery.{deliverChecks}
+use Rattle.arrive.proofs.First.{first-append, none-first}
+use Rattle.deliver.proofs.Deliveries.{deliver-refused}
+use Rattle.forward_rules.specs.Forward.{forwardChecks}
+use Rattle.forward_rules.proofs.Forwards.{forward-refused}
 use Rattle.demands.specs.Demands.{FirstIs, Demand1}
 
 pub first-is : (cs : List (Option Refusal)) (x : Refusal) → FirstIs cs x → firstOf cs ≡ some x

@@ -14,3 +14,4 @@ pub mod Guards
 pub mod Renumbering
 pub mod Alone
 pub mod Rules
+pub mod Crosses

@@ -8,10 +8,10 @@ use Rattle.port.specs.declared.Port.{Port}
 use Rattle.renumber.specs.Renumber as renumbers
 use Rattle.renumber.specs.Renumber.{renumberedOf}
 use Rattle.renumber.proofs.Theorems.{renumbering, keeps-order}
-use Rattle.arrival.specs.Checks.{arrivingLabel}
-use Rattle.arrival.proofs.Arrival.{in-range-held}
-use Rattle.forwarding.specs.Crossing.{Forwarding, sameDomain, crossing, leavingLabel}
-use Rattle.forwarding.specs.Forward.{forwardOf}
+use Rattle.arrive.specs.Checks.{arrivingLabel}
+use Rattle.arrive.proofs.Arrival.{in-range-held}
+use Rattle.forward_rules.specs.Crossing.{Forwarding, sameDomain, crossing, leavingLabel}
+use Rattle.forward_rules.specs.Forward.{forwardOf}
 use Rattle.demands.specs.Demands.{Forwards}
 use Rattle.demands.proofs.Second.{passed-forwards}
 use Rattle.demands.proofs.Again.{p, s, label-is}

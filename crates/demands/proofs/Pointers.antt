@@ -13,28 +13,28 @@ use Rattle.label.specs.declared.Label.{Label}
 use Rattle.label.specs.Label.{inRange}
 use Rattle.label.proofs.Bools.{less-or}
 use Rattle.option.specs.Option.{domainOf, tagOf}
-use Rattle.reading.specs.Reading.{Check, check, notRead, categoriesIn, badPlace, tagChecks, labelIn, readingBy, readingFor}
-use Rattle.reading.specs.Reading as reading
-use Rattle.reading.proofs.Checks.{for-port, stops7}
-use Rattle.turn.specs.declared.Place.{Place}
-use Rattle.turn.specs.declared.Place.the-variants.{Nowhere, At}
-use Rattle.turn.specs.declared.Walk.{Walk}
-use Rattle.turn.specs.declared.Walk.the-variants.{Sound, Refused}
+use Rattle.option_read.specs.Reading.{Check, check, notRead, categoriesIn, badPlace, tagChecks, labelIn, readingBy, readingFor}
+use Rattle.option_read.specs.Reading as reading
+use Rattle.option_read.proofs.Checks.{for-port, stops7}
+use Rattle.area.specs.declared.Place.{Place}
+use Rattle.area.specs.declared.Place.the-variants.{Nowhere, At}
+use Rattle.area.specs.declared.Walk.{Walk}
+use Rattle.area.specs.declared.Walk.the-variants.{Sound, Refused}
 use Rattle.area.specs.Area.{badArea, walkOf}
-use Rattle.kinds.specs.declared.Kind.the-variants.{Basic}
-use Rattle.area.proofs.Laws.{area-refused, sound-placed}
-use Rattle.basic_option.specs.Alone.{basicReading}
-use Rattle.leaving.specs.Kept.{keptOf}
+use Rattle.area.specs.declared.Kind.the-variants.{Basic}
+use Rattle.area.proofs.Laws.{area-refused, sound-placed, whole-inside}
+use Rattle.basic.specs.Alone.{basicReading}
+use Rattle.area_leaving.specs.Kept.{keptOf}
 use Rattle.port.specs.declared.Port.{Port}
 use Rattle.port.specs.Port.{portSound, hostSound, lowestOut, highestOut}
-use Rattle.keys.specs.Range.{setInRange}
+use Rattle.label_keys.specs.Range.{setInRange}
 use Rattle.decision.specs.Decision.{Refusal, silenced, decided}
-use Rattle.arrival.specs.Checks.{silent, faulty, barred, when, firstOf, walkAt, walkRefusal, walkCheck, placeIn, basicIn, optionAt, requiredBy, requiredCheck, optionBy, optionCheck, badBasicBy, badBasicCheck, arrivingBasic, missingBasicBy, missingBasicCheck, basicPasses, basicRangeCheck, arrivingLabel, rangeCheck}
-use Rattle.delivery.specs.Delivery.{Delivery, deliverySizes, deliveryRecords, hostCheck, deliverChecks, deliverOf}
-use Rattle.arrival.proofs.Arrival.{placed-framed, whole-inside}
-use Rattle.forwarding.specs.Crossing.{noRoom, Forwarding, sizes, records, leavingBasicCheck, crossing, stays, hasNumbers, numberCheck, leavingLevel, leavingRuns, leavingCheck, leavingOption, spellingCheck}
-use Rattle.forwarding.specs.Forward.{forwardChecks, forwardOf}
-use Rattle.forwarding.proofs.Forwards.{recordsTest}
+use Rattle.arrive.specs.Checks.{silent, faulty, barred, when, firstOf, walkAt, walkRefusal, walkCheck, placeIn, basicIn, optionAt, requiredBy, requiredCheck, optionBy, optionCheck, badBasicBy, badBasicCheck, arrivingBasic, missingBasicBy, missingBasicCheck, basicPasses, basicRangeCheck, arrivingLabel, rangeCheck}
+use Rattle.deliver.specs.Delivery.{Delivery, deliverySizes, deliveryRecords, hostCheck, deliverChecks, deliverOf}
+use Rattle.arrive.proofs.Arrival.{placed-framed}
+use Rattle.forward_rules.specs.Crossing.{noRoom, Forwarding, sizes, records, leavingBasicCheck, crossing, stays, hasNumbers, numberCheck, leavingLevel, leavingRuns, leavingCheck, leavingOption, spellingCheck}
+use Rattle.forward_rules.specs.Forward.{forwardChecks, forwardOf}
+use Rattle.forward_rules.proofs.Forwards.{recordsTest}
 use Rattle.demands.specs.Guards.{PointsInto}
 
 -- Reading points into its option.

@@ -13,41 +13,40 @@ use borrow.Author.Tests.{eqb-true}
 use Rattle.label.specs.declared.Label.{Label}
 use Rattle.option.specs.Option.{domainOf, isEven}
 use Rattle.option.specs.Index.{firstTrue, pairsOf}
-use Rattle.reading.specs.Reading.{Check, check, notRead, badIn, countIn, badPlace, tagChecks, labelIn, readingBy, readingFor}
-use Rattle.reading.specs.Reading as reading
-use Rattle.reading.specs.declared.Reading.{Reading}
-use Rattle.kinds.specs.declared.Kind.{Kind}
-use Rattle.kinds.specs.declared.Kind.the-variants.{End, NoOperation, Basic, Extended, Cipso, Other}
-use Rattle.kinds.specs.declared.Size.{Size}
-use Rattle.kinds.specs.declared.Size.the-variants.{Whole, Bad}
-use Rattle.turn.specs.declared.Place.{Place}
-use Rattle.turn.specs.declared.Place.the-variants.{Nowhere, At}
-use Rattle.kinds.specs.Kinds.{kindOf}
+use Rattle.option_read.specs.Reading.{Check, check, notRead, badIn, countIn, badPlace, tagChecks, labelIn, readingBy, readingFor}
+use Rattle.option_read.specs.Reading as reading
+use Rattle.option_read.specs.declared.Reading.{Reading}
+use Rattle.area.specs.declared.Kind.{Kind}
+use Rattle.area.specs.declared.Kind.the-variants.{End, NoOperation, Basic, Extended, Cipso, Other}
+use Rattle.area.specs.declared.Size.{Size}
+use Rattle.area.specs.declared.Size.the-variants.{Whole, Bad}
+use Rattle.area.specs.declared.Place.{Place}
+use Rattle.area.specs.declared.Place.the-variants.{Nowhere, At}
+use Rattle.area.specs.Kinds.{kindOf}
 use Rattle.area.specs.Area.{Met, metOf, judged, walkOf, octetsAt, WholeAt}
-use Rattle.kinds.proofs.Laws.{cipso-octet, basic-octet}
-use Rattle.area.proofs.Laws.{sound-placed}
-use Rattle.basic_option.specs.Option.{basicLevel, basicFlags, basicValid}
-use Rattle.basic_option.specs.Alone.{basicFound, basicBad, basicReading}
-use Rattle.leaving.specs.Kept.{keptOf}
+use Rattle.area.proofs.KindLaws.{cipso-octet, basic-octet}
+use Rattle.area.proofs.Laws.{sound-placed, whole-inside}
+use Rattle.basic.specs.Option.{basicLevel, basicFlags, basicValid}
+use Rattle.basic.specs.Alone.{basicFound, basicBad, basicReading}
+use Rattle.area_leaving.specs.Kept.{keptOf}
 use Rattle.port.specs.declared.Port.{Port}
 use Rattle.decision.specs.Decision.{Refusal, silenced, decided}
-use Rattle.arrival.specs.Checks.{faulty, when, firstOf, walkAt, walkRefusal, walkCheck, placeIn, basicIn, optionAt, requiredBy, requiredCheck, optionBy, optionCheck, badBasicBy, badBasicCheck, arrivingBasic, missingBasicBy, missingBasicCheck, basicRangeCheck, rangeCheck}
-use Rattle.delivery.specs.Delivery.{Delivery, deliverySizes, deliveryRecords, hostCheck, deliverChecks, deliverOf}
-use Rattle.arrival.proofs.First.{orElse, first-append}
-use Rattle.arrival.proofs.Arrival.{whole-inside}
-use Rattle.forwarding.specs.Crossing.{Forwarding, sizes, records, leavingBasicCheck, crossing, numberCheck, leavingCheck, spellingCheck}
-use Rattle.forwarding.specs.Forward.{forwardChecks, forwardOf}
+use Rattle.arrive.specs.Checks.{faulty, when, firstOf, walkAt, walkRefusal, walkCheck, placeIn, basicIn, optionAt, requiredBy, requiredCheck, optionBy, optionCheck, badBasicBy, badBasicCheck, arrivingBasic, missingBasicBy, missingBasicCheck, basicRangeCheck, rangeCheck}
+use Rattle.deliver.specs.Delivery.{Delivery, deliverySizes, deliveryRecords, hostCheck, deliverChecks, deliverOf}
+use Rattle.arrive.proofs.First.{orElse, first-append}
+use Rattle.forward_rules.specs.Crossing.{Forwarding, sizes, records, leavingBasicCheck, crossing, numberCheck, leavingCheck, spellingCheck}
+use Rattle.forward_rules.specs.Forward.{forwardChecks, forwardOf}
 use Rattle.demands.specs.Rules.{Rule, rule, isAt, octetAt, labelRules, rangeRule, arrivingBasicRule, forwardInputs, deliverInputs, leavingBasicRule, crossingRules, hostRules, byOption, forwardTests, deliverTests, NoRule, FirstRule, reportOf, Follows, passes, stops, StandsAt, BadAt, OrderOfChecks}
 use Rattle.demands.proofs.Second.{forwarded-passes, delivered-passes}
 
 -- A line as a check.
-abbrev asCheck : Rule → Option Refusal
+abbrev pub asCheck : Rule → Option Refusal
 asCheck r = when (r .applies) (reportOf r)
 
-abbrev checks : List Rule → List (Option Refusal)
+abbrev pub checks : List Rule → List (Option Refusal)
 checks rs = map asCheck rs
 
-first-cons : (c : Option Refusal) (cs : List (Option Refusal)) → firstOf (c ∷ cs) ≡ orElse c (firstOf cs)
+pub first-cons : (c : Option Refusal) (cs : List (Option Refusal)) → firstOf (c ∷ cs) ≡ orElse c (firstOf cs)
 first-cons none cs = refl
 first-cons (some r) cs = refl
 
@@ -69,22 +68,22 @@ first-stretch : (xs ys : List Rule) (d : Option Refusal) (ds : List (Option Refu
 first-stretch xs ys d ds e f = checks-append xs ys ∙ (λ i. orElse (e i) (f i)) ∙ sym (first-cons d ds)
 
 -- 3, 4 and 5.
-abbrev threeToFive : List ℕ
+abbrev pub threeToFive : List ℕ
 threeToFive = 3 ∷ 4 ∷ 5 ∷ []
 
 -- what was met before an option that is neither
 none-before : (on : Bool) (ms : List Met) (label basic : Place)
-    → ((l b : Place) → firstOf (checks (byOption threeToFive on (isAt l) (isAt b) ms)) ≡ walkRefusal (judged on ms l b))
-    → firstOf (checks (byOption threeToFive on (isAt label || false) (isAt basic || false) ms)) ≡ walkRefusal (judged on ms label basic)
+    → ((l b : Place) → firstOf (checks (byOption threeToFive on (isAt l) (isAt b) ms)) ≡ walkRefusal (judged on false ms l b))
+    → firstOf (checks (byOption threeToFive on (isAt label || false) (isAt basic || false) ms)) ≡ walkRefusal (judged on false ms label basic)
 none-before on ms Nowhere Nowhere g = g Nowhere Nowhere
 none-before on ms Nowhere (At q) g = g Nowhere (At q)
 none-before on ms (At p) Nowhere g = g (At p) Nowhere
 none-before on ms (At p) (At q) g = g (At p) (At q)
 
 walk-by : (on : Bool) (k : Kind) (z : Size) (at : ℕ) (ms : List Met) (label basic : Place)
-    → ((l b : Place) → firstOf (checks (byOption threeToFive on (isAt l) (isAt b) ms)) ≡ walkRefusal (judged on ms l b))
+    → ((l b : Place) → firstOf (checks (byOption threeToFive on (isAt l) (isAt b) ms)) ≡ walkRefusal (judged on false ms l b))
     → firstOf (checks (byOption threeToFive on (isAt label) (isAt basic) (record { kind = k; at = at; size = z } ∷ ms)))
-    ≡ walkRefusal (judged on (record { kind = k; at = at; size = z } ∷ ms) label basic)
+    ≡ walkRefusal (judged on false (record { kind = k; at = at; size = z } ∷ ms) label basic)
 walk-by on k Bad at ms label basic g = refl
 walk-by on End (Whole n) at ms label basic g = none-before on ms label basic g
 walk-by on NoOperation (Whole n) at ms label basic g = none-before on ms label basic g
@@ -98,7 +97,7 @@ walk-by on Cipso (Whole n) at ms Nowhere (At q) g = g (At at) (At q)
 walk-by on Cipso (Whole n) at ms (At p) basic g = refl
 walk-by on Other (Whole n) at ms label basic g = none-before on ms label basic g
 
-walk-rules : (on : Bool) (ms : List Met) (label basic : Place) → firstOf (checks (byOption threeToFive on (isAt label) (isAt basic) ms)) ≡ walkRefusal (judged on ms label basic)
+walk-rules : (on : Bool) (ms : List Met) (label basic : Place) → firstOf (checks (byOption threeToFive on (isAt label) (isAt basic) ms)) ≡ walkRefusal (judged on false ms label basic)
 walk-rules on [] label basic = refl
 walk-rules on (m ∷ ms) label basic = walk-by on (m .kind) (m .size) (m .at) ms label basic (λ l b. walk-rules on ms l b)
 
@@ -158,7 +157,7 @@ basic-rules (At p) on area rest ds e =
     (ap (λ (b : Bool). when (not b) (faulty 19 p)) (sym (valid-number (optionAt p area)))) e
 
 -- every line that is tested, after the first two
-all-rules : (ts : List Rule) (area : List ℕ) (port : Port) (rest : List Rule) (ds : List (Option Refusal)) → firstOf (checks rest) ≡ firstOf ds
+pub all-rules : (ts : List Rule) (area : List ℕ) (port : Port) (rest : List Rule) (ds : List (Option Refusal)) → firstOf (checks rest) ≡ firstOf ds
     → let q = placeIn (walkAt port area) in
     let b = basicIn (walkAt port area) in
     firstOf (checks (ts ++ (byOption threeToFive (port .basic .on) false false (metOf area)
@@ -194,10 +193,10 @@ deliver-rules d =
     ∙ sym (first-append (deliverySizes d ∷ deliveryRecords d ∷ []) (walkCheck (d .port) (d .area) ∷ requiredCheck (d .port) (d .area) ∷ optionCheck (d .port) (d .area) ∷ badBasicCheck (d .port) (d .area) ∷ missingBasicCheck (d .port) (d .area) ∷ ds))
 
 -- The first line that applies, or none.
-abbrev Found : List Rule → Option Refusal → Type 0
+abbrev pub Found : List Rule → Option Refusal → Type 0
 Found rules o = (NoRule rules × (o ≡ none)) ⊎ ((r : Rule) × FirstRule rules r × (o ≡ some (reportOf r)))
 
-found : (rules : List Rule) → Found rules (firstOf (checks rules))
+pub found : (rules : List Rule) → Found rules (firstOf (checks rules))
 found [] = inl (tt, refl)
 found (r ∷ rules) = go (r .applies) refl (found rules)
   where
@@ -207,7 +206,7 @@ found (r ∷ rules) = go (r .applies) refl (found rules)
     go false e (inr h) =
         inr (h .0, record { before = r ∷ h .1 .before; after = h .1 .after; order = ap (λ (x : List Rule). r ∷ x) (h .1 .order); passed = (e, h .1 .passed); applies = h .1 .applies }, h .2)
 
-follows : (rules : List Rule) (quiet : Bool) (o : Option Refusal) (l : Label) (n : ℕ) → Found rules o → Follows rules quiet (decided quiet o l n)
+pub follows : (rules : List Rule) (quiet : Bool) (o : Option Refusal) (l : Label) (n : ℕ) → Found rules o → Follows rules quiet (decided quiet o l n)
 follows rules quiet o l n (inl h) = passes (h .0) (ap (λ (x : Option Refusal). decided quiet x l n .number) (h .1))
 follows rules quiet o l n (inr h) = stops (h .0) (h .1) (ap (λ (x : Option Refusal). decided quiet x l n) (h .2))
 

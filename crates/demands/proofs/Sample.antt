@@ -17,22 +17,22 @@ use Rattle.option.specs.Reading.{pieces}
 use Rattle.option.specs.Permitted.{usual}
 use Rattle.option.specs.Spelling.{leastForm, formFor, bodyFor, spelledBy, spellingOf, spelledOf}
 use Rattle.option.proofs.OneSpelling.{one-spelling}
-use Rattle.reading.specs.Reading.{readingOf, readingFor, readingBy, tagChecks, labelIn}
-use Rattle.reading.proofs.Theorems.{reads}
+use Rattle.option_read.specs.Reading.{readingOf, readingFor, readingBy, tagChecks, labelIn}
+use Rattle.option_read.proofs.Theorems.{reads}
 use Rattle.area.specs.Area.{metFrom, metOf, walkOf}
-use Rattle.leaving.specs.Kept.{keptOf}
+use Rattle.area_leaving.specs.Kept.{keptOf}
 use Rattle.basic.specs.Settings.{wayZero, basicSound}
-use Rattle.turn.specs.declared.Place.the-variants.{Nowhere}
+use Rattle.area.specs.declared.Place.the-variants.{Nowhere}
 use Rattle.port.specs.Port.{rangeSound, assignedSound, defaultSound, portSound}
 use Rattle.table.specs.Table as tables
 use Rattle.table.specs.Table.{usedRows, rowsSound, tableSound}
-use Rattle.levels.specs.Levels.{levelsSound}
+use Rattle.table_levels.specs.Levels.{levelsSound}
 use Rattle.table.specs.Numbers.{sends, hasNumber}
 use Rattle.renumber.specs.Theorems.{Far}
-use Rattle.arrival.specs.Checks.{walkCheck, requiredCheck, optionCheck, badBasicCheck, arrivingBasic, missingBasicCheck, basicRangeCheck, arrivingLabel, rangeCheck}
-use Rattle.forwarding.specs.Crossing.{sizes, records, leavingBasicCheck, numberCheck}
+use Rattle.arrive.specs.Checks.{walkCheck, requiredCheck, optionCheck, badBasicCheck, arrivingBasic, missingBasicCheck, basicRangeCheck, arrivingLabel, rangeCheck}
+use Rattle.forward_rules.specs.Crossing.{sizes, records, leavingBasicCheck, numberCheck}
 use Rattle.decision.specs.Decision.{silenced}
-use Rattle.forwarding.specs.Forward.{forwardOf}
+use Rattle.forward_rules.specs.Forward.{forwardOf}
 use Rattle.demands.specs.Demands.{own, Forwards, neither}
 use Rattle.sample_records.specs.Sample.{arriving, leaving, table, levels}
 use Rattle.demands.specs.Sample.{sample, first, SampleLines}

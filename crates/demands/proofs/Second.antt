@@ -2,7 +2,7 @@
 use mathlib.Core.Path.{_≡_, refl, sym, _∙_, ap, subst}
 use mathlib.Core.Bool.{Bool, true, false, cond, not, _&&_, _||_}
 use mathlib.Core.List.{List, [], _∷_, _++_}
-use mathlib.Core.Logic.{_⊎_, inl, inr}
+use mathlib.Core.Logic.{_↔_}
 use mathlib.Core.Option.{Option, none, some}
 use Prim.Native.Nat.{ℕ, _+_, _%_, _≤_}
 use native.Mathlib.Omega.{arith}
@@ -11,20 +11,20 @@ use lib.ListN.{length, getD}
 use borrow.Author.Tests.{eqb-true, eqb-false, eq-eqb, ne-eqb, le-ltb, ltb-false}
 use Rattle.label.specs.declared.Label.{Label}
 use Rattle.label.specs.Label.{wellFormed, inRange}
-use Rattle.label.proofs.Bools.{and-left, and-right, or-none}
-use Rattle.keys.specs.Range.{setInRange}
+use Rattle.label.proofs.Bools.{never, and-left, and-right, or-none}
+use Rattle.label_keys.specs.Range.{setInRange}
 use Rattle.option.specs.Option.{Octets}
 use Rattle.option.specs.Spelling.{spelledOf}
 use Rattle.option.proofs.OneSpelling.{one-spelling}
-use Rattle.reading.specs.declared.Reading.{Reading}
-use Rattle.reading.specs.Reading.{found, readingFor}
-use Rattle.reading.proofs.Theorems.{reads}
-use Rattle.turn.specs.declared.Place.{Place}
-use Rattle.turn.specs.declared.Place.the-variants.{Nowhere, At}
-use Rattle.turn.specs.declared.Walk.{Walk}
-use Rattle.turn.specs.declared.Walk.the-variants.{Sound, Refused}
+use Rattle.option_read.specs.declared.Reading.{Reading}
+use Rattle.option_read.specs.Reading.{found, readingFor}
+use Rattle.option_read.proofs.Theorems.{reads}
+use Rattle.area.specs.declared.Place.{Place}
+use Rattle.area.specs.declared.Place.the-variants.{Nowhere, At}
+use Rattle.area.specs.declared.Walk.{Walk}
+use Rattle.area.specs.declared.Walk.the-variants.{Sound, Refused}
 use Rattle.area.proofs.Laws.{sound-placed}
-use Rattle.leaving.specs.Kept.{keptOf, roundUp, leavingOf}
+use Rattle.area_leaving.specs.Kept.{keptOf, roundUp, leavingOf}
 use Rattle.port.specs.declared.Port.{Port}
 use Rattle.port.specs.Port.{portSound, hostSound, lowestOut, highestOut}
 use Rattle.port.proofs.Laws.{sound, range-formed, default-in}
@@ -36,19 +36,20 @@ use Rattle.renumber.proofs.Theorems.{renumbering, agrees}
 use Rattle.decision.specs.declared.Decision.{Decision}
 use Rattle.decision.specs.Decision.{Refusal, silenced, refused, decided}
 use Rattle.area.specs.Area.{badArea}
-use Rattle.arrival.specs.Checks.{silent, barred, firstOf, NoneApplies, walkAt, walkCheck, optionAt, requiredBy, requiredCheck, optionBy, optionCheck, labelBy, arrivingLabel, rangeCheck, arrivalChecks}
-use Rattle.delivery.specs.Delivery.{Delivery, deliverySizes, deliveryRecords, hostCheck, deliverChecks, deliverOf}
+use Rattle.arrive.specs.Checks.{silent, barred, firstOf, NoneApplies, walkAt, walkCheck, optionAt, requiredBy, requiredCheck, optionBy, optionCheck, labelBy, arrivingLabel, rangeCheck, arrivalChecks}
+use Rattle.deliver.specs.Delivery.{Delivery, deliverySizes, deliveryRecords, hostCheck, deliverChecks, deliverOf}
 use Rattle.decision.specs.Decision as decision
-use Rattle.arrival.proofs.First.{Real, real-first, real-when, first-none, none-first, when-none, first-append, not-false-yes, real-else}
-use Rattle.arrival.proofs.Arrival.{placed-framed, octets-part, Held, arrival-held, arrival-real, in-range-held}
-use Rattle.delivery.proofs.Deliveries.{deliver-done}
-use Rattle.forwarding.specs.Crossing.{noRoom, Forwarding, sameDomain, Crossing, crossing, stays, leavingLabel, leavingOption, sizes, records, numberCheck, leavingCheck, leavingLevel, leavingRuns}
-use Rattle.forwarding.specs.Forward.{forwardChecks, forwardOf, outputOf}
-use Rattle.forwarding.specs.Crossing.{crossingChecks}
-use Rattle.forwarding.proofs.Crossings.{label-stays, stays-inside, stays-outside, Crossed, crossed, crossed-carried, crosses-passed, default-is}
-use Rattle.forwarding.proofs.Forwards.{reachChecks, recordsTest, Passed, forward-passed, passed-formed, forward-real, forward-fits, forward-done, forward-range, forward-none, kept-fits, leaving-spelled, leaving-none, reach-arrival, forward-refused}
+use Rattle.arrive.proofs.First.{Real, real-first, real-when, first-none, none-first, when-none, first-append, not-false-yes, real-else}
+use Rattle.option.proofs.Octets.{octets-part}
+use Rattle.arrive.proofs.Arrival.{placed-framed, Held, arrival-held, arrival-real, in-range-held}
+use Rattle.deliver.proofs.Deliveries.{deliver-done}
+use Rattle.forward_rules.specs.Crossing.{noRoom, Forwarding, sameDomain, Crossing, crossing, stays, leavingLabel, leavingOption, sizes, records, numberCheck, leavingCheck, leavingLevel, leavingRuns}
+use Rattle.forward_rules.specs.Forward.{forwardChecks, forwardOf, outputOf}
+use Rattle.forward_rules.specs.Crossing.{crossingChecks}
+use Rattle.forward_rules.proofs.Crossings.{label-stays, stays-inside, stays-outside, Crossed, crossed, crossed-carried, crosses-passed, numbers, default-is}
+use Rattle.forward_rules.proofs.Forwards.{reachChecks, recordsTest, Passed, forward-passed, passed-formed, forward-real, forward-fits, forward-done, forward-range, forward-none, kept-fits, leaving-spelled, leaving-none, reach-arrival, forward-refused}
 use Rattle.demands.proofs.Basic.{octets-at, basic-arrives, basic-passes, Unbarred, arrives-unbarred, passes-unbarred, passes-sent}
-use Rattle.demands.specs.Demands.{AreaSound, LabelOf, own, assigned, Forwards, Delivers, Demand2, earlierChecks}
+use Rattle.demands.specs.Demands.{AreaSound, LabelOf, own, assigned, Forwards, Delivers, Becomes, Demand2, earlierChecks}
 
 pub same-some : {a b : List ℕ} → _≡_ {A = Option (List ℕ)} (some a) (some b) → a ≡ b
 same-some e = cc
@@ -190,6 +191,21 @@ module _ (f : Forwarding) (p : Passed f) where
         bare = passed-bare;
       }
 
+-- a label in the far domain that is in range passes 16, 17 and the check of its runs
+module _ (f : Forwarding) (formed : wellFormed (crossing f .label) ≡ true) (own : crossing f .label .domain ≡ crossing f .domain) (leaving : portSound (f .leaving) ≡ true) (ts : tableSound (f .table) (f .levels) ≡ true)
+    (d : f .arriving .domain ≡ f .leaving .domain → ⊥) (from : f .table .from ≡ f .arriving .domain) (to : f .table .to ≡ f .leaving .domain) (m : Label) (out : inRange (lowestOut (f .leaving)) (highestOut (f .leaving)) m ≡ true)
+    (far : Far (crossing f .label) (f .table) (f .levels) m) where
+  far-passes : (firstOf (crossingChecks (crossing f)) ≡ none) × (renumberedAs m ≡ renumberedAs (leavingLabel (crossing f)))
+  far-passes =
+      let g = sound (f .leaving) leaving .out in
+      let n = renumbering .found (crossing f .label) (f .table) (f .levels) m ts formed (own ∙ sym from) far in
+      let a = agrees (crossing f .label) (f .table) (f .levels) (lowestOut (f .leaving)) (highestOut (f .leaving)) m (g .low-formed) (g .high-formed) (g .low-domain ∙ sym to) (g .high-domain ∙ sym to) n in
+      let c : renumberedAs m ≡ carriedOf (crossing f .label) (f .table) (f .levels) (lowestOut (f .leaving)) (highestOut (f .leaving)) = sym (a ∙ rw out) in
+      crosses-passed (crossing f) d from to (renumberedAs m) c refl
+
+  far-inside : firstOf (crossingChecks (crossing f)) ≡ none
+  far-inside = far-passes .0
+
 -- The conditions let every check pass.
 module _ (f : Forwarding) (l m : Label) (s : List ℕ) (h : Forwards f l m s) where
   r : Reads (f .arriving) (f .area) l
@@ -239,14 +255,7 @@ module _ (f : Forwarding) (l m : Label) (s : List ℕ) (h : Forwards f l m s) wh
           }
       by false e =
           let d : (f .arriving .domain ≡ f .leaving .domain → ⊥) = eqb-false _ _ e in
-          let g = sound (f .leaving) (h .leaving) .out in
-          let ts = h .table d in
-          let from : y .label .domain ≡ f .table .from = y-domain ∙ sym (h .from d) in
-          let far : Far (y .label) (f .table) (f .levels) m = rw (r .label) (h .numbered d) in
-          let n = renumbering .found (y .label) (f .table) (f .levels) m ts y-formed from far in
-          let a = agrees (y .label) (f .table) (f .levels) (lowestOut (f .leaving)) (highestOut (f .leaving)) m (g .low-formed) (g .high-formed) (g .low-domain ∙ sym (h .to d)) (g .high-domain ∙ sym (h .to d)) n in
-          let c : renumberedAs m ≡ carriedOf (y .label) (f .table) (f .levels) (lowestOut (f .leaving)) (highestOut (f .leaving)) = sym (a ∙ rw out-of) in
-          let q = crosses-passed y d (h .from d) (h .to d) (renumberedAs m) c refl in
+          let q = far-passes f y-formed y-domain (h .leaving) (h .table d) d (h .from d) (h .to d) m out-of (rw (r .label) (h .numbered d)) in
           record { none = q .0; label = sym (ap (λ (z : Renumbered). z .label) (q .1)) }
 
   m-formed : wellFormed m ≡ true
@@ -284,52 +293,102 @@ module _ (f : Forwarding) (l m : Label) (s : List ℕ) (h : Forwards f l m s) wh
       (q .0 ∙ ap (λ (z : Label). decision.done z (roundUp (length s + length (keptOf (f .area))))) (crosses .label), q .1)
 
 -- Toward unlabelled hosts: past the checks before 17, the default label or 17.
-facing : (f : Forwarding) → f .leaving .unlabelled ≡ true → NoneApplies (earlierChecks f)
-    → ((forwardOf f .number ≡ 0) × (forwardOf f .label ≡ f .leaving .default)) ⊎ (forwardOf f .number ≡ 17)
-unfolding sizes records
-facing f o n = by (setInRange (lowestOut (f .leaving)) (highestOut (f .leaving)) (leavingLevel (crossing f)) (leavingRuns (crossing f))) refl
-  where
-    a : (badArea (f .area) ≡ false) × (ltb (f .room) 40 ≡ false)
-    a = or-none (badArea (f .area)) (ltb (f .room) 40) (when-none _ (silent 1) (n .0))
+module _ (f : Forwarding) (o : f .leaving .unlabelled ≡ true) (n : NoneApplies (earlierChecks f)) where
+  a : (badArea (f .area) ≡ false) × (ltb (f .room) 40 ≡ false)
+  unfolding sizes
+  a = or-none (badArea (f .area)) (ltb (f .room) 40) (when-none _ (silent 1) (n .0))
 
-    long : 40 ≤ f .room
-    long = ltb-false _ _ (a .1)
+  long : 40 ≤ f .room
+  long = ltb-false _ _ (a .1)
 
-    t : recordsTest f ≡ true
-    t = not-false-yes (recordsTest f) (when-none _ (silent 2) (n .1 .0))
+  t : recordsTest f ≡ true
+  unfolding records
+  t = not-false-yes (recordsTest f) (when-none _ (silent 2) (n .1 .0))
 
-    r : firstOf (reachChecks f) ≡ none
-    r = none-first (reachChecks f) (n .1 .1 .0, (n .1 .1 .1 .0, (n .1 .1 .1 .1 .0, (n .1 .1 .1 .1 .1 .0, (n .1 .1 .1 .1 .1 .1 .0, (n .1 .1 .1 .1 .1 .1 .1 .0, (n .1 .1 .1 .1 .1 .1 .1 .1 .0, (n .1 .1 .1 .1 .1 .1 .1 .1 .1 .0, tt))))))))
+  reached : firstOf (reachChecks f) ≡ none
+  reached = none-first (reachChecks f) (n .1 .1 .0, (n .1 .1 .1 .0, (n .1 .1 .1 .1 .0, (n .1 .1 .1 .1 .1 .0, (n .1 .1 .1 .1 .1 .1 .0, (n .1 .1 .1 .1 .1 .1 .1 .0, (n .1 .1 .1 .1 .1 .1 .1 .1 .0, (n .1 .1 .1 .1 .1 .1 .1 .1 .1 .0, tt))))))))
 
-    numbered : numberCheck (crossing f) ≡ none
-    numbered = n .1 .1 .1 .1 .1 .1 .1 .1 .1 .1 .0
+  numbered : numberCheck (crossing f) ≡ none
+  numbered = n .1 .1 .1 .1 .1 .1 .1 .1 .1 .1 .0
 
-    arriving : portSound (f .arriving) ≡ true
-    arriving = and-left (portSound (f .arriving)) _ t
+  arriving : portSound (f .arriving) ≡ true
+  arriving = and-left (portSound (f .arriving)) _ t
 
-    leaving : portSound (f .leaving) ≡ true
-    leaving = and-left (portSound (f .leaving)) _ (and-right (portSound (f .arriving)) _ t)
+  leaving : portSound (f .leaving) ≡ true
+  leaving = and-left (portSound (f .leaving)) _ (and-right (portSound (f .arriving)) _ t)
 
-    label : wellFormed (arrivingLabel (f .arriving) (f .area)) ≡ true
-    label = arrival-held (f .arriving) (f .area) 9 arriving (reach-arrival f r) .formed
+  label : wellFormed (arrivingLabel (f .arriving) (f .area)) ≡ true
+  label = arrival-held (f .arriving) (f .area) 9 arriving (reach-arrival f reached) .formed
 
-    refused17 : firstOf (forwardChecks f) ≡ some (barred 17 9) → forwardOf f .number ≡ 17
-    refused17 e = ap (λ (d : Decision). d .number) (sym (forward-refused f (barred 17 9) [] e .0)) ∙ numbered17 (silenced (f .facts))
-      where
-        numbered17 : (b : Bool) → refused b (barred 17 9) .number ≡ 17
-        numbered17 true = refl
-        numbered17 false = refl
+  refused17 : firstOf (forwardChecks f) ≡ some (barred 17 9) → forwardOf f .number ≡ 17
+  refused17 e = ap (λ (d : Decision). d .number) (sym (forward-refused f (barred 17 9) [] e .0)) ∙ numbered17 (silenced (f .facts))
+    where
+      numbered17 : (b : Bool) → refused b (barred 17 9) .number ≡ 17
+      numbered17 true = refl
+      numbered17 false = refl
 
-    by : (b : Bool) → setInRange (lowestOut (f .leaving)) (highestOut (f .leaving)) (leavingLevel (crossing f)) (leavingRuns (crossing f)) ≡ b
-        → ((forwardOf f .number ≡ 0) × (forwardOf f .label ≡ f .leaving .default)) ⊎ (forwardOf f .number ≡ 17)
-    by false g = inr (refused17 (forward-range f (a .0) long t r numbered g))
-    by true g =
-        let d = default-is (crossing f) label leaving o g in
-        let room : (ltb 120 (length (leavingRuns (crossing f))) || noRoom (leavingOption (crossing f)) (keptOf (f .area))) ≡ false =
-        rw (le-ltb 120 (length (leavingRuns (crossing f))) (d .few), leaving-none (crossing f) o, le-ltb 40 (0 + length (keptOf (f .area))) (omega (arith, kept-fits (f .area) (a .0)))) in
-        let e = forward-none f (a .0) long t r numbered g room in
-        let q = forward-done f [] [] e (leaving-none (crossing f) o) .0 in
-        inl (ap (λ (z : Decision). z .number) q, ap (λ (z : Decision). z .label) q ∙ d .label)
+  abbrev inside : Bool
+  inside = setInRange (lowestOut (f .leaving)) (highestOut (f .leaving)) (leavingLevel (crossing f)) (leavingRuns (crossing f))
+
+  facing-out : inside ≡ false → forwardOf f .number ≡ 17
+  facing-out g = refused17 (forward-range f (a .0) long t reached numbered g)
+
+  facing-in : inside ≡ true → (forwardOf f .number ≡ 0) × (forwardOf f .label ≡ f .leaving .default)
+  facing-in g =
+      let d = default-is (crossing f) label leaving o g in
+      let room : (ltb 120 (length (leavingRuns (crossing f))) || noRoom (leavingOption (crossing f)) (keptOf (f .area))) ≡ false =
+      rw (le-ltb 120 (length (leavingRuns (crossing f))) (d .few), leaving-none (crossing f) o, le-ltb 40 (0 + length (keptOf (f .area))) (omega (arith, kept-fits (f .area) (a .0)))) in
+      let e = forward-none f (a .0) long t reached numbered g room in
+      let q = forward-done f [] [] e (leaving-none (crossing f) o) .0 in
+      (ap (λ (z : Decision). z .number) q, ap (λ (z : Decision). z .label) q ∙ d .label)
+
+  domain-kept : crossing f .label .domain ≡ crossing f .domain
+  domain-kept = arrival-held (f .arriving) (f .area) 9 arriving (reach-arrival f reached) .domain
+
+  table-checked : (f .arriving .domain ≡ f .leaving .domain → ⊥) → tableSound (f .table) (f .levels) ≡ true
+  table-checked h = rw (ne-eqb _ _ h) at (and-right (portSound (f .leaving)) _ (and-right (portSound (f .arriving)) _ t))
+
+  -- in range: the label is the default one
+  default-becomes : inside ≡ true → Becomes f (f .leaving .default)
+  unfolding leavingCheck
+  default-becomes g =
+      let d = default-is (crossing f) label leaving o g in
+      let crossed-all : firstOf (crossingChecks (crossing f)) ≡ none = rw (numbered, g, le-ltb 120 (length (leavingRuns (crossing f))) (d .few)) in
+      record {
+        stays = λ s. sym (label-stays (crossing f) label domain-kept leaving s) ∙ d .label;
+        numbered = λ h.
+            let far = crossed-carried (crossing f) label domain-kept leaving (table-checked h) (crossed (crossing f) (ne-eqb _ _ h) crossed-all) .far in
+            subst (λ (m : Label). Far (crossing f .label) (f .table) (f .levels) m) (d .label) far;
+      }
+
+  -- the default label is in range
+  default-inside : Becomes f (f .leaving .default) → inside ≡ true
+  unfolding leavingCheck
+  default-inside b = not-false-yes _ (when-none _ (barred 17 9) (first-none (crossingChecks (crossing f)) (all (sameDomain f) refl) .1 .0))
+    where
+      out : inRange (lowestOut (f .leaving)) (highestOut (f .leaving)) (f .leaving .default) ≡ true
+      out = rw o (default-in (f .leaving) (f .leaving .default) (sound (f .leaving) leaving .unlabelled o) refl)
+
+      all : (e : Bool) → sameDomain f ≡ e → firstOf (crossingChecks (crossing f)) ≡ none
+      all true e =
+          let d : f .arriving .domain ≡ f .leaving .domain = eqb-true _ _ e in
+          stays-inside (crossing f) label domain-kept leaving d (ap (inRange (lowestOut (f .leaving)) (highestOut (f .leaving))) (b .stays d) ∙ out)
+      all false e =
+          let d : (f .arriving .domain ≡ f .leaving .domain → ⊥) = eqb-false _ _ e in
+          let has = numbers (crossing f) e numbered in
+          let from : f .table .from ≡ f .arriving .domain = eqb-true _ _ (and-left (eqb (f .table .from) (f .arriving .domain)) _ has) in
+          let to : f .table .to ≡ f .leaving .domain = eqb-true _ _ (and-left (eqb (f .table .to) (f .leaving .domain)) _ (and-right (eqb (f .table .from) (f .arriving .domain)) _ has)) in
+          far-inside f label domain-kept leaving (table-checked d) d from to (f .leaving .default) out (b .numbered d)
+
+  facing-all : ((forwardOf f .number ≡ 0) ↔ Becomes f (f .leaving .default)) × ((Becomes f (f .leaving .default) → ⊥) → forwardOf f .number ≡ 17) × (forwardOf f .number ≡ 0 → forwardOf f .label ≡ f .leaving .default)
+  facing-all = by inside refl
+    where
+      by : (b : Bool) → inside ≡ b
+          → ((forwardOf f .number ≡ 0) ↔ Becomes f (f .leaving .default)) × ((Becomes f (f .leaving .default) → ⊥) → forwardOf f .number ≡ 17) × (forwardOf f .number ≡ 0 → forwardOf f .label ≡ f .leaving .default)
+      by false g =
+          let z = facing-out g in
+          ((λ e. absurd (omega arith), λ b. absurd (never (sym (default-inside b) ∙ g))), λ h. z, λ e. absurd (omega arith))
+      by true g = ((λ e. default-becomes g, λ b. facing-in g .0), λ h. absurd (h (default-becomes g)), λ e. facing-in g .1)
 
 -- Delivering.
 
@@ -392,7 +451,7 @@ demand2 =
           (let p = forward-passed f (forwarded-passes f e) in
           (crossing f .label, leavingLabel (crossing f), p .fits .octets, passed-forwards f p oct));
       always = λ f l m s out h. forwards-done f l m s h out;
-      facing = facing;
+      facing = facing-all;
       delivered = λ d oct e. (arrivingLabel (d .port) (d .area), delivered-conditions d oct (delivered-passes d e));
       delivers = conditions-delivered;
       exactly = λ d. (λ e. first-none (deliverChecks d) (delivered-passes d e), λ n. passes-delivered d (none-first (deliverChecks d) n));

@@ -1,38 +1,44 @@
 -- Demand 3: one label, one spelling.
 use mathlib.Core.Path.{_≡_, refl, sym, _∙_, ap, subst}
-use mathlib.Core.Bool.{Bool, true, false, not, true≢false}
+use mathlib.Core.Bool.{Bool, true, false, cond, not, true≢false}
 use mathlib.Core.List.{List, [], _∷_, _++_, append-assoc}
 use mathlib.Core.Logic.{_⊎_, ⊎-elim, _↔_}
 use mathlib.Core.Option.{Option, none, some}
 use Prim.Native.Nat.{ℕ, _+_, _-_, _≤_}
 use native.Mathlib.Omega.{arith}
+use lib.Dec.{eqb}
+use borrow.Author.Tests.{le-ltb}
 use lib.ListN.{length, take, drop, replicate, length-append, length-replicate}
 use lib.Seq.{take-append-seam, take-at}
 use Rattle.label.specs.declared.Label.{Label}
-use Rattle.label.specs.Label.{wellFormed, inRange}
-use Rattle.option.specs.Option.{Octets, Means}
+use Rattle.label.specs.Label.{used, wellFormed, inRange}
+use Rattle.option.specs.Option.{Octets, tagOf, bodyOf, Means}
 use Rattle.option.specs.declared.Spellings.{Spellings}
 use Rattle.option.specs.Permitted.{usual, Permitted}
 use Rattle.option.specs.Spelling.{padded, spelledOf}
 use Rattle.option.specs.Theorems.{Spells, Shortest}
 use Rattle.option.proofs.OneSpelling.{one-spelling, usual-spelling, spelled-or-none}
-use Rattle.reading.proofs.Theorems.{reads}
-use Rattle.forms.specs.Spelled.{lacking, lengthOf}
-use Rattle.spelling.specs.Spelling.{spellingAnswer, spellingOut}
-use Rattle.spelling.proofs.Theorems.{spelling-alone}
-use Rattle.turn.specs.declared.Place.the-variants.{At}
-use Rattle.leaving.specs.Kept.{keptOf, roundUp, leavingOf}
+use Rattle.option.proofs.Forms.{FormedRuns, means-runs, formed-runs}
+use Rattle.option.proofs.Meaning.{Bounds, by1, by2, by5, bounds}
+use Rattle.option.proofs.Theorems.{Held, held1, held5, held-shortest}
+use Rattle.option_read.proofs.Theorems.{reads}
+use Rattle.option_form.specs.Spelled.{lacking, lengthOf}
+use Rattle.option_spell.specs.declared.Spelling.{Spelling}
+use Rattle.option_spell.specs.Spelling.{spellingNumber, spellingAnswer, spellingOut}
+use Rattle.option_spell.proofs.Theorems.{spelling-alone}
+use Rattle.area.specs.declared.Place.the-variants.{At}
+use Rattle.area_leaving.specs.Kept.{keptOf, roundUp, leavingOf}
 use Rattle.port.specs.declared.Port.{Port}
 use Rattle.port.specs.declared.Host.{Host}
 use Rattle.decision.specs.declared.Decision.{Decision}
 use Rattle.decision.specs.Decision.{Refusal, silenced, decided}
-use Rattle.arrival.specs.Checks.{barred, when, firstOf, badBasicCheck, arrivingBasic, missingBasicBy, missingBasicCheck, basicPasses, basicRangeCheck, arrivingLabel, rangeCheck}
-use Rattle.delivery.specs.Delivery.{Delivery, deliverySizes, deliveryRecords, hostCheck, deliverOf}
-use Rattle.forwarding.specs.Crossing.{Forwarding, sizes, records, leavingBasicCheck, Crossing, crossing, numberCheck, leavingCheck, spellingCheck, leavingLabel, leavingOption}
-use Rattle.forwarding.specs.Forward.{forwardChecks, forwardOf, written, outputOf}
-use Rattle.forwarding.proofs.Forwards.{forward-passed}
-use Rattle.demands.specs.Demands.{own, MeansAt, Alike, AlikeDelivered, Demand3}
-use Rattle.leaving.proofs.Again.{basicFrom}
+use Rattle.arrive.specs.Checks.{barred, when, firstOf, badBasicCheck, arrivingBasic, missingBasicBy, missingBasicCheck, basicPasses, basicRangeCheck, arrivingLabel, rangeCheck}
+use Rattle.deliver.specs.Delivery.{Delivery, deliverySizes, deliveryRecords, hostCheck, deliverOf}
+use Rattle.forward_rules.specs.Crossing.{Forwarding, sizes, records, leavingBasicCheck, Crossing, crossing, numberCheck, leavingCheck, spellingCheck, leavingLabel, leavingOption}
+use Rattle.forward_rules.specs.Forward.{forwardChecks, forwardOf, written, outputOf}
+use Rattle.forward_rules.proofs.Forwards.{forward-passed}
+use Rattle.demands.specs.Demands.{own, MeansAt, Alike, AlikeDelivered, oneForm, Demand3}
+use Rattle.area_leaving.proofs.Again.{basicFrom}
 use Rattle.demands.proofs.Basic.{basic-kept}
 use Rattle.demands.proofs.Second.{Reads, label-reads, forwarded-passes, demand2}
 
@@ -55,11 +61,54 @@ module _ (set : Spellings) (l : Label) (out : List ℕ) (w : wellFormed l ≡ tr
     λ n e. (let p = spelled-when e in n (p .0) (one-spelling .spells set l (p .0) w .0 (p .1) .permitted)),
   )
 
+  -- 1 and 2 are passed: 18 where there is no spelling
+  number-is : spellingAnswer set l (length out) .number ≡ cond (lacking (spelledOf set l)) 18 0
+  unfolding spellingNumber spellingAnswer
+  number-is = rw (le-ltb (length out) 40 long, w) (go (lacking (spelledOf set l)))
+    where
+      go : (b : Bool) → cond {A = Spelling} (eqb (cond b 18 0) 0) (record { number = 0; count = lengthOf (spelledOf set l) }) (record { number = cond b 18 0; count = 0 }) .number ≡ cond b 18 0
+      go true = refl
+      go false = refl
+
+  pub eighteen-exactly : (spellingAnswer set l (length out) .number ≡ 18) ↔ ((o : List ℕ) → Permitted set o l → ⊥)
+  eighteen-exactly = (λ e. refused-exactly .0 (λ z. omega arith), λ n. go (lacking (spelledOf set l)) refl (refused-exactly .1 n))
+    where
+      go : (b : Bool) → lacking (spelledOf set l) ≡ b → (spellingAnswer set l (length out) .number ≡ 0 → ⊥) → spellingAnswer set l (length out) .number ≡ 18
+      go true p h = number-is ∙ rw p
+      go false p h = absurd (h (number-is ∙ rw p))
+
   pub spelled-alone : spellingAnswer set l (length out) .number ≡ 0
       → (s : List ℕ) × Spells set s l × (spellingAnswer set l (length out) .count ≡ length s) × (take 40 (spellingOut set l out) ≡ padded s)
   spelled-alone e =
       let p = spelled-when e in
       (p .0, one-spelling .spells set l (p .0) w .0 (p .1), spelling-alone .counted set l out (p .0) w long (p .1), spelling-alone .written set l out (p .0) w long (p .1))
+
+-- one form alone: an option of its tag holds the label as the form does
+module _ (l : Label) (s o : List ℕ) (w : wellFormed l ≡ true) (m : Means o l) where
+  formed : FormedRuns (l .domain) (l .level) (used l)
+  formed = formed-runs l w
+
+  bounded : Bounds (used l) (length (bodyOf o)) (tagOf o)
+  bounded = bounds o (l .domain) (l .level) (used l) (means-runs o l m) (formed .canon)
+
+  shortest-of : (p : Spellings) → Spells p s l → Held p (used l) (length (bodyOf o)) (tagOf o) → length s ≤ length o
+  shortest-of p q h = held-shortest p (l .domain) (l .level) (used l) formed s (one-spelling .spells p l s w .1 q) o (means-runs o l m) h
+
+  held-bitmap : (n t : ℕ) → Bounds (used l) n t → t ≡ 1 → Held (oneForm true false) (used l) n t
+  held-bitmap n t (by1 h i) e = held1 refl h i
+  held-bitmap n t (by2 h i) e = absurd (omega arith)
+  held-bitmap n t (by5 h i) e = absurd (omega arith)
+
+  held-pairs : (n t : ℕ) → Bounds (used l) n t → t ≡ 5 → Held (oneForm false true) (used l) n t
+  held-pairs n t (by1 h i) e = absurd (omega arith)
+  held-pairs n t (by2 h i) e = absurd (omega arith)
+  held-pairs n t (by5 h i) e = held5 refl h i
+
+  bitmap-shortest : Spells (oneForm true false) s l → tagOf o ≡ 1 → length s ≤ length o
+  bitmap-shortest q e = shortest-of (oneForm true false) q (held-bitmap (length (bodyOf o)) (tagOf o) bounded e)
+
+  pairs-shortest : Spells (oneForm false true) s l → tagOf o ≡ 5 → length s ≤ length o
+  pairs-shortest q e = shortest-of (oneForm false true) q (held-pairs (length (bodyOf o)) (tagOf o) bounded e)
 
 pub spelled-in-area : (f : Forwarding) (out : List ℕ) → Octets (f .area) → f .leaving .unlabelled ≡ false → forwardOf f .number ≡ 0
     → (s : List ℕ) × Spells (f .leaving .spellings) s (forwardOf f .label) × (take (length s) (outputOf f out) ≡ s)
@@ -217,6 +266,9 @@ pub demand3 : Demand3
 demand3 =
     record {
       refused = refused-exactly;
+      eighteen = eighteen-exactly;
+      bitmap = λ l s o w q m e. bitmap-shortest l s o w m q e;
+      pairs = λ l s o w q m e. pairs-shortest l s o w m q e;
       alone = spelled-alone;
       leaving = spelled-in-area;
       usual-refused = refused-usual;

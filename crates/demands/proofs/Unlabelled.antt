@@ -6,20 +6,20 @@ use mathlib.Core.Option.{Option, none}
 use Prim.Native.Nat.{ℕ, _+_}
 use lib.ListN.{length}
 use Rattle.label.specs.Label.{inRange}
-use Rattle.forms.specs.Spelled.{lengthOf}
-use Rattle.turn.specs.declared.Place.the-variants.{Nowhere}
-use Rattle.turn.specs.declared.Place.{Place}
-use Rattle.turn.specs.declared.Walk.the-variants.{Sound}
-use Rattle.leaving.proofs.Again.{basicFrom}
-use Rattle.leaving.specs.Kept.{keptOf, roundUp}
+use Rattle.option_form.specs.Spelled.{lengthOf}
+use Rattle.area.specs.declared.Place.the-variants.{Nowhere}
+use Rattle.area.specs.declared.Place.{Place}
+use Rattle.area.specs.declared.Walk.the-variants.{Sound}
+use Rattle.area_leaving.proofs.Again.{basicFrom}
+use Rattle.area_leaving.specs.Kept.{keptOf, roundUp}
 use Rattle.port.specs.declared.Port.{Port}
 use Rattle.port.specs.declared.Host.{Host}
 use Rattle.decision.specs.declared.Decision.{Decision}
 use Rattle.decision.specs.Decision.{Refusal, silenced, decided}
-use Rattle.arrival.specs.Checks.{barred, when, firstOf, walkAt, walkCheck, requiredBy, requiredCheck, optionCheck, badBasicCheck, arrivingBasic, missingBasicBy, missingBasicCheck, basicPasses, basicRangeCheck, arrivingLabel, rangeCheck}
-use Rattle.delivery.specs.Delivery.{Delivery, deliverySizes, deliveryRecords, hostCheck, deliverOf}
-use Rattle.forwarding.specs.Crossing.{Forwarding, Crossing, sizes, records, leavingBasicCheck, crossing, numberCheck, leavingCheck, spellingCheck, leavingLabel, leavingOption}
-use Rattle.forwarding.specs.Forward.{forwardOf}
+use Rattle.arrive.specs.Checks.{barred, when, firstOf, walkAt, walkCheck, requiredBy, requiredCheck, optionCheck, badBasicCheck, arrivingBasic, missingBasicBy, missingBasicCheck, basicPasses, basicRangeCheck, arrivingLabel, rangeCheck}
+use Rattle.deliver.specs.Delivery.{Delivery, deliverySizes, deliveryRecords, hostCheck, deliverOf}
+use Rattle.forward_rules.specs.Crossing.{Forwarding, Crossing, sizes, records, leavingBasicCheck, crossing, numberCheck, leavingCheck, spellingCheck, leavingLabel, leavingOption}
+use Rattle.forward_rules.specs.Forward.{forwardOf}
 use Rattle.demands.specs.Guards.{Unlabelled, UnlabelledDelivered, leavingArea}
 use Rattle.demands.proofs.Basic.{basic-kept}
 use Rattle.demands.proofs.Second.{same-some}

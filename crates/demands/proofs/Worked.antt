@@ -4,21 +4,21 @@ use Rattle.label.specs.Runs.{allBelow, subset}
 use Rattle.label.specs.Label.{wellFormed, labelTyped, atMost, leq, inRange, isZero}
 use Rattle.option.specs.Reading.{pieces}
 use Rattle.option.specs.Spelling.{leastForm, formFor, bodyFor, spelledBy, spellingOf}
-use Rattle.reading.specs.Reading.{readingFor, readingBy, tagChecks, labelIn}
+use Rattle.option_read.specs.Reading.{readingFor, readingBy, tagChecks, labelIn}
 use Rattle.area.specs.Area.{metFrom, metOf, walkOf}
-use Rattle.leaving.specs.Kept.{keptOf}
-use Rattle.classification.specs.Levels.{isLevel, rankOf}
-use Rattle.basic_option.specs.Option.{basicValid}
-use Rattle.basic_option.specs.Alone.{basicReading}
-use Rattle.classification.specs.Levels as levels
+use Rattle.area_leaving.specs.Kept.{keptOf}
+use Rattle.basic.specs.Levels.{isLevel, rankOf}
+use Rattle.basic.specs.Option.{basicValid}
+use Rattle.basic.specs.Alone.{basicReading}
+use Rattle.basic.specs.Levels as levels
 use Rattle.basic.specs.Settings.{waySound, wayZero, basicSound, passesWay}
 use Rattle.port.specs.Port.{rangeSound, assignedSound, defaultSound, portSound, hostSound}
-use Rattle.keys.specs.Range.{setInRange}
-use Rattle.arrival.specs.Checks.{walkCheck, requiredCheck, optionCheck, badBasicCheck, arrivingBasic, missingBasicCheck, basicRangeCheck, arrivingLabel, rangeCheck}
-use Rattle.delivery.specs.Delivery.{deliverySizes, deliveryRecords, hostCheck, deliverOf}
+use Rattle.label_keys.specs.Range.{setInRange}
+use Rattle.arrive.specs.Checks.{walkCheck, requiredCheck, optionCheck, badBasicCheck, arrivingBasic, missingBasicCheck, basicRangeCheck, arrivingLabel, rangeCheck}
+use Rattle.deliver.specs.Delivery.{deliverySizes, deliveryRecords, hostCheck, deliverOf}
 use Rattle.decision.specs.Decision.{silenced}
-use Rattle.forwarding.specs.Crossing.{sizes, records, leavingBasicCheck, numberCheck, leavingLevel, leavingRuns, leavingCheck, spellingCheck}
-use Rattle.forwarding.specs.Forward.{forwardOf, outputOf}
+use Rattle.forward_rules.specs.Crossing.{sizes, records, leavingBasicCheck, numberCheck, leavingLevel, leavingRuns, leavingCheck, spellingCheck}
+use Rattle.forward_rules.specs.Forward.{forwardOf, outputOf}
 use Rattle.demands.specs.Worked.{WorkedDecisions}
 
 pub worked-decisions : WorkedDecisions

@@ -13,13 +13,13 @@ use Rattle.label.specs.Label.{used, labelOf, zeroLabel, emptyOf, wellFormed, me
 use Rattle.option.specs.Option.{domainOf}
 use Rattle.option.specs.declared.Spellings.{Spellings}
 use Rattle.option.specs.Spelling.{spelledOf}
-use Rattle.reading.specs.Reading.{Check, check, framed, tagChecks, readingOf}
-use Rattle.forms.specs.Spelled.{lacking}
-use Rattle.spelling.specs.Spelling.{spellingAnswer, spellingOut}
+use Rattle.option_read.specs.Reading.{Check, check, framed, tagChecks, readingOf}
+use Rattle.option_form.specs.Spelled.{lacking}
+use Rattle.option_spell.specs.Spelling.{spellingAnswer, spellingOut}
 use Rattle.table.specs.declared.Table.{Table}
-use Rattle.levels.specs.declared.Partner.the-variants.{Level}
+use Rattle.table_levels.specs.declared.Partner.the-variants.{Level}
 use Rattle.table.specs.Table.{usedRows, tableSound}
-use Rattle.levels.specs.Levels.{partnerOf, known}
+use Rattle.table_levels.specs.Levels.{partnerOf, known}
 use Rattle.table.specs.Numbers.{hasNumber, numbered}
 use Rattle.renumber.specs.Renumber.{imageRuns, renumberedOf}
 use Rattle.renumber.specs.Theorems.{Far}

@@ -2,36 +2,36 @@
 -- functions have no `requires`, and their contracts equate what they answer with `forwardOf`, `outputOf`, `deliverOf`, `readingOf`,
 -- `spellingAnswer`, `spellingOut` and `renumberedOf` for every input; here is what these say.
 use mathlib.Core.Path.{_≡_}
-use mathlib.Core.Bool.{true, false}
+use mathlib.Core.Bool.{Bool, true, false}
 use mathlib.Core.List.{List, [], _∷_, _++_}
-use mathlib.Core.Logic.{_⊎_, _↔_}
+use mathlib.Core.Logic.{_↔_}
 use mathlib.Core.Option.{Option, none, some}
 use Prim.Native.Nat.{ℕ, _+_, _%_, _≤_}
 use lib.ListN.{length, take}
 use Rattle.label.specs.declared.Label.{Label}
 use Rattle.label.specs.Label.{wellFormed, inRange}
-use Rattle.option.specs.Option.{Octets, Means}
+use Rattle.option.specs.Option.{Octets, tagOf, Means}
 use Rattle.option.specs.declared.Spellings.{Spellings}
 use Rattle.option.specs.Permitted.{usual, Permitted}
 use Rattle.option.specs.Spelling.{padded}
 use Rattle.option.specs.Theorems.{Spells, Shortest}
-use Rattle.reading.specs.Reading.{found, readingOf}
-use Rattle.spelling.specs.Spelling.{spellingAnswer, spellingOut}
-use Rattle.turn.specs.declared.Place.{Place}
-use Rattle.turn.specs.declared.Place.the-variants.{Nowhere, At}
-use Rattle.turn.specs.declared.Walk.the-variants.{Sound}
-use Rattle.basic_option.specs.Option.{BasicMeans}
+use Rattle.option_read.specs.Reading.{found, readingOf}
+use Rattle.option_spell.specs.Spelling.{spellingAnswer, spellingOut}
+use Rattle.area.specs.declared.Place.{Place}
+use Rattle.area.specs.declared.Place.the-variants.{Nowhere, At}
+use Rattle.area.specs.declared.Walk.the-variants.{Sound}
+use Rattle.basic.specs.Option.{BasicMeans}
 use Rattle.basic.specs.Theorems.{BasicPermitted}
-use Rattle.leaving.specs.Kept.{keptOf, roundUp, leavingOf}
+use Rattle.area_leaving.specs.Kept.{keptOf, roundUp, leavingOf}
 use Rattle.port.specs.declared.Port.{Port}
 use Rattle.port.specs.Port.{portSound, hostSound}
 use Rattle.table.specs.Table.{tableSound}
 use Rattle.renumber.specs.Theorems.{Far}
 use Rattle.decision.specs.Decision.{Refusal, silenced, refused, done}
-use Rattle.arrival.specs.Checks.{NoneApplies, walkAt, optionAt, badBasicCheck, walkCheck, requiredCheck, optionCheck, missingBasicCheck, basicRangeCheck, rangeCheck}
-use Rattle.delivery.specs.Delivery.{Delivery, deliverySizes, deliveryRecords, deliverChecks, deliverOf}
-use Rattle.forwarding.specs.Crossing.{Forwarding, sizes, records, leavingBasicCheck, crossing, numberCheck}
-use Rattle.forwarding.specs.Forward.{forwardChecks, forwardOf, outputOf}
+use Rattle.arrive.specs.Checks.{NoneApplies, walkAt, optionAt, badBasicCheck, arrivingLabel, optionChecks, rangeCheck}
+use Rattle.deliver.specs.Delivery.{Delivery, deliverySizes, deliveryRecords, deliverChecks, deliverOf}
+use Rattle.forward_rules.specs.Crossing.{Forwarding, sizes, records, leavingBasicCheck, crossing, numberCheck}
+use Rattle.forward_rules.specs.Forward.{forwardChecks, forwardOf, outputOf}
 
 -- Demand 1: "Bad input gets the first refusal that applies in document 01's order, with its ICMP type, code and pointer, and the output buffer
 -- is untouched."
@@ -124,16 +124,16 @@ abbrev pub earlierChecks : Forwarding → List (Option Refusal)
 earlierChecks f =
     sizes f
     ∷ records f
-    ∷ walkCheck (f .arriving) (f .area)
-    ∷ requiredCheck (f .arriving) (f .area)
-    ∷ optionCheck (f .arriving) (f .area)
-    ∷ badBasicCheck (f .arriving) (f .area)
-    ∷ missingBasicCheck (f .arriving) (f .area)
-    ∷ basicRangeCheck (f .arriving) (f .area) 9
-    ∷ leavingBasicCheck f
+    ∷ (optionChecks (f .arriving) (f .area) 9
+    ++ (leavingBasicCheck f
     ∷ rangeCheck (f .arriving) (f .area) 9
     ∷ numberCheck (crossing f)
-    ∷ []
+    ∷ []))
+
+-- its label, renumbered: the same with equal domains, else the label in the far domain
+pub record Becomes (f : Forwarding) (m : Label) : Type 0 where
+  pub stays : f .arriving .domain ≡ f .leaving .domain → arrivingLabel (f .arriving) (f .area) ≡ m
+  pub numbered : (f .arriving .domain ≡ f .leaving .domain → ⊥) → Far (arrivingLabel (f .arriving) (f .area)) (f .table) (f .levels) m
 
 pub record Demand2 : Type 0 where
   -- forwarded only when the conditions hold
@@ -146,7 +146,9 @@ pub record Demand2 : Type 0 where
   -- "On such a port a datagram past all earlier checks is forwarded exactly when its renumbered label equals the default label; otherwise 17": 18
   -- isn't given, since the kept options always fit
   pub facing : (f : Forwarding) → f .leaving .unlabelled ≡ true → NoneApplies (earlierChecks f)
-      → ((forwardOf f .number ≡ 0) × (forwardOf f .label ≡ f .leaving .default)) ⊎ (forwardOf f .number ≡ 17)
+      → ((forwardOf f .number ≡ 0) ↔ Becomes f (f .leaving .default))
+      × ((Becomes f (f .leaving .default) → ⊥) → forwardOf f .number ≡ 17)
+      × (forwardOf f .number ≡ 0 → forwardOf f .label ≡ f .leaving .default)
   -- delivered exactly when none of the refusals applies, and with which label
   pub delivered : (d : Delivery) → Octets (d .area) → deliverOf d .number ≡ 0 → (l : Label) × Delivers d l
   pub delivers : (d : Delivery) (l : Label) → Delivers d l → deliverOf d ≡ done l 0
@@ -187,10 +189,20 @@ pub record AlikeDelivered (d e : Delivery) (l : Label) : Type 0 where
   pub good : (badBasicCheck (d .port) (d .area) ≡ none) × (badBasicCheck (e .port) (e .area) ≡ none)
   pub domain : l .domain ≡ d .port .domain
 
+-- tag 1 shortest alone, or tag 5 alone
+abbrev pub oneForm : Bool → Bool → Spellings
+oneForm shortest pairs = record { shortest = shortest; ten = false; numbers = false; pairs = pairs }
+
 pub record Demand3 : Type 0 where
   -- given at least 40 octets to write in, every well-formed label is refused a spelling exactly when no permitted option means it
   pub refused : (p : Spellings) (l : Label) (out : List ℕ) → wellFormed l ≡ true → 40 ≤ length out
       → (spellingAnswer p l (length out) .number ≡ 0 → ⊥) ↔ ((o : List ℕ) → Permitted p o l → ⊥)
+  -- by number: "refused a spelling (18, asked alone ..) exactly if no permitted one means the label"
+  pub eighteen : (p : Spellings) (l : Label) (out : List ℕ) → wellFormed l ≡ true → 40 ≤ length out
+      → (spellingAnswer p l (length out) .number ≡ 18) ↔ ((o : List ℕ) → Permitted p o l → ⊥)
+  -- "tag 1 shortest" and "tag 5" permitted alone: every valid option of that tag that means the label has at least as many octets as the one written
+  pub bitmap : (l : Label) (s o : List ℕ) → wellFormed l ≡ true → Spells (oneForm true false) s l → Means o l → tagOf o ≡ 1 → length s ≤ length o
+  pub pairs : (l : Label) (s o : List ℕ) → wellFormed l ≡ true → Spells (oneForm false true) s l → Means o l → tagOf o ≡ 5 → length s ≤ length o
   -- whatever label the box spells, alone or in a leaving area toward labelled hosts, it writes the shortest permitted option that means it
   pub alone : (p : Spellings) (l : Label) (out : List ℕ) → wellFormed l ≡ true → 40 ≤ length out → spellingAnswer p l (length out) .number ≡ 0
       → (s : List ℕ) × Spells p s l × (spellingAnswer p l (length out) .count ≡ length s) × (take 40 (spellingOut p l out) ≡ padded s)

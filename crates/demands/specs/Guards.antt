@@ -11,17 +11,17 @@ use Rattle.label.specs.Label.{leq}
 use Rattle.option.specs.Option.{Octets}
 use Rattle.option.specs.declared.Spellings.{Spellings}
 use Rattle.option.specs.Theorems.{Spells}
-use Rattle.turn.specs.declared.Place.{Place}
-use Rattle.turn.specs.declared.Place.the-variants.{Nowhere, At}
-use Rattle.turn.specs.declared.Walk.the-variants.{Sound}
+use Rattle.area.specs.declared.Place.{Place}
+use Rattle.area.specs.declared.Place.the-variants.{Nowhere, At}
+use Rattle.area.specs.declared.Walk.the-variants.{Sound}
 use Rattle.area.specs.Area.{walkOf}
-use Rattle.leaving.specs.Kept.{keptOf}
+use Rattle.area_leaving.specs.Kept.{keptOf}
 use Rattle.port.specs.declared.Port.{Port}
 use Rattle.decision.specs.declared.Decision.{Decision}
-use Rattle.arrival.specs.Checks.{walkAt, optionAt, requiredCheck, optionCheck, badBasicCheck, arrivingBasic, arrivingLabel}
-use Rattle.delivery.specs.Delivery.{Delivery, deliverySizes, deliverOf}
-use Rattle.forwarding.specs.Crossing.{Forwarding, sizes}
-use Rattle.forwarding.specs.Forward.{forwardOf, outputOf}
+use Rattle.arrive.specs.Checks.{walkAt, optionAt, requiredCheck, optionCheck, badBasicCheck, arrivingBasic, arrivingLabel}
+use Rattle.deliver.specs.Delivery.{Delivery, deliverySizes, deliverOf}
+use Rattle.forward_rules.specs.Crossing.{Forwarding, sizes}
+use Rattle.forward_rules.specs.Forward.{forwardOf, outputOf}
 use Rattle.demands.specs.Demands.{AreaSound}
 
 -- "Zeros pad to a multiple of 4; the count is returned": of an option of s octets and k octets of kept options

@@ -6,3 +6,4 @@ pub mod Sample
 pub mod Guards
 pub mod Alone
 pub mod Rules
+pub mod Crosses

@@ -7,8 +7,8 @@ use lib.ListN.{replicate}
 use Rattle.label.specs.Runs.{run}
 use Rattle.label.specs.Label.{labelOf}
 use Rattle.decision.specs.Decision.{noFact}
-use Rattle.forwarding.specs.Crossing.{Forwarding}
-use Rattle.forwarding.specs.Forward.{forwardOf, outputOf}
+use Rattle.forward_rules.specs.Crossing.{Forwarding}
+use Rattle.forward_rules.specs.Forward.{forwardOf, outputOf}
 use Rattle.sample_records.specs.Sample.{arriving, leaving, table, levels}
 use Rattle.demands.specs.Worked.{drop, pass}
 

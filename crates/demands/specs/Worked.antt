@@ -17,9 +17,9 @@ use Rattle.table.specs.declared.Table.{Table}
 use Rattle.decision.specs.declared.Decision.{Decision}
 use Rattle.decision.specs.declared.Facts.{Facts}
 use Rattle.decision.specs.Decision.{silenced, noFact}
-use Rattle.forwarding.specs.Crossing.{Forwarding}
-use Rattle.forwarding.specs.Forward.{forwardOf, outputOf}
-use Rattle.delivery.specs.Delivery.{Delivery, deliverOf}
+use Rattle.forward_rules.specs.Crossing.{Forwarding}
+use Rattle.forward_rules.specs.Forward.{forwardOf, outputOf}
+use Rattle.deliver.specs.Delivery.{Delivery, deliverOf}
 
 -- A label of domain 5 with at most one run; the all-zero label.
 abbrev pub bare : ℕ → Label
@@ -97,6 +97,20 @@ lesser =
       unlabelled = false;
       default = nothing;
     }
+
+-- in a domain of four octets, 1, 2, 3 and 4
+abbrev pub bareFar : ℕ → Label
+bareFar v = record { domain = 16909060; level = v; count = 0; runs = replicate 120 (run 0 0) }
+
+abbrev pub farPort : Port
+farPort = plainPort 16909060 (bareFar 1) (bareFar 5) true nothing
+
+-- hosts: of one label; of another domain than the port's
+abbrev pub oneLabel : Host
+oneLabel = record { lowest = bare 3; highest = bare 3 }
+
+abbrev pub foreign : Host
+foreign = record { lowest = bareFar 1; highest = bareFar 5 }
 
 abbrev pub hostBehind : Host
 hostBehind = record { lowest = bare 2; highest = one 255 0 65534 }
@@ -289,6 +303,21 @@ others =
     -- 18: a kept option of 31 octets beside an empty label; no spelling
     ∷ blocked assigns beyond (148 ∷ 31 ∷ replicate 30 0) (drop 18 3 9 0)
     ∷ blocked unspelled beyond [] (drop 18 3 9 0)
+    -- a host of one label takes that label alone; one of another domain is unsound
+    ∷ handed requires oneLabel (empty 3 (0 ∷ 0 ∷ [])) (pass 0 (bare 3))
+    ∷ handed requires oneLabel (empty 2 (0 ∷ 0 ∷ [])) (drop 15 3 10 0)
+    ∷ handed requires oneLabel (empty 4 (0 ∷ 0 ∷ [])) (drop 15 3 10 0)
+    ∷ handed requires foreign [] (drop 2 0 0 0)
+    -- the domain is four octets, big-endian, read and written
+    ∷ handed farPort foreign (134 ∷ 10 ∷ 1 ∷ 2 ∷ 3 ∷ 4 ∷ 1 ∷ 4 ∷ 0 ∷ 3 ∷ 0 ∷ 0 ∷ []) (pass 0 (bareFar 3))
+    ∷ handed farPort foreign (134 ∷ 10 ∷ 4 ∷ 3 ∷ 2 ∷ 1 ∷ 1 ∷ 4 ∷ 0 ∷ 3 ∷ 0 ∷ 0 ∷ []) (drop 8 12 0 22)
+    ∷ record {
+      job = leave farPort 41;
+      port = farPort;
+      area = 134 ∷ 10 ∷ 1 ∷ 2 ∷ 3 ∷ 4 ∷ 1 ∷ 4 ∷ 0 ∷ 3 ∷ 0 ∷ 0 ∷ [];
+      answer = pass 12 (bareFar 3);
+      output = 134 ∷ 10 ∷ 1 ∷ 2 ∷ 3 ∷ 4 ∷ 1 ∷ 4 ∷ 0 ∷ 3 ∷ (replicate 30 0 ++ (9 ∷ []));
+    }
     -- delivered: the own label, the assigned one, with no spelling too
     ∷ handed requires hostBehind (empty 3 (0 ∷ 0 ∷ [])) (pass 0 (bare 3))
     ∷ handed assigns hostBehind [] (pass 0 (bare 3))

@@ -2,7 +2,7 @@
 -- and the highest category by the last run alone.
 -- Assumes nothing.
 use mathlib.Core.Path.{_≡_, refl, sym}
-use mathlib.Core.Bool.{Bool, true, false, cond, _&&_, and-true, and-false}
+use mathlib.Core.Bool.{Bool, true, false, cond, _&&_, _||_, and-true, and-false}
 use mathlib.Core.List.{List, [], _∷_}
 use mathlib.Core.Logic.{⊎-elim}
 use Prim.Native.Nat.{ℕ, zero, suc, _+_, _*_, _≤_, _<_}
@@ -67,3 +67,16 @@ first-alone zero rs h k = unused-first rs k
 first-alone (suc zero) [] h k = absurd (omega arith)
 first-alone (suc zero) (r ∷ rs) h k = simp (le-leb 0 (r .low) (omega arith), and-true)
 first-alone (suc (suc n)) rs h k = absurd (omega arith)
+
+-- the first place of a label of at most one run
+pub one-formed : (n low high : ℕ)
+    → ((eqb n 0 && (eqb low 0 && eqb high 0)) || (eqb n 1 && (leb low high && leb high 65534)))
+    ≡ (leb n 1 && cond (eqb n 0) (eqb low 0 && eqb high 0) (leb low high && leb high 65534))
+one-formed zero low high = or-none (eqb low 0 && eqb high 0)
+  where
+    or-none : (a : Bool) → (a || false) ≡ a
+    or-none true = refl
+    or-none false = refl
+one-formed (suc zero) low high = refl
+one-formed (suc (suc n)) low high =
+    simp (ne-eqb (suc (suc n)) 0 (λ e. omega arith), ne-eqb (suc (suc n)) 1 (λ e. omega arith), lt-leb (suc (suc n)) 1 (omega arith))

@@ -13,11 +13,16 @@ pub struct Run {
     pub high: u16,
 }
 
+impl Run {
+    // A run as one number, its key, is low · KEY_FACTOR + high.
+    pub const KEY_FACTOR: u32 = 65536;
+}
+
 pub struct Label {
     pub domain: u32,
     pub level: u8,
     pub count: usize,
-    pub runs: [Run; 120],
+    pub runs: [Run; Label::MAX_RUNS],
 }
 
 impl Label {
@@ -27,6 +32,8 @@ impl Label {
     pub const BITMAP_CATEGORIES: u16 = 240;
     // The highest category.
     pub const MAX_CATEGORY: u16 = 65534;
+    // Where a run could begin, with a gap, behind one that ends at the highest category.
+    pub const PAST_LAST: u32 = Label::MAX_CATEGORY as u32 + 2;
 
     // The label of a domain and level with no categories; for domain 0 the all-zero label, which is ill-formed.
     pub fn empty(domain: u32, level: u8) -> Label
@@ -38,14 +45,14 @@ impl Label {
                 domain: 0,
                 level: 0,
                 count: 0,
-                runs: [none; 120],
+                runs: [none; Label::MAX_RUNS],
             };
         }
         Label {
             domain: domain,
             level: level,
             count: 0,
-            runs: [none; 120],
+            runs: [none; Label::MAX_RUNS],
         }
     }
 
@@ -216,22 +223,20 @@ fn runs_formed(label: Label) -> bool
         i += 1;
     }
     let mut rest: u32 = 0;
-    while i < 120 {
+    while i < Label::MAX_RUNS {
         let run = label.runs[i];
         rest = rest | word(run);
         i += 1;
     }
-    good & (floor <= 65536) & (rest == 0)
+    good & (floor <= Label::PAST_LAST) & (rest == 0)
 }
 
-// Whether the first place is right for a label of at most one run.
-fn one_formed(n: usize, low: u16, high: u16) -> bool
-    ensures { λ r. ⌜ r ≡ cond (eqb n 0) (eqb low 0 && eqb high 0) (leb low high && leb high 65534) ⌝ }
+// Whether a label has at most one run, and its first place is right for it.
+pub fn one_formed(n: usize, low: u16, high: u16) -> bool
+    ensures { λ r. ⌜ r ≡ (leb n 1 && cond (eqb n 0) (eqb low 0 && eqb high 0) (leb low high && leb high 65534)) ⌝ }
 {
-    if n == 0 {
-        return (low == 0) & (high == 0);
-    }
-    (low <= high) & (high <= 65534)
+    ((n == 0) & ((low == 0) & (high == 0)))
+        | ((n == 1) & ((low <= high) & (high <= Label::MAX_CATEGORY)))
 }
 
 // Whether every place but the first is zero.
@@ -240,7 +245,7 @@ fn unused_after_first(label: Label) -> bool
 {
     let mut rest: u32 = 0;
     let mut i: usize = 1;
-    while i < 120 {
+    while i < Label::MAX_RUNS {
         let run = label.runs[i];
         rest = rest | word(run);
         i += 1;
@@ -249,10 +254,10 @@ fn unused_after_first(label: Label) -> bool
 }
 
 // The run's two numbers as they lie in memory: one load.
-fn word(run: Run) -> u32
+pub fn word(run: Run) -> u32
     ensures { λ r. ⌜ r ≡ run .low + run .high * 65536 ⌝ }
 {
-    run.low as u32 + (run.high as u32) * 65536
+    run.low as u32 + (run.high as u32) * Run::KEY_FACTOR
 }
 
 // Whether some used run covers the category.

@@ -7,12 +7,20 @@ use native.Mathlib.Numerals.{add-one}
 use native.Mathlib.Decide.{decLe}
 use native.Mathlib.Omega.{arith}
 use lib.ListN.{length, getD, set, take, drop, replicate, length-drop, length-append, length-take, drop-of-length-le, take-append-drop}
-use lib.Seq.{take-all, take-suc, drop-cons, set-at, append-snoc, length-take-le, drop-drop, take-at, drop-at, drop-append-le}
+use lib.Seq.{take-all, take-nil, take-suc, drop-cons, set-at, append-snoc, length-take-le, drop-drop, take-at, drop-at, drop-append-le}
 use Rattle.lists.specs.Lists.{paint, copied}
 
 -- the part of a list from a place on
 pub tail-is : (l : List ℕ) (a : ℕ) → take (length l - a) (drop a l) ≡ drop a l
 tail-is l a = take-all (length l - a) (drop a l) (simp length-drop (omega arith))
+
+-- the part of a list's front from a place on
+pub drop-take : (n at : ℕ) (l : List ℕ) → drop at (take n l) ≡ take (n - at) (drop at l)
+drop-take zero zero l = refl
+drop-take zero (suc at) l = let e : zero - suc at ≡ 0 = omega arith in rw e
+drop-take (suc n) zero l = let e : suc n - zero ≡ suc n = omega arith in rw e
+drop-take (suc n) (suc at) [] = sym (take-nil (suc n - suc at))
+drop-take (suc n) (suc at) (x ∷ l) = let e : suc n - suc at ≡ n - at = omega arith in rw e (drop-take n at l)
 
 -- a turn of a loop that copies
 pub copy-more : (s d : List ℕ) (i : ℕ) → i < length s → i < length d
@@ -91,3 +99,10 @@ module _ (w n : ℕ) (out part : List ℕ) where
       let r : length (take (n - w) (drop w out)) ≡ n - w = length-take-le (n - w) (drop w out) (simp length-drop (omega arith)) in
       let s : w + (n - w) ≡ n = omega arith in
       rw (ep, r, f, b, drop-drop, s)
+
+-- a list copied over a part of another from a place on
+pub back-copied : (w : ℕ) (xs out part : List ℕ) → w + length xs ≤ length out → part ≡ copied xs (take (length out - w) (drop w out))
+    → Back w (length out) out part ≡ paint w xs out
+back-copied w xs out part h e =
+    let l : length (take (length out - w) (drop w out)) ≡ length out - w = length-take-le (length out - w) (drop w out) (rw length-drop (omega arith)) in
+    back-written w (length out) out part xs h (omega arith) (e ∙ copied-whole xs (take (length out - w) (drop w out)) (omega arith))

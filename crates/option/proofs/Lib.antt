@@ -1,3 +1,4 @@
+pub mod Octets
 pub mod Forms
 pub mod Bits
 pub mod Top

@@ -18,6 +18,7 @@ use Rattle.option.specs.Spelling.{fromZero}
 use Rattle.label.proofs.Canon.{Canon, Below}
 use Rattle.option.specs.Bitmap.{bitAt, weight}
 use Rattle.option.specs.Option.{Octets, domainOf, tagOf, levelOf, bodyOf, numbersIn, singles, ascending, pairsIn, falling, isEven, goodBody, bodyHas, valid, has}
+use Rattle.option.proofs.Octets.{octet-at, octets-drop}
 use Rattle.option.proofs.Forms.{MeansRuns}
 use Rattle.option.specs.Spelling.{size5, octetsOut, formFor, bodyFor, optionOf, spelledBy, spellingOf}
 use Rattle.option.specs.declared.Spellings.{Spellings}
@@ -115,11 +116,6 @@ octet-same x y h l same =
     let s1 : x / 2 ≡ y / 2 = same-half (x / 2) (y / 2) (half4 x ∙ s2 ∙ sym (half4 y)) (bit-same (x / 2) (y / 2) (same 6 (omega arith))) in
     let s0 : x / 1 ≡ y / 1 = same-half (x / 1) (y / 1) (half2 x ∙ s1 ∙ sym (half2 y)) (bit-same (x / 1) (y / 1) (same 7 (omega arith))) in
     sym (one-whole x) ∙ s0 ∙ one-whole y
-
-pub octet-at : (b : List ℕ) (i : ℕ) → Octets b → getD b i 0 < 256
-octet-at [] i o = omega arith
-octet-at (x ∷ b) zero o = o .0
-octet-at (x ∷ b) (suc i) o = octet-at b i (o .1)
 
 pub same-bitmap : (b b′ : List ℕ) → Octets b → Octets b′ → length b ≡ length b′ → ((c : ℕ) → bitAt b c ≡ bitAt b′ c) → b ≡ b′
 same-bitmap b b′ o o′ e same = ext-getD 0 b b′ e (λ i h. octet-same (getD b i 0) (getD b′ i 0) (octet-at b i o) (octet-at b′ i o′) (bit i))
@@ -247,11 +243,6 @@ module _ (rs : List Run) (k : Canon 0 rs) where
       let ps : pairsIn (numbersIn b) ≡ pairsIn (numbersIn b′) = pairs-only b g s m ∙ sym (pairs-only b′ g′ s′ (sym l ∙ m)) in
       let ns : numbersIn b ≡ numbersIn b′ = same-pairs (numbersIn b) (numbersIn b′) (omega (arith, numbers-length b, numbers-length b′, ap (λ (x : ℕ). x / 2) l)) ps in
       sym (out-back b o e) ∙ ap octetsOut ns ∙ out-back b′ o′ (good5-parts b′ g′ .0)
-
-pub octets-drop : (n : ℕ) (b : List ℕ) → Octets b → Octets (drop n b)
-octets-drop zero b o = o
-octets-drop (suc n) [] o = tt
-octets-drop (suc n) (x ∷ b) o = octets-drop n b (o .1)
 
 pub one-option : (d v : ℕ) (rs : List Run) (o o′ : List ℕ) → Canon 0 rs → MeansRuns o d v rs → MeansRuns o′ d v rs → tagOf o ≡ tagOf o′ → length o ≡ length o′ → (tagOf o ≡ 5 → length (bodyOf o) ≡ size5 rs) → o ≡ o′
 one-option d v rs o o′ k m m′ t l n =

@@ -20,6 +20,7 @@ use Rattle.option.specs.Bitmap.{bitAt}
 use Rattle.option.specs.Permitted.{trimmed, tight}
 use Rattle.option.specs.Spelling.{bitsOf, octetsOf}
 use Rattle.option.specs.Option.{tagOf, bodyOf, Octets, numbersIn, singles, ascending, pairsIn, falling, isEven, goodBody, bodyHas, valid, has}
+use Rattle.option.proofs.Octets.{octets-append}
 use Rattle.option.proofs.Forms.{MeansRuns}
 use Rattle.option.specs.Spelling.{size1, size2, size5, octetsOut, countUp, numbersOf, endsOf, bodyFor, optionOf, spelledBy}
 use Rattle.option.proofs.Forms.{FormedRuns}
@@ -116,10 +117,6 @@ canon-rising lo lo′ [] h l k b = l
 canon-rising lo lo′ (r ∷ rs) h l k b = (omega arith, k .1, canon-rising (r .high + 1) (r .high + 2) rs (omega arith) (omega arith) (k .2) (b .1))
 
 -- What is written are octets.
-octets-append : (xs ys : List ℕ) → Octets xs → Octets ys → Octets (xs ++ ys)
-octets-append [] ys p q = q
-octets-append (x ∷ xs) ys p q = (p .0, octets-append xs ys (p .1) q)
-
 bitmap-octets : (f : ℕ → Bool) (n : ℕ) → Octets (octetsOf f n)
 bitmap-octets f zero = tt
 bitmap-octets f (suc n) = octets-append (octetsOf f n) (bitsOf f (8 * n) 8 ∷ []) (bitmap-octets f n) (bits-lt f (8 * n) 8, tt)

@@ -2,9 +2,19 @@
 ghost use mathlib.Core.Path.{_≡_};
 ghost use Rattle.option.specs.Permitted.{usual, isUsual, someOf};
 
-// The places of its fields, counted from its first octet.
-
 pub const OPTION_TYPE: u8 = 134;
+
+// The most octets that an option has.
+pub const OPTION_OCTETS: usize = 40;
+
+// The types of its tag: the bitmap, the numbers, the pairs (the draft, 3.4.2 to 3.4.4).
+pub const BITMAP: u8 = 1;
+
+pub const NUMBERS: u8 = 2;
+
+pub const PAIRS: u8 = 5;
+
+// The places of its fields, counted from its first octet.
 
 pub const LENGTH_AT: usize = 1;
 

@@ -10,17 +10,17 @@ use borrow.Author.Tests.{le-leb, lt-leb, eq-eqb, ne-eqb}
 use Rattle.label.specs.declared.Run.{Run}
 use Rattle.label.specs.declared.Label.{Label}
 use Rattle.label.specs.Label.{used, wellFormed}
-use Rattle.keys.specs.Keys.{keyRuns, labelFrom}
-use Rattle.keys.specs.Range.{setInRange}
+use Rattle.label_keys.specs.Keys.{keyRuns, labelFrom}
+use Rattle.label_keys.specs.Range.{setInRange}
 use Rattle.table.specs.declared.Table.{Table}
-use Rattle.levels.specs.declared.Partner.{Partner}
-use Rattle.levels.specs.declared.Partner.the-variants.{Level, Missing}
+use Rattle.table_levels.specs.declared.Partner.{Partner}
+use Rattle.table_levels.specs.declared.Partner.the-variants.{Level, Missing}
 use Rattle.table.specs.Table.{usedRows, tableSound}
-use Rattle.levels.specs.Levels.{partnerOf}
+use Rattle.table_levels.specs.Levels.{partnerOf}
 use Rattle.table.specs.Numbers.{numbered}
-use Rattle.carry.specs.declared.Carried.{Carried}
-use Rattle.carry.specs.Carry.{imageOf, carriedTo, carriedKeys, carryOf}
-use Rattle.carry.proofs.Carrying.{label-runs, carry-checked, carry-unsound, carried-runs, image-spaced, image-few}
+use Rattle.renumber_keys.specs.declared.Carried.{Carried}
+use Rattle.renumber_keys.specs.Carry.{imageOf, carriedTo, carriedKeys, carryOf}
+use Rattle.renumber_keys.proofs.Carrying.{label-runs, carry-checked, carry-unsound, carried-runs, image-spaced, image-few}
 use Rattle.renumber.specs.declared.Renumbered.{Renumbered}
 use Rattle.renumber.specs.Renumber.{notRenumbered, fitted, imageRuns, whenNumbered, renumberedOf, carriedOf}
 

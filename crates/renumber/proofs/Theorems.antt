@@ -12,25 +12,25 @@ use Rattle.label.specs.declared.Run.{Run}
 use Rattle.label.specs.declared.Label.{Label}
 use Rattle.label.specs.Runs.{covers, subset}
 use Rattle.label.specs.Label.{used, labelOf, wellFormed, member, atMost, inRange}
-use Rattle.keys.specs.Range.{setInRange}
+use Rattle.label_keys.specs.Range.{setInRange}
 use Rattle.label.proofs.Bools.{and-right, or-cases, or-true-right, same-yes, less-or}
 use Rattle.label.proofs.Runs.{one-form}
 use Rattle.label.proofs.Labels.{formed, well-formed, formed-of, used-of, used-length, of-used, member-is, leq-says, leq-said, leq-at-most}
 use Rattle.label.proofs.Theorems as label-theorems
 use Rattle.table.specs.declared.Table.{Table}
-use Rattle.levels.specs.declared.Partner.{Partner}
-use Rattle.levels.specs.declared.Partner.the-variants.{Level, Missing}
+use Rattle.table_levels.specs.declared.Partner.{Partner}
+use Rattle.table_levels.specs.declared.Partner.the-variants.{Level, Missing}
 use Rattle.table.specs.Table.{usedRows, tableSound}
-use Rattle.levels.specs.Levels.{partnerOf}
+use Rattle.table_levels.specs.Levels.{partnerOf}
 use Rattle.table.specs.Numbers.{sends, numbered, inImage}
 use Rattle.table.proofs.Sound.{sound, Rows, sound-rows}
 use Rattle.table.proofs.Numbers.{one-category, one-number, has-number, number-has}
-use Rattle.levels.proofs.Partners.{partners-order, partner-level, Ordered}
+use Rattle.table_levels.proofs.Partners.{partners-order, partner-level, Ordered}
 use Rattle.renumber.specs.declared.Renumbered.{Renumbered}
 use Rattle.renumber.specs.Renumber.{notRenumbered, renumberedAs, imageRuns, fitted, whenNumbered, renumberedOf, carriedOf}
 use Rattle.renumber.specs.Theorems.{Far, Renumbering, Agrees, Carried, Carrying, KeepsOrder, KeepsJoins}
-use Rattle.carry.proofs.Sets.{set-covers, set-spaced, the-runs}
-use Rattle.carry.proofs.Pass.{numbered-yes, numbered-all, image-hits, sends-hits, hits-sends}
+use Rattle.renumber_keys.proofs.Sets.{set-covers, set-spaced, the-runs}
+use Rattle.renumber_keys.proofs.Pass.{numbered-yes, numbered-all, image-hits, sends-hits, hits-sends}
 use Rattle.renumber.proofs.Answers.{renumbered-fitted, carried-outside, carried-fitted}
 
 -- What led to an answer that is no refusal.

@@ -7,14 +7,14 @@ use lib.ListN.{length, take}
 use Rattle.label.specs.declared.Run.{Run}
 use Rattle.label.specs.declared.Label.{Label}
 use Rattle.label.specs.Label.{used, labelOf, zeroLabel, wellFormed}
-use Rattle.keys.specs.Range.{setInRange}
+use Rattle.label_keys.specs.Range.{setInRange}
 use Rattle.table.specs.declared.Table.{Table}
-use Rattle.levels.specs.declared.Partner.{Partner}
-use Rattle.levels.specs.declared.Partner.the-variants.{Level, Missing}
+use Rattle.table_levels.specs.declared.Partner.{Partner}
+use Rattle.table_levels.specs.declared.Partner.the-variants.{Level, Missing}
 use Rattle.table.specs.Table.{usedRows, tableSound}
-use Rattle.levels.specs.Levels.{partnerOf}
+use Rattle.table_levels.specs.Levels.{partnerOf}
 use Rattle.table.specs.Numbers.{numbered}
-use Rattle.carry.specs.Carry.{imageOf}
+use Rattle.renumber_keys.specs.Carry.{imageOf}
 use Rattle.renumber.specs.declared.Renumbered.{Renumbered}
 
 -- a refusal comes with an all-zero label

@@ -7,9 +7,9 @@ use lib.ListN.{take}
 use Rattle.label.specs.declared.Label.{Label}
 use Rattle.label.specs.Label.{wellFormed, member, leq, inRange}
 use Rattle.table.specs.declared.Table.{Table}
-use Rattle.levels.specs.declared.Partner.the-variants.{Level}
+use Rattle.table_levels.specs.declared.Partner.the-variants.{Level}
 use Rattle.table.specs.Table.{usedRows, tableSound}
-use Rattle.levels.specs.Levels.{partnerOf}
+use Rattle.table_levels.specs.Levels.{partnerOf}
 use Rattle.table.specs.Numbers.{hasNumber, sends}
 use Rattle.renumber.specs.Renumber.{notRenumbered, renumberedAs, renumberedOf, carriedOf}
 

@@ -2,15 +2,16 @@
 ghost use mathlib.Core.Path.{_≡_};
 ghost use Prim.Native.Nat.{_≤_};
 ghost use lib.ListN.{length, take};
-ghost use Rattle.keys.specs.Keys.{keyRuns};
+ghost use Rattle.label_keys.specs.Keys.{keyRuns};
 ghost use Rattle.renumber.specs.Renumber.{notRenumbered, fitted, renumberedOf};
-use carry::MOST_RUNS;
-use carry::carry;
-use keys::label_keys;
-use keys::to_label;
 use label::Label;
+use label_keys::label_keys;
+use label_keys::to_label;
+use renumber_keys::MOST_RUNS;
+use renumber_keys::carry;
 use table::Table;
 use table::table_sound;
+use table_levels::Levels;
 
 // A refusal's number with an all-zero label, or 0 and the label.
 pub struct Renumbered {
@@ -19,7 +20,7 @@ pub struct Renumbered {
 }
 
 // The label renumbered by the table, or the first refusal of 2, 16 and 18.
-pub fn renumber(label: Label, table: Table, levels: [[u8; 2]; 16]) -> Renumbered
+pub fn renumber(label: Label, table: Table, levels: Levels) -> Renumbered
     ensures { λ r. ⌜ r ≡ renumberedOf label table levels ⌝ }
 {
     if !label.well_formed() {

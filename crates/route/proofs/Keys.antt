@@ -11,10 +11,10 @@ use borrow.Author.Tests.{le-leb, lt-leb, leb-true, eqb-true, eq-eqb, ne-eqb}
 use lib.ListN.{length, take, drop, set, getD, drop-of-length-le}
 use lib.Seq.{length-take-le, take-at}
 use Rattle.label.proofs.Bools.{never, and-left, and-right, same-yes, less-or}
-use Rattle.order.specs.Order.{Sorted, all, sortKeys}
-use Rattle.order.proofs.Laws.{sort-sorted, sort-length}
-use Rattle.order.proofs.Merge.{put}
-use Rattle.levels.proofs.Levels.{next-there}
+use Rattle.lists_sort.specs.Order.{Sorted, all, sortKeys}
+use Rattle.lists_sort.proofs.Laws.{sort-sorted, sort-length}
+use Rattle.lists_sort.proofs.Merge.{put}
+use Rattle.table_levels.proofs.Levels.{next-there}
 use Rattle.table.proofs.Rows.{pairs, sorted-pairs}
 use Rattle.route.specs.declared.Route.{Route}
 use Rattle.route.specs.Route.{routesOf, clearPast, routeSound, every, samePrefix, prefixesDiffer}

@@ -1,12 +1,12 @@
 // Routes (document 02, Wish 7): the longest matching prefix, and what makes a list of routes sound. A list of routes is lent as numbers, four a route:
 // prefix, prefix length, port number, domain.
-use order::sort_keys;
+use lists_sort::sort_keys;
 ghost use mathlib.Core.Path.{_≡_};
 ghost use mathlib.Core.Bool.{true, _&&_};
 ghost use Prim.Native.Nat.{_+_, _≤_};
 ghost use Prim.Native.Nat.{_-_, _^_};
 ghost use lib.ListN.{length, take};
-ghost use Rattle.order.specs.Order.{sortKeys};
+ghost use Rattle.lists_sort.specs.Order.{sortKeys};
 ghost use Rattle.route.specs.Route.{routesOf, matches, preferred, longest, portListed, domainAgrees, routeSound, every, prefixesDiffer, routesSound};
 ghost use Rattle.route.specs.Stages.{routeAt, prefixSound, bareRoute, prefixKey, among, keysOf, climbs, Gathered};
 

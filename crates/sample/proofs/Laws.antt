@@ -6,12 +6,12 @@ use native.Mathlib.Omega.{arith}
 use borrow.Author.Tests.{eq-eqb, ne-eqb}
 use lib.ListN.{length, replicate}
 use Rattle.decision.specs.declared.Decision.{Decision}
-use Rattle.forwarding.specs.Crossing.{Forwarding}
-use Rattle.forwarding.specs.Forward.{forwardOf, outputOf}
+use Rattle.forward_rules.specs.Crossing.{Forwarding}
+use Rattle.forward_rules.specs.Forward.{forwardOf, outputOf}
 use Rattle.text.specs.Put.{Puts}
-use Rattle.lines.specs.Line.{forwardLine, dropLine}
-use Rattle.lines.specs.Theorems.{Whole}
-use Rattle.lines.proofs.Theorems.{puts-whole, longest-forward, longest-drop}
+use Rattle.text.specs.Line.{forwardLine, dropLine}
+use Rattle.text.specs.Theorems.{Whole}
+use Rattle.text.proofs.Theorems.{puts-whole, longest-forward, longest-drop}
 use Rattle.sample.specs.Sample.{decisionLine, forwardingLine}
 
 refused-line : (f : Forwarding) (d : Decision) → d ≡ forwardOf f → (d .number ≡ 0 → ⊥)

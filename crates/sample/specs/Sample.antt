@@ -8,10 +8,10 @@ use Rattle.decision.specs.declared.Decision.{Decision}
 use Rattle.decision.specs.Decision.{noFact}
 use Rattle.port.specs.declared.Port.{Port}
 use Rattle.table.specs.declared.Table.{Table}
-use Rattle.forwarding.specs.Crossing.{Forwarding}
-use Rattle.forwarding.specs.Forward.{forwardingOf}
-use Rattle.forwarding.specs.Forward.{forwardOf, outputOf}
-use Rattle.lines.specs.Line.{forwardLine, dropLine}
+use Rattle.forward_rules.specs.Crossing.{Forwarding}
+use Rattle.forward_rules.specs.Forward.{forwardingOf}
+use Rattle.forward_rules.specs.Forward.{forwardOf, outputOf}
+use Rattle.text.specs.Line.{forwardLine, dropLine}
 
 -- a decision's line, with the octets of the leaving area where it is forwarded
 unfoldable pub decisionLine : Decision → List ℕ → List ℕ

@@ -2,17 +2,14 @@
 // one line by the first two ports and the first table of the file `gateway.bin`.
 ghost use Prim.Native.Nat.{_+_, _≤_};
 ghost use lib.ListN.{length};
-ghost use Rattle.lines.specs.Theorems.{Whole};
+ghost use Rattle.text.specs.Theorems.{Whole};
 ghost use Rattle.sample.specs.Sample.{areaLine};
 use decision::Facts;
-use file::FileRead;
-use file::read_file;
-use fileset::Set;
-use fileset::levels_of;
-use gateway::forward;
-use lines::put_broken;
-use lines::put_drop;
-use lines::put_forward;
+use file_read::FileRead;
+use file_read::read_file;
+use file_set::Set;
+use file_set::levels_of;
+use forward::forward;
 use port::Port;
 use stream::Place;
 use stream::begin;
@@ -23,12 +20,15 @@ use stream::spare;
 use stream::stop;
 use table::Row;
 use table::Table;
+use text::put_broken;
+use text::put_drop;
+use text::put_forward;
 
 // How much of the input is held at a time: some 1,600 records of the longest area that can pass.
 const INPUT: usize = 65536;
 // How much of the output waits at a time.
 const OUTPUT: usize = 65536;
-// The most octets of a line (crate `lines`, `Longest`): there is room for so many before one is put.
+// The most octets of a line (crate `text`, `Longest`): there is room for so many before one is put.
 const LINE: usize = 110;
 
 // One octet more than the longest file has: octets past it are noticed.

@@ -13,15 +13,15 @@ use lib.Seq.{take-suc, set-at, take-at, drop-at, take-length, length-take-le, ge
 use borrow.Author.Tests.{le-leb, lt-leb, leb-true, ltb-true, lt-ltb, eqb-true, eq-eqb}
 use Rattle.label.proofs.Bools.{and-left, and-right, and-both, same-yes}
 use Rattle.label.proofs.Steps.{next}
-use Rattle.levels.proofs.Levels.{or-zero}
-use Rattle.rows.specs.Rows.{keysApart}
-use Rattle.order.specs.Order.{all, sortKeys}
-use Rattle.order.proofs.Laws.{sort-length}
-use Rattle.order.proofs.Merge.{put}
+use Rattle.table_levels.proofs.Levels.{or-zero}
+use Rattle.table_rows.specs.Rows.{keysApart}
+use Rattle.lists_sort.specs.Order.{all, sortKeys}
+use Rattle.lists_sort.proofs.Laws.{sort-length}
+use Rattle.lists_sort.proofs.Merge.{put}
 use Rattle.table.specs.declared.Row.{Row}
 use Rattle.table.specs.declared.Table.{Table}
 use Rattle.table.specs.Table.{targetsApart, noRow, usedRows, targetEnd, rising, unusedRows, rowsSound, typed, tableSound}
-use Rattle.levels.specs.Levels.{levelsSound}
+use Rattle.table_levels.specs.Levels.{levelsSound}
 use Rattle.table.specs.Order.{orderKeys, rowOrder, orderOf, rowAt, inOrder}
 use Rattle.table.specs.Stages.{chain, EndsOf, fieldsSound, fewEnd, RowsRise}
 use Rattle.table.proofs.Rows.{targets-chain, order-all, good}

@@ -10,9 +10,9 @@ use native.Mathlib.Decide.{decLe}
 use lib.Dec.{leb, ltb, eqb}
 use borrow.Author.Tests.{le-leb, lt-leb, leb-true, lt-ltb, le-ltb, eqb-true, eq-eqb}
 use Rattle.label.proofs.Bools.{and-left, and-right}
-use Rattle.order.specs.Order.{Sorted, all, insertKey, sortOnto, sortKeys}
-use Rattle.order.proofs.Laws.{insert-all, sort-sorted, sort-all}
-use Rattle.order.proofs.Merge.{sorted-self}
+use Rattle.lists_sort.specs.Order.{Sorted, all, insertKey, sortOnto, sortKeys}
+use Rattle.lists_sort.proofs.Laws.{insert-all, sort-sorted, sort-all}
+use Rattle.lists_sort.proofs.Merge.{sorted-self}
 use Rattle.table.specs.declared.Row.{Row}
 use Rattle.table.specs.Table.{noRow, targetEnd, rising, apart, apartFrom, targetsApart}
 use Rattle.table.specs.Order.{orderKeys, rowOrder, rowAt, inOrder}

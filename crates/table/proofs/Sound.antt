@@ -9,7 +9,7 @@ use borrow.Author.Tests.{leb-true, eqb-true, eqb-false, not-true}
 use Rattle.label.proofs.Bools.{and-left, and-right}
 use Rattle.table.specs.declared.Table.{Table}
 use Rattle.table.specs.Table.{usedRows, rising, targetsApart, unusedRows, rowsSound, typed, tableSound}
-use Rattle.levels.specs.Levels.{levelsRise, unusedPairs, levelsSound, levelNumbers}
+use Rattle.table_levels.specs.Levels.{levelsRise, unusedPairs, levelsSound, levelNumbers}
 
 -- Rows.
 pub record Rows (t : Table) : Type 0 where

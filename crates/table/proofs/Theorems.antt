@@ -6,7 +6,7 @@ use Rattle.table.specs.Table.{usedRows}
 use Rattle.table.specs.Theorems.{Numbering}
 use Rattle.table.proofs.Sound.{sound, sound-rows}
 use Rattle.table.proofs.Numbers.{has-number, one-number, one-category}
-use Rattle.levels.proofs.Partners.{partners-order}
+use Rattle.table_levels.proofs.Partners.{partners-order}
 
 pub numbering : Numbering
 numbering t ls e =

@@ -3,7 +3,7 @@ use mathlib.Core.Bool.{cond}
 use mathlib.Core.List.{List, [], _∷_, _++_, map}
 use Prim.Native.Nat.{ℕ, _+_, _-_, _*_, _%_}
 use lib.ListN.{getD, replicate}
-use Rattle.order.specs.Order.{sortKeys}
+use Rattle.lists_sort.specs.Order.{sortKeys}
 use Rattle.table.specs.declared.Row.{Row}
 use Rattle.table.specs.declared.Table.{Table}
 use Rattle.table.specs.Table.{noRow, usedRows, tableSound}

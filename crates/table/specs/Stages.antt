@@ -9,7 +9,7 @@ use Rattle.table.specs.declared.Row.{Row}
 use Rattle.table.specs.declared.Table.{Table}
 use Rattle.table.specs.declared.Words.{Words}
 use Rattle.table.specs.Table.{noRow, usedRows, targetEnd, rising, unusedRows, rowsSound, typed}
-use Rattle.levels.specs.Levels.{levelsSound}
+use Rattle.table_levels.specs.Levels.{levelsSound}
 use Rattle.table.specs.Order.{orderKeys, rowOrder}
 
 -- each row's targets begin above the end of those before, the first at `f` or above

@@ -5,9 +5,9 @@ use mathlib.Core.Path.{_≡_}
 use Prim.Native.Nat.{ℕ, _≤_}
 use lib.ListN.{take}
 use Rattle.table.specs.declared.Table.{Table}
-use Rattle.levels.specs.declared.Partner.the-variants.{Level}
+use Rattle.table_levels.specs.declared.Partner.the-variants.{Level}
 use Rattle.table.specs.Table.{usedRows, tableSound}
-use Rattle.levels.specs.Levels.{partnerOf}
+use Rattle.table_levels.specs.Levels.{partnerOf}
 use Rattle.table.specs.Numbers.{hasNumber, sends}
 
 -- each category and level has at most one number, each number comes from one category and each level from one level

@@ -8,10 +8,11 @@ ghost use lib.ListN.{length, drop, replicate};
 ghost use Rattle.table.specs.Table.{targetEnd, unusedRows, tableSound};
 ghost use Rattle.table.specs.Order.{orderOf};
 ghost use Rattle.table.specs.Stages.{fieldsSound, fewEnd, wordsZero, RowsRise, RowsOrder};
-use levels::levels_sound;
-use order::sort_keys;
-use rows::row_rises;
-use rows::targets_apart;
+use lists_sort::sort_keys;
+use table_levels::Levels;
+use table_levels::levels_sound;
+use table_rows::row_rises;
+use table_rows::targets_apart;
 
 // The categories from low to high go to those from target on.
 pub struct Row {
@@ -30,7 +31,7 @@ pub struct Table {
 }
 
 // Whether the table is sound, with its level pairs.
-pub fn table_sound(table: Table, levels: [[u8; 2]; 16]) -> bool
+pub fn table_sound(table: Table, levels: Levels) -> bool
     ensures { λ r. ⌜ r ≡ tableSound table levels ⌝ }
 {
     let mut order = [0u32; 64];
@@ -39,7 +40,7 @@ pub fn table_sound(table: Table, levels: [[u8; 2]; 16]) -> bool
 
 // The same, for a caller that goes on to renumber: the list is given the rows in the order of their targets, each as its target and its
 // number, and zeros behind them; of an unsound table zeros alone. What it held before is not read.
-pub fn table_order(table: Table, levels: [[u8; 2]; 16], order: &mut [u32; 64]) -> bool
+pub fn table_order(table: Table, levels: Levels, order: &mut [u32; 64]) -> bool
     ensures { λ r. ⌜ (r ≡ tableSound table levels) × (now (order .exit) ≡ orderOf table levels) ⌝ }
 {
     if !fields_sound(table, levels) {
@@ -65,7 +66,7 @@ fn clear(order: &mut [u32])
 }
 
 // All but the rows.
-fn fields_sound(table: Table, levels: [[u8; 2]; 16]) -> bool
+fn fields_sound(table: Table, levels: Levels) -> bool
     ensures { λ r. ⌜ r ≡ fieldsSound table levels ⌝ }
 {
     if table.from == 0 {

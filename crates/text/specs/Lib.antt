@@ -1,2 +1,5 @@
 pub mod Put
 pub mod Text
+pub mod Line
+pub mod Theorems
+pub mod Examples

@@ -1,11 +1,12 @@
-// Text in a lent buffer: octets, words, numbers in decimal and in hex. Nothing here reads or writes.
-// Each function puts octets into a buffer from place n on and answers the place behind them. An octet that finds no room is left out.
+// Text in a lent buffer: octets, words, numbers in decimal and in hex, and the lines of the sample program (document 01, "The sample program"). Nothing here reads or writes: each
+// function puts octets into a buffer from place n on and answers the place behind them, and an octet that finds no room is left out.
 ghost use mathlib.Core.Path.{_≡_};
 ghost use mathlib.Core.List.{[], _∷_};
 ghost use Prim.Native.Nat.{_+_, _%_, _≤_, _<_};
 ghost use lib.ListN.{length, drop};
 ghost use Rattle.text.specs.Put.{Puts};
 ghost use Rattle.text.specs.Text.{decimal, next, hexDigit, hexOf};
+ghost use Rattle.text.specs.Line.{shown, forwardLine, dropLine, brokenLine};
 
 // The most digits of a number in decimal.
 const DIGITS: usize = 20;
@@ -104,4 +105,47 @@ fn digit(x: u64) -> u8
     ensures { λ r. ⌜ r ≡ 48 + x % 10 ⌝ }
 {
     (x % 10) as u8 + b'0'
+}
+
+// A forwarding's line: the count, and that many octets of the leaving area in hex.
+pub fn put_forward(out: &mut [u8], n: usize, count: usize, area: &[u8]) -> usize
+    ensures { λ r. ⌜ Puts (now (out .entry)) n (forwardLine count (now (area .entry))) (now (out .exit)) r ⌝ }
+{
+    let named = put_word(out, n, b"FORWARD");
+    let counted = put_next(out, named, count as u64);
+    let ended = put_first(out, counted, count, area);
+    put_octet(out, ended, b'\n')
+}
+
+// A blank, and the first `count` octets in hex, or as many as there are; nothing for a count of 0.
+fn put_first(out: &mut [u8], n: usize, count: usize, area: &[u8]) -> usize
+    ensures { λ r. ⌜ Puts (now (out .entry)) n (shown count (now (area .entry))) (now (out .exit)) r ⌝ }
+{
+    if count == 0 {
+        return n;
+    }
+    let k = put_octet(out, n, b' ');
+    if area.len() < count {
+        return put_hex(out, k, area);
+    }
+    put_hex(out, k, &area[..count])
+}
+
+// A refusal's line: number, type, code and pointer.
+pub fn put_drop(out: &mut [u8], n: usize, number: u8, kind: u8, code: u8, pointer: u8) -> usize
+    ensures { λ r. ⌜ Puts (now (out .entry)) n (dropLine number kind code pointer) (now (out .exit)) r ⌝ }
+{
+    let named = put_word(out, n, b"DROP");
+    let numbered = put_next(out, named, number as u64);
+    let typed = put_next(out, numbered, kind as u64);
+    let coded = put_next(out, typed, code as u64);
+    let pointed = put_next(out, coded, pointer as u64);
+    put_octet(out, pointed, b'\n')
+}
+
+// The line of a record that is cut short.
+pub fn put_broken(out: &mut [u8], n: usize) -> usize
+    ensures { λ r. ⌜ Puts (now (out .entry)) n brokenLine (now (out .exit)) r ⌝ }
+{
+    put_word(out, n, b"BROKEN\n")
 }

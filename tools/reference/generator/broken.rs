@@ -2,13 +2,14 @@
 
 use crate::basic::{Marking, LEVELS, MAX_FLAG_FIELDS};
 use crate::cases::{
-    encode, Case, Encoder, Output, BITMAP, CONTAINS, DELIVER, DELIVER_FACTS, DELIVER_WIDE, FORWARD, FORWARD_FACTS, FORWARD_WIDE, IN_BOX,
-    MAX_OUTPUT, MAX_ROOM, READ, READ_AND_WRITE, READ_BASIC, READ_FILE, RENUMBER, REVERSE, SPELL, SPELL_PERMITTED, WITHIN, WRITE_BASIC,
-    WRITE_FILE,
+    encode, Case, Encoder, MessageCase, Output, BITMAP, BUILD_MESSAGE, CONTAINS, DELIVER, DELIVER_FACTS, DELIVER_WIDE, FORWARD,
+    FORWARD_FACTS, FORWARD_WIDE, IN_BOX, MAX_OUTPUT, MAX_ROOM, MEMORY, READ, READ_AND_WRITE, READ_BASIC, READ_FILE, READ_MESSAGE, RENUMBER,
+    REVERSE, SPELL, SPELL_PERMITTED, WITHIN, WRITE_BASIC, WRITE_FILE,
 };
 use crate::entries::{Entries, BASIC_GROUP, DEFAULT_GROUP, GROUPS, SPELLINGS_GROUP};
 use crate::file::SetRecord;
 use crate::label::HeldLabel;
+use crate::messages::Report;
 
 use super::basic::{basic_read, basic_written};
 use super::bitmaps::bitmap_read;
@@ -18,6 +19,8 @@ use super::drafts::*;
 use super::files::{file_rule_broken, file_written, rich_set, set_written};
 use super::forward::forwarded;
 use super::labels::{contains_yes, renumbered, spelled, spelled_permitted, within_yes};
+use super::memories::memory_calls;
+use super::messages::{message_built, message_read};
 use super::random::Random;
 use super::reading::read_valid;
 use super::reverse::reversed;
@@ -44,8 +47,11 @@ const GOOD: &[(u8, Maker)] = &[
     (DELIVER_WIDE, wide_delivered),
     (SPELL_PERMITTED, spelled_permitted),
     (IN_BOX, box_forwarded),
+    (BUILD_MESSAGE, message_built),
+    (READ_MESSAGE, message_read),
     (REVERSE, reversed),
     (BITMAP, bitmap_read),
+    (MEMORY, memory_calls),
 ];
 
 /// The octets of a good case of any entry.
@@ -62,7 +68,9 @@ const LATER_WAYS: &[(u8, Way)] = &[
     (DELIVER_FACTS, bad_fact_deliver),
     (WRITE_FILE, bad_group),
     (WRITE_FILE, stored_set),
+    (BUILD_MESSAGE, long_message_outputs),
     (REVERSE, long_room),
+    (MEMORY, bad_memory),
     (WRITE_BASIC, long_basic_output),
     (FORWARD_WIDE, bad_wide_forward),
     (DELIVER_WIDE, bad_wide_deliver),
@@ -70,6 +78,36 @@ const LATER_WAYS: &[(u8, Way)] = &[
     (IN_BOX, long_lists),
     (IN_BOX, bad_fact_box),
 ];
+
+/// More than 64 stored addresses, or a call that is unknown or cut off; what stands before it is good.
+fn bad_memory(random: &mut Random, round: usize) -> Vec<u8> {
+    if round % 3 == 0 {
+        let stored = [65, 66, 255, 128][round / 3 % 4];
+        return [&[MEMORY, 0, stored][..], &vec![0; 4 * stored as usize]].concat();
+    }
+    let mut octets = vec![MEMORY, 1, 1, 0, 0, 0, 5];
+    octets.extend([1, 0, 0, 0, 9, 4]);
+    let call = if round % 3 == 1 { [0, 6, 255, 128][round / 3 % 4] } else { [1, 2, 3, 5][round / 3 % 4] };
+    octets.push(call);
+    if round % 3 == 1 {
+        octets.extend([0, 0, 0, 9]);
+    } else {
+        // A message says more octets than there are.
+        let count = if call == 5 { 2 } else { 3 };
+        octets.extend(vec![1; count]);
+        octets.truncate(octets.len() - random.below(2));
+    }
+    octets
+}
+
+/// One of a message's two outputs is over its limit.
+fn long_message_outputs(_random: &mut Random, round: usize) -> Vec<u8> {
+    let over = |way: usize| Output { length: if round % 2 == way { [MAX_OUTPUT + 1, 65_535][round / 2 % 2] } else { 40 }, fill: 0 };
+    let report = Report { icmp_type: 12, icmp_code: 1, pointer: 134 };
+    let header = [&[0x45][..], &[0; 19]].concat();
+    let case = MessageCase { number: 6, report, header, data: Vec::new(), message_output: over(0), options_output: over(1) };
+    encode(&Case::BuildMessage(case), 0)
+}
 
 /// More than 64 ports, 8 tables or 256 routes, though all octets are there.
 fn long_lists(_random: &mut Random, round: usize) -> Vec<u8> {

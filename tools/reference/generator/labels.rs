@@ -2,7 +2,7 @@
 
 use crate::cases::{Case, Output};
 use crate::label::{HeldLabel, Run};
-use crate::records::TableRecord;
+use crate::records::{Row, TableRecord};
 
 use super::drafts::*;
 use super::forward::sound_draft;
@@ -126,8 +126,12 @@ pub fn two_labels(random: &mut Random) -> (HeldLabel, HeldLabel) {
     (held(domain, level, &runs), bound)
 }
 
-pub fn within_yes(random: &mut Random, _turn: usize, _number: u8) -> Made {
-    let (label, bound) = two_labels(random);
+pub fn within_yes(random: &mut Random, turn: usize, _number: u8) -> Made {
+    let (mut label, bound) = two_labels(random);
+    // No categories are within any.
+    if turn % 4 == 3 {
+        label = held(bound.domain, bound.level, &[]);
+    }
     Made::Case(Case::Within(label, bound))
 }
 
@@ -145,7 +149,7 @@ pub fn within_no(random: &mut Random, turn: usize, _number: u8) -> Made {
 pub fn within_ill_formed(random: &mut Random, turn: usize, _number: u8) -> Made {
     let label = random_label(random, 5, Shape::Ranges);
     let (mut lower, mut upper) = (label.clone(), label);
-    match turn / ILL_FORMED % 3 {
+    match (turn + turn / ILL_FORMED) % 3 {
         0 => ill_form(random, &mut lower, turn),
         1 => ill_form(random, &mut upper, turn),
         _ => {
@@ -156,7 +160,30 @@ pub fn within_ill_formed(random: &mut Random, turn: usize, _number: u8) -> Made 
     Made::Case(Case::Within(lower, upper))
 }
 
+/// 120 runs through 64 rows whose targets fall; and all or some of the categories through 64 rows that turn them round.
+fn scattered(which: usize) -> (HeldLabel, TableRecord) {
+    let mut table = TableRecord { from: 5, to: 9, level_count: 3, row_count: 64, ..TableRecord::ALL_ZERO };
+    table.levels[..3].copy_from_slice(&[[1, 2], [3, 4], [5, 6]]);
+    let wide: u32 = if which == 0 { 8 } else { 1024 };
+    for (i, row) in (0u32..).zip(table.rows.iter_mut().take(64)) {
+        let low = i * wide;
+        let high = (low + wide - 1).min(65_534);
+        let target = if which == 0 { 504 - 8 * i } else { 64_511u32.saturating_sub(1024 * i) };
+        *row = Row { low: low as u16, high: high as u16, target_low: target as u16 };
+    }
+    let runs: Vec<Run> = match which {
+        0 => (0..120).map(|k| Run { low: 4 * k, high: 4 * k + 1 }).collect(),
+        1 => vec![Run { low: 0, high: 65_534 }],
+        _ => vec![Run { low: 1000, high: 3100 }],
+    };
+    (held(5, 3, &runs), table)
+}
+
 pub fn renumbered(random: &mut Random, turn: usize, _number: u8) -> Made {
+    if turn % 8 == 5 {
+        let (label, table) = scattered(turn / 8 % 3);
+        return Made::Case(Case::Renumber(label, table));
+    }
     let (domain, far_domain) = (random_domain(random), random_domain(random));
     let shape = match turn % 12 {
         0 => Shape::Many,

@@ -4,7 +4,7 @@
 // the reference gives that answer. So every number of every entry is hit often, whatever the seed. Slots for unsound records and
 // ill-formed labels take the clauses in turn.
 //
-//   labels, reading, bitmaps, files, reverse, forward, deliver, wide, boxes, broken     cases of one kind each
+//   labels, reading, bitmaps, files, reverse, forward, deliver, wide, boxes, messages, memories, broken     cases of one kind each
 //   sets, spellings, ranges, tables, drafts, basic     good parts of cases
 //   unsound, faults                             ways to spoil them
 //   sample_records                              records for the sample program
@@ -19,6 +19,8 @@ mod faults;
 mod files;
 mod forward;
 mod labels;
+mod memories;
+mod messages;
 mod random;
 mod ranges;
 mod reading;
@@ -35,8 +37,9 @@ use std::collections::BTreeMap;
 use std::io::{self, Write};
 
 use crate::cases::{
-    encode, line_of, Case, BITMAP, BROKEN, CONTAINS, DELIVER, DELIVER_FACTS, DELIVER_WIDE, FORWARD, FORWARD_FACTS, FORWARD_WIDE, IN_BOX,
-    READ, READ_AND_WRITE, READ_BASIC, READ_FILE, RENUMBER, REVERSE, SPELL, SPELL_PERMITTED, WITHIN, WRITE_BASIC, WRITE_FILE,
+    encode, line_of, Case, BITMAP, BROKEN, BUILD_MESSAGE, CONTAINS, DELIVER, DELIVER_FACTS, DELIVER_WIDE, FORWARD, FORWARD_FACTS,
+    FORWARD_WIDE, IN_BOX, MEMORY, READ, READ_AND_WRITE, READ_BASIC, READ_FILE, READ_MESSAGE, RENUMBER, REVERSE, SPELL, SPELL_PERMITTED,
+    WITHIN, WRITE_BASIC, WRITE_FILE,
 };
 use crate::decision::Facts;
 use crate::entries::Entries;
@@ -49,6 +52,8 @@ use deliver::*;
 use files::*;
 use forward::*;
 use labels::*;
+use memories::*;
+use messages::*;
 use reading::*;
 use reverse::*;
 use wide::*;
@@ -92,8 +97,11 @@ const ANSWERS: &[(u8, &str, &[&str])] = &[
     (DELIVER_WIDE, "deliver", WIDE_DELIVER_ANSWERS),
     (SPELL_PERMITTED, "spell", &["0", "1", "2", "18"]),
     (IN_BOX, "in a box", BOX_ANSWERS),
+    (BUILD_MESSAGE, "build a message", &["0", "2", "24"]),
+    (READ_MESSAGE, "read a message", &["0", "25"]),
     (REVERSE, "reverse", &["0", "2", "24"]),
     (BITMAP, "bitmap", &["0", "10"]),
+    (MEMORY, "memory", &["0", "2", "25"]),
 ];
 
 enum Made {
@@ -257,11 +265,29 @@ fn all_slots() -> Vec<Slot> {
         slot(WRITE_FILE, 1, "1", set_written_short),
         slot(WRITE_FILE, 3, "2", set_unsound),
         slot(WRITE_FILE, 1, "NAMED", set_named),
+        slot(BUILD_MESSAGE, 4, "0", message_built),
+        slot(BUILD_MESSAGE, 1, "0", message_built_checksum_zero),
+        slot(BUILD_MESSAGE, 2, "2", message_unsound),
+        slot(BUILD_MESSAGE, 3, "0", message_not_sent),
+        slot(BUILD_MESSAGE, 2, "24", message_short_output),
+        free_slot(BUILD_MESSAGE, 3, message_two_reasons),
+        free_slot(BUILD_MESSAGE, 1, message_changed),
+        slot(READ_MESSAGE, 3, "0", message_read),
+        slot(READ_MESSAGE, 2, "25", message_octet_changed),
+        slot(READ_MESSAGE, 3, "25", message_field_changed),
+        free_slot(READ_MESSAGE, 3, message_cut),
         slot(REVERSE, 2, "0", reversed),
         slot(REVERSE, 2, "2", reverse_unsound),
         slot(REVERSE, 1, "24", reverse_short_room),
         slot(BITMAP, 3, "0", bitmap_read),
         slot(BITMAP, 1, "10", bitmap_long),
+        free_slot(MEMORY, 4, memory_calls),
+        slot(MEMORY, 3, "0", memory_one_call),
+        slot(MEMORY, 2, "0", memory_filled),
+        slot(MEMORY, 2, "2", memory_ill_formed),
+        slot(MEMORY, 1, "25", memory_other_message),
+        slot(MEMORY, 1, "0", memory_message),
+        free_slot(MEMORY, 1, memory_alone),
         slot(READ_BASIC, 2, "0", basic_read),
         slot(READ_BASIC, 2, "19", basic_bad),
         free_slot(READ_BASIC, 1, basic_changed),

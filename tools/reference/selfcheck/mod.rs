@@ -3,6 +3,8 @@
 mod basic;
 mod boxes;
 mod files;
+mod memories;
+mod messages;
 mod permitted;
 mod renumbering;
 
@@ -405,6 +407,8 @@ pub fn run() -> bool {
     basic::basic(&mut tally);
     permitted::permitted(&mut tally);
     boxes::boxes(&mut tally);
+    messages::messages(&mut tally);
+    memories::memories(&mut tally);
     renumbering::renumbering(&mut tally);
     walks(&mut tally);
     parsing(&mut tally);

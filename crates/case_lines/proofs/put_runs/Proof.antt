@@ -5,12 +5,12 @@ use Prim.Native.Nat.{_≤_, _<_, _-_}
 use mathlib.Core.Path.{_≡_, refl, sym, _∙_}
 use lib.ListN.{length, take}
 use lib.Seq.{take-all}
-use Rattle.label.specs.Label.{used}
 use Rattle.label.proofs.Steps.{length-mapped}
 use Rattle.text.specs.Put.{Puts}
 use Rattle.text.proofs.Laws.{puts-then, puts-none}
-use Rattle.case_lines.specs.Line.{runsWords}
-use Rattle.case_lines.proofs.Laws.{runs-more}
+use Rattle.label.specs.Label.{used, noRun}
+use Rattle.case_lines.specs.Line.{each, runWords, runsWords}
+use Rattle.case_lines.proofs.Laws.{each-more}
 use Rattle.case_lines.proofs.put_runs.Statement.{statement}
 use Rattle.case_lines.proofs.put_runs.Tie as tie
 
@@ -25,7 +25,7 @@ sized : (s : tie.Start Inv-loop μ-loop) → length (s .args .t3 .runs) ≡ 120
 sized s = search (length-mapped, needs)
 
 loop-holds : tie.Need-loop-holds Inv-loop μ-loop
-unfolding runsWords
+unfolding each
 loop-holds c = (refl, omega arith, omega arith, puts-none)
 
 same-length : tie.Need-same-length Inv-loop μ-loop
@@ -61,7 +61,7 @@ loop-again c =
     let l = put .before .before .before .before .before in
     let s = l .before .before in
     let h : l .loop .i < length (s .args .t3 .runs) = omega (arith, sized s) in
-    (search needs, omega arith, omega arith, rw (runs-more (s .args .t3 .runs) (l .loop .i) h) (puts-then (l .loop .inv .3) (put .put-run .ensures)))
+    (search needs, omega arith, omega arith, rw (each-more runWords (s .args .t3 .runs) (l .loop .i) noRun h) (puts-then (l .loop .inv .3) (put .put-run .ensures)))
 
 same-length-2 : tie.Need-same-length-2 Inv-loop μ-loop
 same-length-2 c = search needs

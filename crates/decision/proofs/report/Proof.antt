@@ -10,18 +10,18 @@ go-on-requires c κs = search needs
 returns : tie.Need-returns
 returns c = rw (eq-eqb _ _ (c .before .if1 .taken)) (c .go-on .ensures)
 
+silent-requires : tie.Need-silent-requires
+silent-requires c κs = search needs
+
+returns-2 : tie.Need-returns-2
+returns-2 c = rw (ne-eqb _ _ (c .before .before .if1 .left), c .before .if2 .taken) (c .silent .ensures)
+
 stop-requires : tie.Need-stop-requires
 stop-requires c κs = search needs
 
-returns-2 : tie.Need-returns-2
-returns-2 c = rw (ne-eqb _ _ (c .before .before .if1 .left), c .before .if2 .taken) (c .stop .ensures)
-
-stop-requires-2 : tie.Need-stop-requires-2
-stop-requires-2 c κs = search needs
-
 returns-3 : tie.Need-returns-3
-returns-3 c = rw (ne-eqb _ _ (c .before .before .if1 .left), c .before .if2 .left) (c .stop2 .ensures)
+returns-3 c = rw (ne-eqb _ _ (c .before .before .if1 .left), c .before .if2 .left) (c .stop .ensures)
 
 pub report-spec : {M : Type 1} → statement M
 report-spec =
-    tie.close (tie.spec go-on-requires returns stop-requires returns-2 stop-requires-2 returns-3)
+    tie.close (tie.spec go-on-requires returns silent-requires returns-2 stop-requires returns-3)

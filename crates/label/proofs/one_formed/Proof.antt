@@ -1,13 +1,10 @@
 -- `label::one_formed` meets its contract. Assumes nothing.
-use borrow.Author.Tests.{eq-eqb, ne-eqb}
+use Rattle.label.proofs.Places.{one-formed}
 use Rattle.label.proofs.one_formed.Statement.{statement}
 use Rattle.label.proofs.one_formed.Tie as tie
 
 returns : tie.Need-returns
-returns c = simp (eq-eqb _ _ (c .if1 .taken))
-
-returns-2 : tie.Need-returns-2
-returns-2 c = simp (ne-eqb _ _ (c .if1 .left))
+returns c = one-formed (c .args .n) (c .args .low) (c .args .high)
 
 pub one-formed-spec : {M : Type 1} → statement M
-one-formed-spec = tie.close (tie.spec returns returns-2)
+one-formed-spec = tie.close (tie.spec returns)

@@ -9,8 +9,8 @@ use mathlib.Core.Bool.{true}
 use mathlib.Core.List.{List}
 use lib.ListN.{take}
 use Rattle.label.specs.Label.{used, wellFormed}
-use Rattle.keys.specs.Keys.{keyRuns}
-use Rattle.carry.proofs.Held.{held-runs}
+use Rattle.label_keys.specs.Keys.{keyRuns}
+use Rattle.renumber_keys.proofs.Held.{held-runs}
 use Rattle.renumber.specs.Renumber.{fitted}
 use Rattle.renumber.proofs.Answers.{renumbered-unsound, renumbered-ill, renumbered-foreign, renumbered-missed, renumbered-found, found-length, found-keys}
 use Rattle.renumber.proofs.renumber.Statement.{statement}

@@ -3,7 +3,7 @@ use Rattle.route.proofs.Keys.{climbs-gathered}
 use borrow.Author.Needs.{needs}
 use Rattle.route.proofs.keys_differ.Statement.{statement}
 use Rattle.route.proofs.keys_differ.Tie as tie
-use Rattle.order.proofs.sort_keys.Reads as sort-keys-reads
+use Rattle.lists_sort.proofs.sort_keys.Reads as sort-keys-reads
 
 -- src/lib.rt:162:40
 slice-aggregate-gather-keys : tie.Need-slice-aggregate-gather-keys

@@ -3,7 +3,7 @@ use mathlib.Core.Path.{_∙_, ap}
 use mathlib.Core.Bool.{Bool, _&&_}
 use lib.Bits.{bitOr}
 use lib.Dec.{eqb}
-use Rattle.levels.proofs.Levels.{or-zero}
+use Rattle.table_levels.proofs.Levels.{or-zero}
 use Rattle.table.proofs.are_zero.Statement.{statement}
 use Rattle.table.proofs.are_zero.Tie as tie
 

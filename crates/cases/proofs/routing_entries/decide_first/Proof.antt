@@ -52,23 +52,23 @@ use denote.Exit.{yes}
 use Rattle.port.specs.declared.Port.{Port}
 use Rattle.port.proofs.Port as P
 use Rattle.port.proofs.Port.Laws as P′
-use Rattle.tables.specs.declared.Tables.{Tables}
-use Rattle.tables.proofs.Tables as B
-use Rattle.tables.proofs.Tables.Laws as B′
+use Rattle.table_choose.specs.declared.Tables.{Tables}
+use Rattle.table_choose.proofs.Tables as B
+use Rattle.table_choose.proofs.Tables.Laws as B′
 use Rattle.decision.specs.declared.Facts.{Facts}
 use Rattle.decision.proofs.Facts as F
 use Rattle.decision.proofs.Facts.Laws as F′
 use Rattle.decision.specs.declared.Decision.{Decision}
 use Rattle.decision.proofs.Decision as D
 use Rattle.decision.proofs.Decision.Laws as D′
-use Rattle.ports.proofs.Kit.{Row, vals, tells, size}
-use Rattle.ports.proofs.Picking.{Slice, low, Held}
-use Rattle.routing.specs.Routing.{routingOf, routedOutput}
-use Rattle.routing.specs.Stages.{routingFor}
-use Rattle.routing.proofs.decide as decide
-use Rattle.routing.proofs.decide.Symbol as decide-def
-use Rattle.routing.proofs.decide.Symbol.{name as #routing·decide}
-use Rattle.routing.proofs.decide.Met as decide-thm
+use Rattle.route_ports.proofs.Kit.{Row, vals, tells, size}
+use Rattle.route_ports.proofs.Picking.{Slice, low, Held}
+use Rattle.route_decide.specs.Routing.{routingOf, routedOutput}
+use Rattle.route_decide.specs.Stages.{routingFor}
+use Rattle.route_decide.proofs.decide as decide
+use Rattle.route_decide.proofs.decide.Symbol as decide-def
+use Rattle.route_decide.proofs.decide.Symbol.{name as #route-decide·decide}
+use Rattle.route_decide.proofs.decide.Met as decide-thm
 use Rattle.cases.proofs.routing_entries.decide_first.Key.{name as #decide-first}
 use Rattle.cases.proofs.routing_entries.decide_first as lends
 use Rattle.cases.proofs.routing_entries.decide_first.Statement as stated
@@ -243,7 +243,7 @@ module _ {M : Type 1} (𝓤 : URA M) (H : Heap 𝓤) (A : Atoms 𝓤) (W : Given
       suffices ! _ (ends-at 𝓤 H A lends.ended stayed (lends.clauses 𝓤 H A mem run) W bound v r (tt, (tt, (tt, (tt, (tt, (tt, (tt, (tt, (zs, tt))))))))) (tt, (tt, (tt, (tt, (tt, (tt, (tt, (tt, (l, tt)))))))))) $ says ! e $
       frame ! $ nothing ! $ move ! (1 ∷ 0 ∷ []) $ fjoin ! $ nothing ! $ fjoin ! $ nothing ! $ fjoin ! $ nothing ! $ fjoin ! $ nothing ! $ fjoin ! $ nothing ! $ fjoin ! $ nothing ! $ fjoin ! $ nothing ! $ fjoin ! $ nothing ! $ fjoin ! $ frame ! $ done !
 
-  module _ (C : Calls 𝓤 H) (Λ : Loops 𝓤 H) (fm : FmC 𝓤 H (W .laws) C) (known : Triple 𝓤 (C #routing·decide) (Decides 𝓤 H A W mem run)) (is : Is Many ys (many-vals ys)) (long : length ys ≡ 64) (some-of : length (take n ys) ≡ n)
+  module _ (C : Calls 𝓤 H) (Λ : Loops 𝓤 H) (fm : FmC 𝓤 H (W .laws) C) (known : Triple 𝓤 (C #route-decide·decide) (Decides 𝓤 H A W mem run)) (is : Is Many ys (many-vals ys)) (long : length ys ≡ 64) (some-of : length (take n ys) ≡ n)
       (gx : Room Row (length (take n ys))) (gn : n < 2 ^ 64) (gr : Room u32 (length (now (s .routes)))) (ga : Room u8 (length (now (s .area)))) (gt : Room u8 room) where
     abbrev part : ℕ → GName → Slice
     part l γ = record { ptr = (l, 0); name = γ; now = take n ys }
@@ -316,7 +316,7 @@ module _ {M : Type 1} (𝓤 : URA M) (H : Heap 𝓤) (A : Atoms 𝓤) (W : Given
       room : m * size < 2 ^ 63
       room = omega arith
 
-  lends-walks : (C : Calls 𝓤 H) (Λ : Loops 𝓤 H) → FmC 𝓤 H (W .laws) C → Triple 𝓤 (C #routing·decide) (Decides 𝓤 H A W mem run) → Walks 𝓤 H A lends.ended stayed (WpFn 𝓤 H C Λ code.function) (lends.clauses 𝓤 H A mem run)
+  lends-walks : (C : Calls 𝓤 H) (Λ : Loops 𝓤 H) → FmC 𝓤 H (W .laws) C → Triple 𝓤 (C #route-decide·decide) (Decides 𝓤 H A W mem run) → Walks 𝓤 H A lends.ended stayed (WpFn 𝓤 H C Λ code.function) (lends.clauses 𝓤 H A mem run)
   lends-walks C Λ fm known = walked 𝓤 H A lends.ended stayed (lends.clauses 𝓤 H A mem run) (WpFn 𝓤 H C Λ code.function)
       (λ κs. (many-vals, (uint-vals w64, (LL.vals B.the-type B′.the-laws, (slice-vals, (uint-vals w64, (uint-vals w32, (LL.vals F.the-type F′.the-laws, (slice-vals, (slice-vals, tt))))))))))
       (λ κs. (array-tells Row vals tells 64, (uint-tells w64, (LL.tells B.the-type B′.the-laws, (shr-slice-tells (named 0) (κs .0) u32, (uint-tells w64, (uint-tells w32, (LL.tells F.the-type F′.the-laws, (shr-slice-tells (named 1) (κs .1 .0) u8, (mut-slice-tells (named 2) (κs .1 .1 .0) u8, tt))))))))))
@@ -328,7 +328,7 @@ module _ {M : Type 1} (𝓤 : URA M) (H : Heap 𝓤) (A : Atoms 𝓤) (W : Given
       (are .1 .0 .1) (are .1 .1 .1 .0 .0 .1) (are .1 .1 .1 .1 .1 .1 .1 .0 .0 .1) (are .1 .1 .1 .1 .1 .1 .1 .1 .0 .0 .1)))
 
 lends-meets : {M : Type 1} (𝓤 : URA M) (H : Heap 𝓤) (A : Atoms 𝓤) (W : Given 𝓤 H A) (mem : Memory → SProp 𝓤) (run : Routine → Fun 𝓤) (𝓣 : CallTables 𝓤 H)
-    → Triple 𝓤 (𝓣 .C #routing·decide) (Decides 𝓤 H A W mem run) → Meets 𝓤 H A lends.signature (WpFn 𝓤 H (𝓣 .C) (𝓣 .Λ) code.function) (lends.spec 𝓤 H A mem run)
+    → Triple 𝓤 (𝓣 .C #route-decide·decide) (Decides 𝓤 H A W mem run) → Meets 𝓤 H A lends.signature (WpFn 𝓤 H (𝓣 .C) (𝓣 .Λ) code.function) (lends.spec 𝓤 H A mem run)
 lends-meets 𝓤 H A W mem run 𝓣 known = walk-meets 𝓤 H A lends.ended stayed W (
   goes-dropped 𝓤 H A W 3 (arrayOf (plain (λ _. Row)) 64) yes (λ κs x f. refl),
   (
@@ -359,4 +359,4 @@ decide-first-spec 𝓤 H 𝓜 𝓖 𝓡 =
     entered 𝓤 H (tripleOf 𝓤 H (𝓖 .A) lends.signature (lends.spec 𝓤 H (𝓖 .A) (𝓜 .mem) (𝓡 .run)))
     (tables 𝓤 H 𝓜 𝓡 code.env .C) (tables 𝓤 H 𝓜 𝓡 code.env .Λ) #decide-first code.function (code.unfolded 𝓤 H 𝓜 𝓡)
     (lends-meets 𝓤 H (𝓖 .A) (givenOf 𝓤 H 𝓜 𝓖) (𝓜 .mem) (𝓡 .run) (tablesOf 𝓤 H 𝓜 (tables 𝓤 H 𝓜 𝓡 code.env))
-    (cited 𝓤 H (Decides 𝓤 H (𝓖 .A) (givenOf 𝓤 H 𝓜 𝓖) (𝓜 .mem) (𝓡 .run)) 𝓜 𝓡 code.env #routing·decide decide-def.routine code.calls-routing·decide (decide-thm.met 𝓤 H 𝓜 𝓖 𝓡)))
+    (cited 𝓤 H (Decides 𝓤 H (𝓖 .A) (givenOf 𝓤 H 𝓜 𝓖) (𝓜 .mem) (𝓡 .run)) 𝓜 𝓡 code.env #route-decide·decide decide-def.routine code.calls-route-decide·decide (decide-thm.met 𝓤 H 𝓜 𝓖 𝓡)))

@@ -1,6 +1,6 @@
 -- `label::Label::well_formed` meets its contract.
 use borrow.Author.Needs.{needs}
-use borrow.Author.Tests.{eq-eqb, lt-leb}
+use borrow.Author.Tests.{eq-eqb, le-leb, lt-leb}
 use native.Mathlib.Omega.{arith}
 use mathlib.Core.Path.{_≡_, sym, _∙_}
 use mathlib.Core.Bool.{true, and-false}
@@ -37,7 +37,7 @@ returns-2 c =
     let e1 = t2 .before in
     let s = e1 .before in
     let l = s .args .t1 in
-    rw (c .before .one-formed .ensures, c .unused-after-first .ensures)
+    rw (c .before .one-formed .ensures, c .unused-after-first .ensures, le-leb (l .count) 1 (t2 .if2 .taken))
     (sym
     (well-formed-runs l (e1 .if1 .left) (omega arith) (fields s) ∙ first-alone (l .count) (l .runs) (t2 .if2 .taken) (omega (arith, sized s))))
 

@@ -1,4 +1,0 @@
-pub mod Join
-pub mod Step
-pub mod Turn
-pub mod Theorems

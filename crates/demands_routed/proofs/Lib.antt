@@ -1,0 +1,6 @@
+pub mod Passing
+pub mod Demands
+pub mod Limits
+pub mod Worked
+pub mod Untouched
+pub mod Rules

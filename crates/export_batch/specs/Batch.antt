@@ -1,0 +1,81 @@
+-- Many datagrams in one call, through two ports of a gateway file. A record and a slot have 64 octets each; slot i is what record i is answered by.
+use Prim.Native.Nat.{ℕ, zero, suc, _/_, _%_}
+use mathlib.Core.Bool.{Bool, cond, not, _&&_}
+use mathlib.Core.List.{List, [], _∷_, _++_}
+use lib.Dec.{eqb, ltb}
+use lib.ListN.{getD, set, take, drop}
+use Rattle.port.specs.declared.Port.{Port}
+use Rattle.table.specs.declared.Table.{Table}
+use Rattle.file_table.specs.declared.Renumbering.{Renumbering}
+use Rattle.file_table.specs.TableFormat.{noTable, levelsOf}
+use Rattle.file_set.specs.declared.Set.{Set}
+use Rattle.file_set.specs.Set.{noPort}
+use Rattle.decision.specs.declared.Decision.{Decision}
+use Rattle.decision.specs.declared.Facts.{Facts}
+use Rattle.forward_rules.specs.Crossing.{Forwarding}
+use Rattle.forward_rules.specs.Forward.{forwardingOf}
+use Rattle.forward_rules.specs.Forward.{forwardOf, outputOf}
+
+-- 1. The records that decide.
+
+-- two ports, and a table with its level pairs
+pub record Gateway : Type 0 where
+  pub arriving : Port
+  pub leaving : Port
+  pub table : Table
+  pub levels : List (List ℕ)
+
+-- the port of a number. Where the file has none of that number, or is refused, it is the port of zeros: that is unsound, and so the number is 2
+abbrev pub portAt : Set → ℕ → Port
+portAt s i = getD (s .ports) i noPort
+
+-- no table for the two domains: one without pairs and rows, and for others, so that the number is 16 where a table is asked
+abbrev pub missing : ℕ → ℕ → Renumbering
+missing from to = record { table = record { from = to; to = from; pairs = 0; count = 0; rows = noTable .table .rows }; levels = noTable .levels }
+
+abbrev pub isFor : ℕ → ℕ → Renumbering → Bool
+isFor from to r = eqb (r .table .from) from && eqb (r .table .to) to
+
+-- the first table for the two domains
+abbrev pub firstFor : ℕ → ℕ → List Renumbering → Renumbering
+firstFor from to [] = missing from to
+firstFor from to (r ∷ rs) = cond (isFor from to r) r (firstFor from to rs)
+
+abbrev pub gatewayBy : Port → Port → Renumbering → Gateway
+gatewayBy a l r = record { arriving = a; leaving = l; table = r .table; levels = levelsOf r }
+
+-- from one port of a set to another, by their numbers
+abbrev pub gatewayOf : Set → ℕ → ℕ → Gateway
+gatewayOf s a l = gatewayBy (portAt s a) (portAt s l) (firstFor (portAt s a .domain) (portAt s l .domain) (s .tables))
+
+-- 2. One datagram. Its record: the five facts in octets 0 to 4 (0 or not), the area's length in octet 5, the area from octet 8 on.
+
+abbrev pub fact : List ℕ → ℕ → Bool
+fact r i = not (eqb (getD r i 0) 0)
+
+abbrev pub factsIn : List ℕ → Facts
+factsIn r = record { error = fact r 0; group = fact r 1; link = fact r 2; fragment = fact r 3; source = fact r 4 }
+
+abbrev pub areaIn : List ℕ → List ℕ
+areaIn r = take (getD r 5 0) (drop 8 r)
+
+abbrev pub forwardingIn : Gateway → List ℕ → Forwarding
+forwardingIn g r = forwardingOf (g .arriving) (g .leaving) (g .table) (g .levels) (factsIn r) (areaIn r) 40
+
+-- the first five octets of a slot: number, type, code, pointer, count
+abbrev pub withHead : Decision → List ℕ → List ℕ
+withHead d s = set (set (set (set (set s 0 (d .number)) 1 (d .kind)) 2 (d .code)) 3 (d .pointer)) 4 (d .count % 256)
+
+-- its slot: the head, and from octet 24 on what the decision writes; the octets between stay
+unfoldable pub slotOf : Gateway → List ℕ → List ℕ → List ℕ
+slotOf g r s = withHead (forwardOf (forwardingIn g r)) (take 24 s ++ outputOf (forwardingIn g r) (drop 24 s))
+
+-- 3. Many: the whole records that have a slot.
+
+unfoldable pub slotCount : ℕ → ℕ → ℕ
+slotCount input output = cond (ltb input output) (input / 64) (output / 64)
+
+-- n records, each with its slot
+abbrev pub batchOf : Gateway → ℕ → List ℕ → List ℕ → List ℕ
+batchOf g zero ins outs = outs
+batchOf g (suc n) ins outs = slotOf g (take 64 ins) (take 64 outs) ++ batchOf g n (drop 64 ins) (drop 64 outs)

@@ -1,0 +1,72 @@
+-- Octets written over others: one after the other, and the last octet alone.
+use mathlib.Core.List.{List, [], _∷_, _++_, append-assoc, append-nil}
+use mathlib.Core.Path.{_≡_, refl, sym, ap, _∙_}
+use Prim.Native.Nat.{ℕ, zero, suc, _+_, _-_, _*_, _/_, _%_, _≤_, _<_}
+use native.Mathlib.Omega.{arith}
+use native.Mathlib.Nat.{add-assoc, add-zero, suc-mul}
+use native.Mathlib.Numerals.{add-one}
+use lib.ListN.{length, getD, set, take, drop, length-append, length-drop, length-set, take-append-drop}
+use lib.Seq.{length-take-le, drop-drop, take-at, drop-at, take-set-le, set-split, take-suc}
+use Rattle.lists.specs.Lists.{paint}
+use Rattle.lists.proofs.Laws.{paint-none, paint-length, paint-two}
+use Rattle.file_format.specs.Format.{digits, inTurn, Writes}
+use Rattle.file_format.specs.Laws.{flat}
+use Rattle.file_format.proofs.Numbers.{digits-length}
+
+-- the last octet is written first
+pub paint-last : (at k : ℕ) (xs : List ℕ) (x : ℕ) (out : List ℕ) → at + length xs ≡ k → k < length out
+    → paint at (xs ++ (x ∷ [])) out ≡ paint at xs (set out k x)
+paint-last at k xs x out e h =
+    let n : at + length (xs ++ (x ∷ [])) ≡ suc k = omega (arith, length-append xs (x ∷ [])) in
+    let p : length (take k out) ≡ k = length-take-le k out (omega arith) in
+    let d : drop k (set out k x) ≡ x ∷ drop (suc k) out = rw (set-split out k x h) (drop-at (take k out) (x ∷ drop (suc k) out) k p) in
+    rw (n, e, take-set-le at out k x (omega arith), d, append-assoc xs (x ∷ []) (drop (suc k) out))
+
+-- a turn of the loop that writes a number from its last octet to its first
+pub number-turn : (at i rest : ℕ) (out : List ℕ) → 0 < i → at + i ≤ length out
+    → paint at (digits i rest) out ≡ paint at (digits (i - 1) (rest / 256)) (set out (at + (i - 1)) (rest % 256))
+number-turn at i rest out h l =
+    let e : i ≡ suc (i - 1) = omega arith in
+    let s : digits i rest ≡ digits (i - 1) (rest / 256) ++ (rest % 256 ∷ []) = ap (λ (k : ℕ). digits k rest) e in
+    rw s (paint-last at (at + (i - 1)) (digits (i - 1) (rest / 256)) (rest % 256) out (ap (λ (k : ℕ). at + k) (digits-length (i - 1) (rest / 256))) (omega arith))
+
+-- Writers in turn: what they write is written in turn.
+
+-- nothing is written by nobody
+pub writes-none : {at : ℕ} {out : List ℕ} → Writes at [] out out at
+writes-none {at} {out} = record { wrote = λ h. (sym (paint-none at out), sym (add-zero at)) }
+
+pub writes-then : {at n m : ℕ} {xs ys out out₁ out₂ : List ℕ} → Writes at xs out out₁ n → Writes n ys out₁ out₂ m → Writes at (xs ++ ys) out out₂ m
+writes-then {at} {n} {m} {xs} {ys} {out} {out₁} {out₂} a b = record { wrote = go }
+  where
+    go : at + length (xs ++ ys) ≤ length out → (out₂ ≡ paint at (xs ++ ys) out) × (m ≡ at + length (xs ++ ys))
+    go h =
+        let l : length (xs ++ ys) ≡ length xs + length ys = length-append xs ys in
+        let f : (out₁ ≡ paint at xs out) × (n ≡ at + length xs) = a .wrote (omega arith) in
+        let k : length out₁ ≡ length out = ap length (f .0) ∙ paint-length at xs out (omega arith) in
+        let g : (out₂ ≡ paint n ys out₁) × (m ≡ n + length ys) = b .wrote (omega arith) in
+        let p : paint n ys out₁ ≡ paint at (xs ++ ys) out = rw (f .0, f .1) (paint-two at xs ys out (omega arith)) in
+        (g .0 ∙ p, omega arith)
+
+pub flat-turn : {A S : Type 0} (pr : S → A → List ℕ) (next : S → A → S) (g : A → List ℕ) → ((st : S) (a : A) → pr st a ≡ g a) → (st : S) (as′ : List A) → inTurn pr next st as′ ≡ flat g as′
+flat-turn pr next g h st [] = refl
+flat-turn pr next g h st (a ∷ as′) = rw (h st a, flat-turn pr next g h (next st a) as′)
+
+pub flat-length : {A : Type 0} (g : A → List ℕ) (k : ℕ) → ((a : A) → length (g a) ≡ k) → (as′ : List A) → length (flat g as′) ≡ length as′ * k
+flat-length g k h [] = omega arith
+flat-length g k h (a ∷ as′) =
+    let e : length (flat g as′) ≡ length as′ * k = flat-length g k h as′ in
+    let m : suc (length as′) * k ≡ length as′ * k + k = suc-mul (length as′) k in
+    omega (arith, length-append (g a) (flat g as′), h a)
+
+flat-snoc : {A : Type 0} (g : A → List ℕ) (as′ : List A) (a : A) → flat g (as′ ++ (a ∷ [])) ≡ flat g as′ ++ g a
+flat-snoc g [] a = append-nil (g a)
+flat-snoc g (b ∷ as′) a = rw (flat-snoc g as′ a) (sym (append-assoc (g b) (flat g as′) (g a)))
+
+-- a turn of a loop that writes the elements of an array, and its end
+module _ {A : Type 0} (g : A → List ℕ) (d : A) (l : List A) where
+  pub writes-turn : {at i n m : ℕ} {out out₁ out₂ : List ℕ} → i < length l → Writes at (flat g (take i l)) out out₁ n → Writes n (g (getD l i d)) out₁ out₂ m
+      → Writes at (flat g (take (i + 1) l)) out out₂ m
+  writes-turn {i} h a b =
+      let e : flat g (take (i + 1) l) ≡ flat g (take i l) ++ g (getD l i d) = rw (add-one, take-suc l i d h) (flat-snoc g (take i l) (getD l i d)) in
+      rw e (writes-then a b)

@@ -1,0 +1,70 @@
+-- `file_table::first_meeting` meets its contract.
+use borrow.Author.Needs.{needs}
+use native.Mathlib.Omega.{arith}
+use Prim.Native.Nat.{_+_, _-_, _/_, _≤_, _<_}
+use mathlib.Core.Bool.{true, false}
+use mathlib.Core.Path.{_≡_, refl, sym, _∙_}
+use lib.ListN.{take}
+use Rattle.table.specs.Table.{targetsApart}
+use Rattle.file_table.proofs.Apart.{apart-some, rising-first}
+use Rattle.file_table.proofs.first_meeting.Statement.{statement}
+use Rattle.file_table.proofs.first_meeting.Tie as tie
+
+abbrev Inv-loop : tie.InvT-loop
+Inv-loop rows n low₀ high₀ low high = (low < high) × (high ≤ n) × (targetsApart (take low rows) ≡ true) × (targetsApart (take high rows) ≡ false)
+
+abbrev μ-loop : tie.MeasureT-loop
+μ-loop rows n low₀ high₀ low high = high - low
+
+loop-holds : tie.Need-loop-holds Inv-loop μ-loop
+loop-holds c = (apart-some (c .args .n) (c .args .rows) (c .pre .2), omega arith, refl, c .pre .2)
+
+add-loop : tie.Need-add-loop Inv-loop μ-loop
+add-loop c = search needs
+
+add-middle : tie.Need-add-middle Inv-loop μ-loop
+add-middle c = search needs
+
+targets-apart-requires : tie.Need-targets-apart-requires Inv-loop μ-loop
+targets-apart-requires c κs =
+    let a = c .before .before .args in
+    let l = c .before .loop in
+    (omega arith, rising-first ((l .low + l .high) / 2) (a .n) (a .rows) (omega arith) (c .before .before .pre .1))
+
+loop-less : tie.Need-loop-less Inv-loop μ-loop
+loop-less c = search needs
+
+loop-again : tie.Need-loop-again Inv-loop μ-loop
+loop-again c =
+    let l = c .before .before .before .loop in
+    (omega arith, l .inv .1, sym (c .before .targets-apart .ensures) ∙ c .if1 .taken, l .inv .3)
+
+loop-less-2 : tie.Need-loop-less-2 Inv-loop μ-loop
+loop-less-2 c = search needs
+
+loop-again-2 : tie.Need-loop-again-2 Inv-loop μ-loop
+loop-again-2 c =
+    let l = c .before .before .before .loop in
+    (omega arith, omega arith, l .inv .2, sym (c .before .targets-apart .ensures) ∙ c .if1 .left)
+
+returns : tie.Need-returns Inv-loop μ-loop
+returns c =
+    let l = c .before .loop in
+    let e : l .low + 1 ≡ l .high = omega arith in
+    (omega arith, l .inv .2, rw e (l .inv .3))
+
+pub first-meeting-spec : {M : Type 1} → statement M
+first-meeting-spec =
+    tie.close
+    (tie.spec
+    Inv-loop
+    μ-loop
+    loop-holds
+    add-loop
+    add-middle
+    targets-apart-requires
+    loop-less
+    loop-again
+    loop-less-2
+    loop-again-2
+    returns)

@@ -1,0 +1,73 @@
+-- `file_write::write_tables` meets its contract.
+use borrow.Author.Needs.{needs}
+use native.Mathlib.Omega.{arith}
+use Prim.Native.Nat.{_-_, _≤_}
+use mathlib.Core.Path.{_≡_, refl}
+use lib.ListN.{length, take}
+use Rattle.label.proofs.Steps.{length-mapped}
+use Rattle.file_format.specs.Laws.{flat}
+use Rattle.file_read.specs.Stages.{tableOctets}
+use Rattle.file_set.proofs.Sets.{outTable}
+use Rattle.file_format.specs.Format.{Writes}
+use Rattle.file_format.proofs.Writing.{writes-none, writes-turn}
+use Rattle.file_write.proofs.write_tables.Statement.{statement}
+use Rattle.file_write.proofs.write_tables.Tie as tie
+
+abbrev Inv-loop : tie.InvT-loop
+Inv-loop n out₀ at tables place₀ i₀ out place i = (i ≤ n) × (length out ≡ length out₀) × Writes at (flat tableOctets (take i tables)) out₀ out place
+
+abbrev μ-loop : tie.MeasureT-loop
+μ-loop n out₀ at tables place₀ i₀ out place i = n - i
+
+sized : (c : tie.Start Inv-loop μ-loop) → length (c .args .t1) ≡ 8
+sized c = search (length-mapped, needs)
+
+loop-holds : tie.Need-loop-holds Inv-loop μ-loop
+loop-holds c = (omega arith, refl, writes-none)
+
+mul-renumbering : tie.Need-mul-renumbering Inv-loop μ-loop
+mul-renumbering c = search needs
+
+array-copy-out-renumbering : tie.Need-array-copy-out-renumbering Inv-loop μ-loop
+array-copy-out-renumbering c = search (length-mapped, needs)
+
+write-table-requires : tie.Need-write-table-requires Inv-loop μ-loop
+write-table-requires c κs = search needs
+
+add-i : tie.Need-add-i Inv-loop μ-loop
+add-i c = search needs
+
+loop-less : tie.Need-loop-less Inv-loop μ-loop
+loop-less c = search needs
+
+loop-again : tie.Need-loop-again Inv-loop μ-loop
+unfolding tableOctets
+loop-again c =
+    let a = c .before .before .before .before .before .before .before .before .args in
+    let l = c .before .before .before .before .before .before .loop in
+    (omega arith, omega arith, writes-turn tableOctets outTable (a .t1) (omega (arith, sized (c .before .before .before .before .before .before .before .before))) (l .inv .2) (c .before .before .write-table .ensures))
+
+same-length : tie.Need-same-length Inv-loop μ-loop
+same-length c = c .before .loop .inv .1
+
+returns : tie.Need-returns Inv-loop μ-loop
+returns c =
+    let l = c .before .loop in
+    let e : l .i ≡ c .before .before .before .args .n = omega arith in
+    rw (← e) (l .inv .2)
+
+pub write-tables-spec : {M : Type 1} → statement M
+write-tables-spec =
+    tie.close
+    (tie.spec
+    Inv-loop
+    μ-loop
+    loop-holds
+    mul-renumbering
+    array-copy-out-renumbering
+    write-table-requires
+    add-i
+    loop-less
+    loop-again
+    same-length
+    returns)

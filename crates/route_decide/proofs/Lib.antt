@@ -1,0 +1,5 @@
+pub mod Lists
+pub mod Decides
+pub mod Unrouted
+pub mod Gone
+pub mod Theorems

@@ -1,6 +1,0 @@
-pub mod Lists
-pub mod Decides
-pub mod Unrouted
-pub mod Gone
-pub mod Theorems
-pub mod Demands

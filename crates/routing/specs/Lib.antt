@@ -1,4 +1,0 @@
-pub mod Routing
-pub mod Stages
-pub mod Theorems
-pub mod Demands
