@@ -7,7 +7,7 @@ use Rattle.cases.proofs.main.Statement.{statement}
 use Rattle.cases.proofs.main.Tie as tie
 
 abbrev Inv-loop : tie.InvT-loop
-Inv-loop input₀ out₀ place₀ turns₀ input out place turns = (length input ≡ 131072) × (length out ≡ 262144)
+Inv-loop input₀ out₀ place₀ turns₀ input out place turns = (length input ≡ 131072) × (length out ≡ 524288)
 
 abbrev μ-loop : tie.MeasureT-loop
 μ-loop input₀ out₀ place₀ turns₀ input out place turns = turns
@@ -16,7 +16,7 @@ begin-requires : tie.Need-begin-requires Inv-loop μ-loop
 begin-requires c κs = search needs
 
 loop-holds : tie.Need-loop-holds Inv-loop μ-loop
-loop-holds c = (length-replicate {A = ℕ} 131072 0, length-replicate {A = ℕ} 262144 0)
+loop-holds c = (length-replicate {A = ℕ} 131072 0, length-replicate {A = ℕ} 524288 0)
 
 slice-aggregate-turn : tie.Need-slice-aggregate-turn Inv-loop μ-loop
 slice-aggregate-turn c = search needs
