@@ -1,4 +1,5 @@
 pub mod Places
+pub mod Lent
 pub mod Rows
 pub mod Order
 pub mod Sound

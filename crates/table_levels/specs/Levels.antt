@@ -41,3 +41,15 @@ known (Level v) = true
 abbrev pub levelOr0 : Partner → ℕ
 levelOr0 Missing = 0
 levelOr0 (Level v) = v
+
+-- a partner as one number, 256 where there is none, and back
+abbrev pub partnerNumber : Partner → ℕ
+partnerNumber Missing = 256
+partnerNumber (Level v) = v
+
+abbrev pub partnerFrom : ℕ → Partner
+partnerFrom n = cond (leb n 255) (Level n) Missing
+
+-- such a number after one pair more: the first that was found stays
+abbrev pub leadOn : ℕ → ℕ → ℕ → ℕ → ℕ
+leadOn lead a b v = cond (leb lead 255) lead (cond (eqb a v) b 256)
