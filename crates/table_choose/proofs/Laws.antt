@@ -13,7 +13,8 @@ use Rattle.table_levels.proofs.Levels.{next-there}
 use Rattle.table.specs.declared.Renumbering.{Renumbering}
 use Rattle.table.specs.Renumbering.{LentTable, lentSound}
 use Rattle.table.proofs.Renumberings.{outTable}
-use Rattle.table_choose.specs.Tables.{share, tablesFrom, leftOver, allTablesSound, isFor, noTableFrom, firstTable}
+use Rattle.table_choose.specs.declared.Found.{Found}
+use Rattle.table_choose.specs.Tables.{share, tablesFrom, leftOver, allTablesSound, noTableFrom, firstTable, lentFound}
 
 -- past the last that is there
 none-there : {A : Type 0} (l : List A) (n i : ℕ) → length l ≤ i → drop i (take n l) ≡ []
@@ -56,10 +57,6 @@ module _ (ns : List ℕ) (at k end : ℕ) (h : at ≤ length ns) (e : end ≡ co
       go false t q =
           let l : length ns - at < k = leb-false _ _ t in
           drop-of-length-le ns {i = end} (omega arith) ∙ sym (drop-of-length-le (drop at ns) {i = k} (omega (arith, d)))
-
-  -- a table with its part
-  abbrev pub here : Renumbering → LentTable
-  here r = record { item = r; rows = take (end - at) (drop at ns) }
 
 module _ (rs : List Renumbering) (n i : ℕ) (ns : List ℕ) (at : ℕ) where
   module _ (h : i < n) (l : i < length rs) (r : Renumbering) (er : r ≡ getD rs i outTable) (end : ℕ) (a : at ≤ length ns)
@@ -122,3 +119,11 @@ module _ (rs : List Renumbering) (n i : ℕ) (ns : List ℕ) (at : ℕ) where
 
     pub none-placed : length rs ≤ i → noTableFrom from ≡ w
     none-placed h = sym (inv ∙ ap (λ (z : List Renumbering). firstTable from to (tablesFrom z (drop at ns))) (none-there rs n i h))
+
+-- what is answered: a table with its place, or none
+pub found-here : (f : Found) (ns : List ℕ) (r : Renumbering) (at end : ℕ) → f .item ≡ r → f .at ≡ at → f .end ≡ end
+    → lentFound f ns ≡ record { item = r; rows = take (end - at) (drop at ns) }
+found-here f ns r at end p q s = λ j. record { item = p j; rows = take (s j - q j) (drop (q j) ns) }
+
+pub found-none : (f : Found) (ns : List ℕ) (from : ℕ) → f .item ≡ noTableFrom from .item → f .at ≡ 0 → f .end ≡ 0 → lentFound f ns ≡ noTableFrom from
+found-none f ns from p q s = λ j. record { item = p j; rows = take (s j - q j) (drop (q j) ns) }
