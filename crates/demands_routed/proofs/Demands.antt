@@ -17,7 +17,7 @@ use Rattle.route.specs.declared.Route.{Route}
 use Rattle.route.specs.declared.Chosen.{Chosen}
 use Rattle.route.specs.declared.Chosen.the-variants.{NoRoute, By}
 use Rattle.route_ports.specs.Ports.{portAt}
-use Rattle.file_table.specs.TableFormat.{levelsOf}
+use Rattle.table.specs.Renumbering.{lentOf, levelsOf}
 use Rattle.route_decide.specs.Routing.{Routing, boxSound, chosen, arrivingPort, chosenPair, tableBetween, noRoute, routingOf, routedOutput}
 use Rattle.route_decide.specs.Demands.{pairBy}
 use Rattle.route_decide.proofs.Decides.{records-none, routed-of, output-of, unrouted-of}
@@ -67,7 +67,7 @@ module _ (b c : Routing) (l : Label) (a : RoutedAlike b c l) where
 
   chosen-alike : chosen b ≡ chosen c
   unfolding chosen
-  chosen-alike = λ i. chosen (record { ports = a .ports i; tables = a .tables i; routes = a .routes i; arriving = a .arriving i; destination = a .destination i; facts = a .facts i; area = b .area; room = b .room })
+  chosen-alike = λ i. chosen (record { ports = a .ports i; tables = a .tables i; rows = a .rows i; routes = a .routes i; arriving = a .arriving i; destination = a .destination i; facts = a .facts i; area = b .area; room = b .room })
 
   pair-sized : (d : Routing) (r : Route) → sizes (chosenPair d) ≡ none → sizes (pairBy d r) ≡ none
   unfolding sizes
@@ -78,8 +78,8 @@ module _ (b c : Routing) (l : Label) (a : RoutedAlike b c l) where
       record {
         arriving = port-alike;
         leaving = λ i. portAt (a .ports i) (r .port);
-        table = λ i. tableBetween (a .tables i) (port-alike i) (portAt (a .ports i) (r .port)) .table;
-        levels = λ i. levelsOf (tableBetween (a .tables i) (port-alike i) (portAt (a .ports i) (r .port)));
+        table = λ i. lentOf (tableBetween (a .tables i) (a .rows i) (port-alike i) (portAt (a .ports i) (r .port)));
+        levels = λ i. levelsOf (tableBetween (a .tables i) (a .rows i) (port-alike i) (portAt (a .ports i) (r .port)) .item);
         facts = a .facts;
         kept = a .kept;
         sized = (pair-sized b r (a .sized .0), pair-sized c r (a .sized .1));

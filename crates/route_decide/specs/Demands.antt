@@ -13,12 +13,12 @@ use Rattle.route_decide.specs.Routing.{Routing, boxSound, chosen, arrivi
 
 -- the forwarding to a route's port
 abbrev pub pairBy : Routing → Route → Forwarding
-pairBy b r = between (arrivingPort b) (portAt (b .ports) (r .port)) (b .tables) (b .facts) (b .area) (b .room)
+pairBy b r = between (arrivingPort b) (portAt (b .ports) (r .port)) (b .tables) (b .rows) (b .facts) (b .area) (b .room)
 
 -- the same set, arriving port and destination, with another datagram
 abbrev pub withArea : Routing → Facts → List ℕ → ℕ → Routing
 withArea b facts area room =
-    record { ports = b .ports; tables = b .tables; routes = b .routes; arriving = b .arriving; destination = b .destination; facts = facts; area = area; room = room }
+    record { ports = b .ports; tables = b .tables; rows = b .rows; routes = b .routes; arriving = b .arriving; destination = b .destination; facts = facts; area = area; room = room }
 
 -- what a forwarding needs: a sound set, a route that matches, and that the two-port decision for its pair forwards
 pub record Passing (b : Routing) : Type 0 where

@@ -12,16 +12,16 @@ use Rattle.forward_rules.specs.Forward.{forwardOf, outputOf}
 use Rattle.route.specs.declared.Route.{Route}
 use Rattle.route.specs.declared.Chosen.the-variants.{NoRoute, By}
 use Rattle.route_ports.specs.Ports.{portAt}
-use Rattle.table_choose.specs.Tables.{usedTables}
+use Rattle.table_choose.specs.Tables.{usedTables, tablesFrom}
 use Rattle.table_choose.specs.Theorems.{NoneFor}
 use Rattle.route_decide.specs.Routing.{Routing, boxSound, chosen, arrivingPort, leavingPort, between, chosenPair, noRoute, routingOf, routedOutput}
 
 pub record Routes : Type 0 where
   -- where a route is chosen, the decision is the two-port decision for its port, with the first table for that pair of domains; and so is the output
   pub routed : (b : Routing) (r : Route) → boxSound b ≡ true → chosen b ≡ By r
-      → routingOf b ≡ forwardOf (between (arrivingPort b) (portAt (b .ports) (r .port)) (b .tables) (b .facts) (b .area) (b .room))
+      → routingOf b ≡ forwardOf (between (arrivingPort b) (portAt (b .ports) (r .port)) (b .tables) (b .rows) (b .facts) (b .area) (b .room))
   pub output : (b : Routing) (r : Route) (out : List ℕ) → boxSound b ≡ true → chosen b ≡ By r
-      → routedOutput b out ≡ outputOf (between (arrivingPort b) (portAt (b .ports) (r .port)) (b .tables) (b .facts) (b .area) (b .room)) out
+      → routedOutput b out ≡ outputOf (between (arrivingPort b) (portAt (b .ports) (r .port)) (b .tables) (b .rows) (b .facts) (b .area) (b .room)) out
   -- where none is chosen, 1 and the checks of the arriving port come first, and then 22; nothing is written
   pub unrouted : (b : Routing) → boxSound b ≡ true → chosen b ≡ NoRoute
       → routingOf b ≡ decided (silenced (b .facts)) (firstOf (sizes (chosenPair b) ∷ (arrivalChecks (arrivingPort b) (b .area) 9 ++ (some noRoute ∷ [])))) zeroLabel 0
@@ -31,4 +31,4 @@ pub record Routes : Type 0 where
   pub untouched : (b : Routing) (out : List ℕ) → boxSound b ≡ false → routedOutput b out ≡ out
   -- differing domains and no table for the pair: 16, where 16 is tested
   pub tableless : (b : Routing) → (arrivingPort b .domain ≡ leavingPort b .domain → ⊥)
-      → NoneFor (arrivingPort b .domain) (leavingPort b .domain) (usedTables (b .tables)) → numberCheck (crossing (chosenPair b)) ≡ some (barred 16 9)
+      → NoneFor (arrivingPort b .domain) (leavingPort b .domain) (tablesFrom (usedTables (b .tables)) (b .rows)) → numberCheck (crossing (chosenPair b)) ≡ some (barred 16 9)
