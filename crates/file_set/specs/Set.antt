@@ -1,5 +1,5 @@
--- docs/FILE.md: the set of records that a file says, and when it is sound: its counts keep to 16 and 8, each record in use is sound as document 01 says, every other place is all
--- zero.
+-- docs/FILE.md: the set of records that a file says, and when it is sound: its counts keep to 16 and 8, each record in use is sound as document 01 says, the tables with the rows
+-- that are lent beside the set, every other place is all zero.
 use mathlib.Core.Bool.{Bool, false, not, _&&_}
 use mathlib.Core.List.{List}
 use Prim.Native.Nat.{ℕ}
@@ -12,13 +12,13 @@ use Rattle.basic.specs.Settings.{basicOff, isOff}
 use Rattle.port.specs.declared.Port.{Port}
 use Rattle.port.specs.Port.{portSound}
 use Rattle.table.specs.declared.Table.{Table}
-use Rattle.table.specs.Table.{unusedRows}
+use Rattle.table.specs.declared.Renumbering.{Renumbering}
+use Rattle.table.specs.Renumbering.{noTable, levelsOf, typedPairs}
 use Rattle.table_levels.specs.Levels.{unusedPairs}
+use Rattle.table_choose.specs.declared.Tables.{Tables}
+use Rattle.table_choose.specs.Tables.{tablesSound}
 use Rattle.file_format.specs.Places.{placesFit}
 use Rattle.file_port.specs.Theorems.{typedPort}
-use Rattle.file_table.specs.declared.Renumbering.{Renumbering}
-use Rattle.file_table.specs.TableFormat.{noTable, levelsOf}
-use Rattle.file_table.specs.Theorems.{typedPairs, renumberingSound}
 use Rattle.file_set.specs.declared.Set.{Set}
 
 -- the records whose every number is 0, and the set of none; such a port permits no spelling
@@ -39,7 +39,7 @@ zeroPort p =
 
 -- every number of the table and of its level pairs is 0
 unfoldable pub zeroTable : Table → List (List ℕ) → Bool
-zeroTable t ls = (((eqb (t .from) 0 && eqb (t .to) 0) && eqb (t .pairs) 0) && eqb (t .count) 0) && (unusedPairs ls && unusedRows (t .rows))
+zeroTable t ls = (((eqb (t .from) 0 && eqb (t .to) 0) && eqb (t .pairs) 0) && eqb (t .count) 0) && unusedPairs ls
 
 -- what suits a place that is used, and one that is not
 unfoldable pub usedPort : Port → Bool
@@ -48,18 +48,20 @@ usedPort p = portSound p && typedPort p
 unfoldable pub unusedPort : Port → Bool
 unusedPort p = zeroPort p && typedPort p
 
-unfoldable pub usedTable : Renumbering → Bool
-usedTable r = renumberingSound r
-
 unfoldable pub unusedTable : Renumbering → Bool
-unusedTable r = zeroTable (r .table) (levelsOf r) && (eqb (length (r .table .rows)) 64 && typedPairs r)
+unusedTable r = zeroTable (r .table) (levelsOf r) && typedPairs r
 
 -- what the types say of every set: 16 and 8 places
 unfoldable pub typedSet : Set → Bool
 typedSet s = eqb (length (s .ports)) 16 && eqb (length (s .tables)) 8
 
-unfoldable pub setSound : Set → Bool
-setSound s =
-    (((leb (s .portcount) 16 && leb (s .tablecount) 8) && placesFit usedPort unusedPort (s .portcount) (s .ports))
-    && placesFit usedTable unusedTable (s .tablecount) (s .tables))
+-- the tables of a set
+abbrev pub tablesIn : Set → Tables
+tablesIn s = record { count = s .tablecount; items = s .tables }
+
+-- with the numbers of the rows, table after table; none may be left over
+unfoldable pub setSound : Set → List ℕ → Bool
+setSound s ns =
+    (((leb (s .portcount) 16 && placesFit usedPort unusedPort (s .portcount) (s .ports)) && tablesSound (tablesIn s) ns)
+    && placesFit typedPairs unusedTable (s .tablecount) (s .tables))
     && typedSet s

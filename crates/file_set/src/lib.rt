@@ -1,33 +1,37 @@
 // The set of records that a house file says: ports and tables, and what makes the set sound (docs/FILE.md).
 ghost use mathlib.Core.Path.{_≡_};
-ghost use mathlib.Core.Bool.{true, cond};
-ghost use mathlib.Core.List.{map};
-ghost use Prim.Native.Nat.{_≤_};
+ghost use mathlib.Core.Bool.{cond};
 ghost use lib.Dec.{eqb};
-ghost use lib.ListN.{length, take};
+ghost use lib.ListN.{length};
+ghost use Rattle.table.specs.Renumbering.{typedPairs};
 ghost use Rattle.file_port.specs.Theorems.{typedPort};
 ghost use Rattle.file_format.specs.Places.{placesFit};
-ghost use Rattle.file_table.specs.TableFormat.{noTable, levelsOf};
-ghost use Rattle.file_table.specs.Theorems.{typedPairs};
-ghost use Rattle.file_set.specs.Set.{noPort, emptySet, zeroPort, zeroTable, usedPort, unusedPort, usedTable, unusedTable, setSound};
+ghost use Rattle.file_set.specs.Set.{noPort, emptySet, zeroPort, zeroTable, usedPort, unusedPort, unusedTable, setSound};
 use basic::Basic;
 use basic::Way;
-use file_table::LevelPair;
-use file_table::Renumbering;
 use label::Label;
 use option::Spellings;
 use port::Port;
 use port::port_sound;
-use table::Row;
+use table::Renumbering;
 use table::Table;
-use table::table_sound;
+use table::empty_table;
+use table::levels_of;
+use table_choose::MAX_TABLES;
+use table_choose::Tables;
+use table_choose::tables_sound;
+use table_levels::Levels;
+use table_levels::levels_sound;
 
-// The first `portcount` ports and the first `tablecount` tables are used.
+// The most ports of a file.
+pub const FILE_PORTS: usize = 16;
+
+// The first `portcount` ports and the first `tablecount` tables are used. The rows of the tables are lent beside it, table after table.
 pub struct Set {
     pub portcount: usize,
-    pub ports: [Port; 16],
+    pub ports: [Port; FILE_PORTS],
     pub tablecount: usize,
-    pub tables: [Renumbering; 8],
+    pub tables: [Renumbering; MAX_TABLES],
 }
 
 // The port whose every number is 0.
@@ -53,26 +57,6 @@ pub fn empty_port() -> Port
     }
 }
 
-// The table whose every number is 0.
-pub fn empty_table() -> Renumbering
-    ensures { λ r. ⌜ r ≡ noTable ⌝ }
-{
-    Renumbering {
-        table: Table {
-            from: 0,
-            to: 0,
-            pairs: 0,
-            count: 0,
-            rows: [Row {
-                low: 0,
-                high: 0,
-                target: 0,
-            }; 64],
-        },
-        levels: [LevelPair { levels: [0u8; 2] }; 16],
-    }
-}
-
 // The set of no records.
 pub fn empty_set() -> Set
     ensures { λ r. ⌜ r ≡ emptySet ⌝ }
@@ -81,31 +65,10 @@ pub fn empty_set() -> Set
     let table = empty_table();
     Set {
         portcount: 0,
-        ports: [port; 16],
+        ports: [port; FILE_PORTS],
         tablecount: 0,
-        tables: [table; 8],
+        tables: [table; MAX_TABLES],
     }
-}
-
-// The two levels of a pair.
-fn two_of(pair: LevelPair) -> [u8; 2]
-    ensures { λ r. ⌜ (r ≡ pair .levels) × (length (pair .levels) ≡ 2) ⌝ }
-{
-    pair.levels
-}
-
-// The level pairs as an array of two-number arrays.
-pub fn levels_of(renumbering: Renumbering) -> [[u8; 2]; 16]
-    ensures { λ r. ⌜ (r ≡ levelsOf renumbering) × (typedPairs renumbering ≡ true) ⌝ }
-{
-    let mut levels = [[0u8; 2]; 16];
-    let mut i: usize = 0;
-    while i < 16 {
-        let pair = renumbering.levels[i];
-        levels[i] = two_of(pair);
-        i += 1;
-    }
-    levels
 }
 
 // Whether every number of the port is 0.
@@ -180,39 +143,31 @@ fn port_fits(port: Port, used: bool) -> bool
     zero & typed
 }
 
-// Whether every number of the table and its level pairs is 0: a table of no pairs and rows is sound where the places of both are zero.
-fn table_zero(table: Table, levels: [[u8; 2]; 16]) -> bool
+// Whether every number of the table and its level pairs is 0.
+fn table_zero(table: Table, levels: Levels) -> bool
     ensures { λ r. ⌜ r ≡ zeroTable table levels ⌝ }
 {
-    let rows = table.rows;
-    let none = Table {
-        from: 1,
-        to: 1,
-        pairs: 0,
-        count: 0,
-        rows: rows,
-    };
-    let places = table_sound(none, levels);
+    let places = levels_sound(levels, 0);
     (table.from == 0) & (table.to == 0) & (table.pairs == 0) & (table.count == 0) & places
 }
 
-// Whether a table suits its place.
+// Whether a table suits its place: all zero in one that is not used. That those in use are sound is asked of all together.
 fn table_fits(renumbering: Renumbering, used: bool) -> bool
-    ensures { λ r. ⌜ r ≡ cond used (usedTable renumbering) (unusedTable renumbering) ⌝ }
+    ensures { λ r. ⌜ r ≡ cond used (typedPairs renumbering) (unusedTable renumbering) ⌝ }
 {
     let table = renumbering.table;
     let levels = levels_of(renumbering);
     if used {
-        return table_sound(table, levels);
+        return true;
     }
     table_zero(table, levels)
 }
 
-fn ports_fit(ports: [Port; 16], n: usize) -> bool
+fn ports_fit(ports: [Port; FILE_PORTS], n: usize) -> bool
     ensures { λ r. ⌜ r ≡ placesFit usedPort unusedPort n ports ⌝ }
 {
     let mut i: usize = 0;
-    while i < 16 {
+    while i < FILE_PORTS {
         let port = ports[i];
         if !port_fits(port, i < n) {
             return false;
@@ -222,11 +177,11 @@ fn ports_fit(ports: [Port; 16], n: usize) -> bool
     true
 }
 
-fn tables_fit(tables: [Renumbering; 8], n: usize) -> bool
-    ensures { λ r. ⌜ r ≡ placesFit usedTable unusedTable n tables ⌝ }
+fn tables_fit(tables: [Renumbering; MAX_TABLES], n: usize) -> bool
+    ensures { λ r. ⌜ r ≡ placesFit typedPairs unusedTable n tables ⌝ }
 {
     let mut i: usize = 0;
-    while i < 8 {
+    while i < MAX_TABLES {
         let renumbering = tables[i];
         if !table_fits(renumbering, i < n) {
             return false;
@@ -236,13 +191,18 @@ fn tables_fit(tables: [Renumbering; 8], n: usize) -> bool
     true
 }
 
-// Whether the set is sound.
-pub fn set_sound(set: Set) -> bool
-    ensures { λ r. ⌜ r ≡ setSound set ⌝ }
+// Whether the set is sound, with the rows of its tables.
+pub fn set_sound(set: Set, rows: &[u16]) -> bool
+    ensures { λ r. ⌜ r ≡ setSound set (now (rows .entry)) ⌝ }
 {
     let held = set.ports;
     let kept = set.tables;
     let ports = ports_fit(held, set.portcount);
-    let tables = tables_fit(kept, set.tablecount);
-    (set.portcount <= 16) & (set.tablecount <= 8) & ports & tables
+    let unused = tables_fit(kept, set.tablecount);
+    let used = Tables {
+        count: set.tablecount,
+        items: kept,
+    };
+    let tables = tables_sound(used, rows);
+    (set.portcount <= FILE_PORTS) & ports & tables & unused
 }
