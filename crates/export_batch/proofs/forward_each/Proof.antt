@@ -4,19 +4,20 @@ use mathlib.Core.List.{_++_}
 use native.Mathlib.Omega.{arith}
 use Prim.Native.Nat.{_≤_, _-_, _*_, _+_}
 use lib.ListN.{length, take, drop}
+use Rattle.table.specs.Table.{lent}
 use Rattle.export_batch.specs.Batch.{batchOf}
 use Rattle.export_batch.proofs.Slots.{at-start, turn, part-length, whole-length, at-end}
 use Rattle.export_batch.proofs.forward_each.Statement.{statement}
 use Rattle.export_batch.proofs.forward_each.Tie as tie
 
 abbrev Inv-loop : tie.InvT-loop
-Inv-loop arriving leaving table levels n input output₀ at₀ i₀ output at i =
+Inv-loop arriving leaving table rows levels n input output₀ at₀ i₀ output at i =
     (at ≡ i * 64) × (i ≤ n) × (length output ≡ length output₀)
-    × (batchOf (record { arriving = arriving; leaving = leaving; table = table; levels = levels }) n input output₀
-    ≡ take at output ++ batchOf (record { arriving = arriving; leaving = leaving; table = table; levels = levels }) (n - i) (drop at input) (drop at output))
+    × (batchOf (record { arriving = arriving; leaving = leaving; table = lent table rows; levels = levels }) n input output₀
+    ≡ take at output ++ batchOf (record { arriving = arriving; leaving = leaving; table = lent table rows; levels = levels }) (n - i) (drop at input) (drop at output))
 
 abbrev μ-loop : tie.MeasureT-loop
-μ-loop arriving leaving table levels n input output₀ at₀ i₀ output at i = n - i
+μ-loop arriving leaving table rows levels n input output₀ at₀ i₀ output at i = n - i
 
 loop-holds : tie.Need-loop-holds Inv-loop μ-loop
 loop-holds c = (refl, omega arith, refl, at-start _ _ _ (c .before .before .args .n))
