@@ -8,7 +8,7 @@ use native.Mathlib.Nat.{not-suc-le-zero, le-of-suc-le-suc}
 use native.Mathlib.Numerals.{add-one}
 use lib.Dec.{leb, ltb}
 use borrow.Author.Tests.{leb-true, leb-false}
-use lib.ListN.{length, getD, take, drop, length-drop, length-append, take-append-drop, drop-of-length-le}
+use lib.ListN.{length, getD, take, drop, replicate, length-replicate, length-drop, length-append, take-append-drop, drop-of-length-le}
 use lib.Seq.{take-all, take-at, drop-at, drop-drop, drop-cons, length-take-le}
 use Rattle.decision.specs.declared.Decision.{Decision}
 use Rattle.forward_rules.specs.Crossing.{Forwarding}
@@ -18,11 +18,11 @@ use Rattle.port.specs.declared.Port.{Port}
 use Rattle.table.specs.Renumbering.{LentTable, lentOf, levelsOf}
 use Rattle.table_choose.specs.declared.Tables.{Tables}
 use Rattle.table_choose.specs.Tables.{usedTables, tablesFrom, firstTable}
-use Rattle.file_set.specs.declared.Set.{Set}
 use Rattle.file_set.specs.Set.{tablesIn}
 use Rattle.file_read.specs.declared.FileRead.{FileRead}
+use Rattle.file_read.specs.File.{fileReading, fileRoom}
 use Rattle.route_ports.specs.Ports.{unlistedPort, portAt}
-use Rattle.export_batch.specs.Batch.{Gateway, gatewayBy, between, gatewayOf, factsIn, areaIn, withHead, forwardingIn, slotOf, batchOf}
+use Rattle.export_batch.specs.Batch.{Gateway, gatewayBy, between, setRead, rowsRead, gatewayOf, factsIn, areaIn, withHead, forwardingIn, slotOf, batchOf}
 
 -- 1. What is picked.
 
@@ -38,23 +38,29 @@ pub gateway-found : (a l : Port) (ts : Tables) (ns : List ℕ) (x : LentTable) (
 gateway-found a l ts ns x ls e f =
     ap (λ (z : List (List ℕ)). record { arriving = a; leaving = l; table = lentOf x; levels = z }) f ∙ ap (gatewayBy a l) e
 
-module _ (f : FileRead) (s : Set) (es : f .set ≡ s) (room ns rows : List ℕ) (er : rows ≡ ns ++ drop (length ns) room) (eu : f .used ≡ length ns) where
-  -- what is lent of the room is what was read
-  pub rows-lent : take (f .used) rows ≡ ns
-  rows-lent = ap (λ (z : List ℕ). take (f .used) z) er ∙ take-at ns (drop (length ns) room) (f .used) (sym eu)
+-- what was read of a file, into room for all rows that a sound one may have
+module _ (o : List ℕ) (f : FileRead) (rows : List ℕ) (e : f ≡ fileReading o (length (replicate {A = ℕ} 24576 0))) (er : rows ≡ fileRoom o (replicate 24576 0)) where
+  read : f ≡ fileReading o 24576
+  read = e ∙ ap (fileReading o) (length-replicate {A = ℕ} 24576 0)
+
+  rows-lent : take (f .used) rows ≡ rowsRead o
+  rows-lent = λ i. take (read i .used) (er i)
+
+  abbrev by-numbers : (t : Bool) (a l : ℕ) → Gateway
+  by-numbers t a l =
+      cond t (between (portAt (setRead o .ports) a) (portAt (setRead o .ports) l) (tablesIn (setRead o)) (rowsRead o))
+      (between unlistedPort unlistedPort (tablesIn (setRead o)) (rowsRead o))
 
   module _ (a l : ℕ) where
     pub both-there : (p q : Port) → (ltb a 16 && ltb l 16) ≡ true → p ≡ portAt (f .set .ports) a → q ≡ portAt (f .set .ports) l
-        → between p q (tablesIn (f .set)) (take (f .used) rows) ≡ gatewayOf s ns a l
+        → between p q (tablesIn (f .set)) (take (f .used) rows) ≡ gatewayOf (setRead o) (rowsRead o) a l
     both-there p q t ep eq =
         (λ i. between (ep i) (eq i) (tablesIn (f .set)) (rows-lent i))
-        ∙ (λ i. between (portAt (es i .ports) a) (portAt (es i .ports) l) (tablesIn (es i)) ns)
-        ∙ ap (λ (b : Bool). cond b (between (portAt (s .ports) a) (portAt (s .ports) l) (tablesIn s) ns) (between unlistedPort unlistedPort (tablesIn s) ns)) (sym t)
+        ∙ (λ i. between (portAt (read i .set .ports) a) (portAt (read i .set .ports) l) (tablesIn (read i .set)) (rowsRead o))
+        ∙ ap (λ (b : Bool). by-numbers b a l) (sym t)
 
-    pub none-there : (p : Port) → (ltb a 16 && ltb l 16) ≡ false → p ≡ unlistedPort → between p p (tablesIn (f .set)) (take (f .used) rows) ≡ gatewayOf s ns a l
-    none-there p t ep =
-        (λ i. between (ep i) (ep i) (tablesIn (es i)) (rows-lent i))
-        ∙ ap (λ (b : Bool). cond b (between (portAt (s .ports) a) (portAt (s .ports) l) (tablesIn s) ns) (between unlistedPort unlistedPort (tablesIn s) ns)) (sym t)
+    pub none-there : (p : Port) → (ltb a 16 && ltb l 16) ≡ false → p ≡ unlistedPort → between p p (tablesIn (f .set)) (take (f .used) rows) ≡ gatewayOf (setRead o) (rowsRead o) a l
+    none-there p t ep = (λ i. between (ep i) (ep i) (tablesIn (read i .set)) (rows-lent i)) ∙ ap (λ (b : Bool). by-numbers b a l) (sym t)
 
 pub batch-is : (g g′ : Gateway) (n m : ℕ) (ins outs w : List ℕ) → g ≡ g′ → n ≡ m → w ≡ batchOf g n ins outs → w ≡ batchOf g′ m ins outs
 batch-is g g′ n m ins outs w eg en e = e ∙ rw (eg, en)

@@ -3,7 +3,7 @@ use Prim.Native.Nat.{ℕ, zero, suc, _/_, _%_}
 use mathlib.Core.Bool.{Bool, cond, not, _&&_}
 use mathlib.Core.List.{List, _++_}
 use lib.Dec.{eqb, ltb}
-use lib.ListN.{getD, set, take, drop}
+use lib.ListN.{getD, set, take, drop, replicate}
 use Rattle.port.specs.declared.Port.{Port}
 use Rattle.table.specs.Table.{Lent}
 use Rattle.table.specs.Renumbering.{LentTable, lentOf, levelsOf}
@@ -11,6 +11,7 @@ use Rattle.table_choose.specs.declared.Tables.{Tables}
 use Rattle.table_choose.specs.Tables.{usedTables, tablesFrom, firstTable}
 use Rattle.file_set.specs.declared.Set.{Set}
 use Rattle.file_set.specs.Set.{tablesIn}
+use Rattle.file_read.specs.File.{fileReading, fileRoom}
 use Rattle.route_ports.specs.Ports.{unlistedPort, portAt}
 use Rattle.decision.specs.declared.Decision.{Decision}
 use Rattle.decision.specs.declared.Facts.{Facts}
@@ -39,6 +40,13 @@ between a l ts ns = gatewayBy a l (firstTable (a .domain) (l .domain) (tablesFro
 abbrev pub gatewayOf : Set → List ℕ → ℕ → ℕ → Gateway
 gatewayOf s ns a l =
     cond (ltb a 16 && ltb l 16) (between (portAt (s .ports) a) (portAt (s .ports) l) (tablesIn s) ns) (between unlistedPort unlistedPort (tablesIn s) ns)
+
+-- a file is read with room for 24,576 numbers, as many as the rows of a sound one may have: its set, and its rows
+abbrev pub setRead : List ℕ → Set
+setRead o = fileReading o 24576 .set
+
+abbrev pub rowsRead : List ℕ → List ℕ
+rowsRead o = take (fileReading o 24576 .used) (fileRoom o (replicate 24576 0))
 
 -- 2. One datagram. Its record: the five facts in octets 0 to 4 (0 or not), the area's length in octet 5, the area from octet 8 on.
 

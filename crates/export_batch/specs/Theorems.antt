@@ -5,7 +5,6 @@ use mathlib.Core.Path.{_≡_}
 use Prim.Native.Nat.{ℕ}
 use Rattle.port.specs.Port.{portSound}
 use Rattle.file_set.specs.declared.Set.{Set}
-use Rattle.file_read.specs.declared.Answer.the-variants.{Accepted}
 use Rattle.file_read.specs.File.{fileReading}
 use Rattle.forward_rules.specs.Forward.{forwardOf}
 use Rattle.route_ports.specs.Ports.{portAt}
@@ -13,7 +12,7 @@ use Rattle.export_batch.specs.Batch.{gatewayOf, forwardingIn}
 
 -- a refused file has no sound port of any number
 abbrev pub RefusedFile : Type 0
-RefusedFile = (o : List ℕ) (room : ℕ) → (fileReading o room .answer ≡ Accepted → ⊥) → (i : ℕ) → portSound (portAt (fileReading o room .set .ports) i) ≡ false
+RefusedFile = (o : List ℕ) (room : ℕ) → (fileReading o room .verdict ≡ 0 → ⊥) → (i : ℕ) → portSound (portAt (fileReading o room .set .ports) i) ≡ false
 
 -- without an arriving or a leaving port that is sound no datagram is forwarded
 abbrev pub NoPort : Type 0

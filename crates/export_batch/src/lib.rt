@@ -6,8 +6,7 @@ ghost use mathlib.Core.Path.{_≡_};
 ghost use Prim.Native.Nat.{_≤_, _*_};
 ghost use lib.ListN.{length};
 ghost use Rattle.table.specs.Table.{lent};
-ghost use Rattle.file_read.specs.File.{fileReading, rowsRead};
-ghost use Rattle.export_batch.specs.Batch.{between, gatewayOf, slotCount, withHead, slotOf, batchOf};
+ghost use Rattle.export_batch.specs.Batch.{between, setRead, rowsRead, gatewayOf, slotCount, withHead, slotOf, batchOf};
 use decision::Decision;
 use decision::Facts;
 use file_read::read_file;
@@ -39,7 +38,7 @@ pub extern "C" fn inglebreek_forward_batch(
     output: &mut [u8],
 ) -> usize
     ensures { λ r. ⌜ r ≡ slotCount (length (now (input .entry))) (length (now (output .entry))) ⌝ }
-    ensures { λ _. ⌜ now (output .exit) ≡ batchOf (gatewayOf (fileReading (now (file .entry)) 24576 .set) (rowsRead (now (file .entry)) 24576) arriving leaving) (slotCount (length (now (input .entry))) (length (now (output .entry)))) (now (input .entry)) (now (output .entry)) ⌝ }
+    ensures { λ _. ⌜ now (output .exit) ≡ batchOf (gatewayOf (setRead (now (file .entry))) (rowsRead (now (file .entry))) arriving leaving) (slotCount (length (now (input .entry))) (length (now (output .entry)))) (now (input .entry)) (now (output .entry)) ⌝ }
 {
     let mut rows = [0u16; ROOM];
     let read = read_file(file, &mut rows);
