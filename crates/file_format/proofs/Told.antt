@@ -90,9 +90,23 @@ marks-told {s} {ok} {ok₁} {at} {at₁} {x} e q = record { reads = rw (← q) (
     go true h = rw h (mapped marksOf ok₁ x at₁)
     go false h = bad-told at at₁ ok₁ x (marksOf x) h
 
--- where the first of two steps is refused, so are both, at the same place; a refusal counts for every value
-pub any-told : {A : Type 0} {f : Format A} {s : List ℕ} {ok : Bool} {at at₁ : ℕ} {a b : A} → Reads f s ok at false a at₁ → Reads f s ok at false b at₁
-any-told e = record { reads = e .reads }
+-- where a refused reader gives another value in its place, it has read as well
+pub zeroed : {A : Type 0} {f : Format A} {s : List ℕ} {ok k : Bool} {at n : ℕ} {a b : A} (z : A) → Reads f s ok at k a n → b ≡ cond k a z → Reads f s ok at k b n × (b ≡ cond k b z)
+zeroed {A} {f} {s} {ok} {k} {at} {n} {a} {b} z e q = go k (e .reads) q
+  where
+    go : (t : Bool) → cond ok (readAt f s at) (bad at) ≡ told t a n → b ≡ cond t a z → Reads f s ok at t b n × (b ≡ cond t b z)
+    go true h w = (record { reads = h ∙ ap (λ (x : A). got x n) (sym w) }, refl)
+    go false h w = (record { reads = h }, w)
+
+pub refused-zero : {A : Type 0} {f : Format A} {s : List ℕ} {ok k : Bool} {at n : ℕ} {a b : A} (z : A) → Reads f s ok at k a n → not k ≡ true → b ≡ z → Reads f s ok at false b n × (b ≡ cond false b z)
+refused-zero {A} {f} {s} {ok} {k} {at} {n} {a} {b} z e h q = go k h (e .reads)
+  where
+    go : (t : Bool) → not t ≡ true → cond ok (readAt f s at) (bad at) ≡ told t a n → Reads f s ok at false b n × (b ≡ cond false b z)
+    go true h e = absurd (true≢false (sym h))
+    go false h e = (record { reads = e }, q)
+
+pub accepted-same : {A : Type 0} {f : Format A} {s : List ℕ} {ok k : Bool} {at n : ℕ} {a : A} (z : A) → Reads f s ok at k a n → not k ≡ false → Reads f s ok at k a n × (a ≡ cond k a z)
+accepted-same {A} {f} {s} {ok} {k} {at} {n} {a} z e h = (e, rw (not-false k h))
 
 -- A loop reads its elements one by one, each where all was good before it.
 

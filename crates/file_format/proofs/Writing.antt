@@ -1,5 +1,5 @@
 -- Octets written over others: one after the other, and the last octet alone.
-use mathlib.Core.Bool.{cond}
+use mathlib.Core.Bool.{Bool, true, false, cond, not}
 use mathlib.Core.List.{List, [], _∷_, _++_, append-assoc, append-nil}
 use mathlib.Core.Path.{_≡_, refl, sym, ap, _∙_}
 use Prim.Native.Nat.{ℕ, zero, suc, _+_, _-_, _*_, _/_, _%_, _≤_, _<_}
@@ -7,7 +7,7 @@ use native.Mathlib.Omega.{arith}
 use native.Mathlib.Nat.{add-assoc, add-zero, suc-mul}
 use native.Mathlib.Numerals.{add-one}
 use lib.Dec.{leb}
-use borrow.Author.Tests.{le-leb, lt-leb}
+use borrow.Author.Tests.{le-leb, lt-leb, leb-true, leb-false, not-true, not-false}
 use lib.ListN.{length, getD, set, take, drop, length-append, length-drop, length-set, take-append-drop}
 use lib.Seq.{length-take-le, drop-drop, take-at, drop-at, take-set-le, set-split, take-suc}
 use Rattle.lists.specs.Lists.{paint}
@@ -46,6 +46,18 @@ wrote-all {at} {n} {xs} {out} {out′} h w =
 
 pub wrote-nothing : {at : ℕ} {xs out : List ℕ} → length out < at + length xs → Writes at xs out out at
 wrote-nothing {at} {xs} {out} h = record { buffer = rw (lt-leb (at + length xs) (length out) h); place = rw (lt-leb (at + length xs) (length out) h) }
+
+-- after the writer has looked whether there is room for its n octets
+module _ {at : ℕ} {xs out : List ℕ} (t : Bool) (n : ℕ) (asked : t ≡ leb (at + n) (length out)) (size : length xs ≡ n) where
+  pub stops-short : not t ≡ true → Writes at xs out out at
+  stops-short h =
+      let k : length out < at + n = leb-false _ _ (sym asked ∙ not-true t h) in
+      wrote-nothing (omega (arith, size))
+
+  pub goes-on : {out′ : List ℕ} {m : ℕ} → not t ≡ false → Wrote at xs out out′ m → Writes at xs out out′ m
+  goes-on h w =
+      let k : at + n ≤ length out = leb-true _ _ (sym asked ∙ not-false t h) in
+      wrote-all (omega (arith, size)) w
 
 -- nothing is written by nobody
 pub writes-none : {at : ℕ} {out : List ℕ} → Wrote at [] out out at
