@@ -17,7 +17,7 @@ use label_ranges::reaches;
 use label_ranges::stretch;
 use lists::lesser;
 use table::FEW_ROWS;
-use table::MOST_ROWS;
+use table::MAX_ROWS;
 use table::Row;
 use table::Table;
 use table::bare_order;
@@ -87,7 +87,7 @@ fn carry_many(
 ) -> Carried
     ensures { λ r. ⌜ (r ≡ carriedBy sound to (keyRuns (take n (now (keys .entry)))) (lent table (now (rows .entry))) (length (now (far .entry)))) × (now (far .exit) ≡ carriedKeys r (imageOf (lent table (now (rows .entry))) (keyRuns (take n (now (keys .entry))))) (now (far .entry))) ⌝ }
 {
-    let mut order = [0u32; MOST_ROWS];
+    let mut order = [0u32; MAX_ROWS];
     carry_by(keys, n, sound, to, table, rows, &mut order, far)
 }
 

@@ -7,13 +7,13 @@ use native.Mathlib.Omega.{arith}
 use lib.ListN.{length, take, drop, length-append}
 use lib.Seq.{take-at}
 use borrow.Author.Tests.{le-leb, lt-leb}
-use Rattle.table.specs.Table.{Lent, usedRows, tableSound}
+use Rattle.table.specs.Table.{Lent, rowNumbers, usedRows, tableSound}
 use Rattle.table.specs.Order.{rowOrder, orderOf}
 use Rattle.table.proofs.Sound.{sound, sound-rows}
 use Rattle.table.proofs.Order.{order-length}
 use Rattle.renumber_keys.proofs.Ready.{order-is}
 use Rattle.renumber_reverse.specs.declared.Reversed.{Reversed}
-use Rattle.renumber_reverse.specs.Reverse.{turnedRows, reverseTable, reversedOf, notReversed, rowNumbers, withRows}
+use Rattle.renumber_reverse.specs.Reverse.{turnedRows, reverseTable, reversedOf, notReversed, withRows}
 use Rattle.renumber_reverse.specs.Stages.{InOrder}
 
 module _ (t : Lent) (ls : List (List ℕ)) where

@@ -8,13 +8,13 @@ use lib.ListN.{length, take, drop, getD, set, replicate, length-map, length-appe
 use lib.Seq.{set-at, length-take-le, take-all}
 use Rattle.label.proofs.Steps.{next}
 use Rattle.table.specs.declared.Row.{Row}
-use Rattle.table.specs.Table.{noRow}
+use Rattle.table.specs.Table.{noRow, rowNumbers}
 use Rattle.table.specs.Order.{rowAt, rowOrder, inOrder}
 use Rattle.table.proofs.Order.{Turn, order-turn, order-length}
-use Rattle.renumber_reverse.specs.Reverse.{turnedRow, turnedPair, turnedLevels, rowNumbers}
+use Rattle.renumber_reverse.specs.Reverse.{turnedRow, turnedPair, turnedLevels}
 use Rattle.renumber_reverse.specs.Stages.{InOrder}
 use Rattle.renumber_reverse.proofs.Rows.{Fine, fine, is-fine, test-at, order-fine}
-use Rattle.renumber_reverse.proofs.Tables.{numbers-length}
+use Rattle.table.proofs.Lent.{numbers-length}
 
 -- The row that a turn reads.
 module _ (rs : List Row) (n : ℕ) (order : List ℕ) (o : InOrder rs n order) where

@@ -9,28 +9,13 @@ use lib.ListN.{length, take, drop}
 use borrow.Author.Tests.{le-leb, leb-true, eq-eqb, ne-eqb}
 use Rattle.label.proofs.Bools.{and-left, and-right}
 use Rattle.table.specs.declared.Row.{Row}
-use Rattle.table.specs.Table.{Lent, rowsFrom, usedRows, rowsSound, typed, tableSound}
+use Rattle.table.specs.Table.{Lent, rowNumbers, usedRows, rowsSound, typed, tableSound}
 use Rattle.table_levels.specs.Levels.{levelsSound, levelNumbers}
+use Rattle.table.proofs.Lent.{numbers-length, numbers-rows, rows-numbers}
 use Rattle.table.proofs.Sound.{Sound, sound, Rows, sound-rows}
-use Rattle.renumber_reverse.specs.Reverse.{turnedRows, turnedLevels, rowNumbers, reverseTable}
+use Rattle.renumber_reverse.specs.Reverse.{turnedRows, turnedLevels, reverseTable}
 use Rattle.renumber_reverse.proofs.Rows.{turned-length, turned-rise, turned-apart, turned-twice}
 use Rattle.renumber_reverse.proofs.Levels.{take-turned, drop-turned, levels-rise, pairs-unused, pairs-numbers}
-
--- Rows as numbers, and back.
-pub numbers-length : (rs : List Row) → length (rowNumbers rs) ≡ length rs * 3
-numbers-length [] = refl
-numbers-length (r ∷ rs) = omega (arith, numbers-length rs)
-
-pub numbers-rows : (rs : List Row) → rowsFrom (rowNumbers rs) ≡ rs
-numbers-rows [] = refl
-numbers-rows (r ∷ rs) = ap (λ (z : List Row). r ∷ z) (numbers-rows rs)
-
-rows-numbers : (xs : List ℕ) (n : ℕ) → length xs ≡ n * 3 → rowNumbers (rowsFrom xs) ≡ xs
-rows-numbers [] n h = refl
-rows-numbers (a ∷ []) n h = absurd (omega arith)
-rows-numbers (a ∷ b ∷ []) n h = absurd (omega arith)
-rows-numbers (a ∷ b ∷ c ∷ xs) zero h = absurd (omega arith)
-rows-numbers (a ∷ b ∷ c ∷ xs) (suc n) h = ap (λ (z : List ℕ). a ∷ b ∷ c ∷ z) (rows-numbers xs n (omega arith))
 
 from-fits : (t : Lent) (ls : List (List ℕ)) → tableSound t ls ≡ true → t .from ≤ 4294967295
 unfolding tableSound typed

@@ -6,7 +6,7 @@ use Prim.Native.Nat.{ℕ, _*_, _/_}
 use lib.Dec.{leb, eqb}
 use lib.ListN.{length, drop, getD}
 use Rattle.table.specs.declared.Row.{Row}
-use Rattle.table.specs.Table.{Lent, usedRows, targetEnd, tableSound}
+use Rattle.table.specs.Table.{Lent, rowNumbers, usedRows, targetEnd, tableSound}
 use Rattle.table.specs.Order.{inOrder}
 use Rattle.renumber_reverse.specs.declared.Reversed.{Reversed}
 
@@ -28,11 +28,6 @@ turnedLevels ls = map turnedPair ls
 abbrev pub inTwos : List (List ℕ) → Bool
 inTwos [] = true
 inTwos (p ∷ ps) = eqb (length p) 2 && inTwos ps
-
--- each row as three numbers
-abbrev pub rowNumbers : List Row → List ℕ
-rowNumbers [] = []
-rowNumbers (r ∷ rs) = r .low ∷ r .high ∷ r .target ∷ rowNumbers rs
 
 -- the reverse of a table, with its rows
 unfoldable pub reverseTable : Lent → Lent

@@ -3,11 +3,11 @@ ghost use mathlib.Core.Path.{_≡_};
 ghost use mathlib.Core.List.{_++_};
 ghost use Prim.Native.Nat.{_*_, _/_, _≤_};
 ghost use lib.ListN.{length, drop};
-ghost use Rattle.table.specs.Table.{lent, rowsFrom, targetEnd};
-ghost use Rattle.renumber_reverse.specs.Reverse.{turnedRow, turnedRows, turnedLevels, reversedOf, notReversed, rowNumbers, withRows};
+ghost use Rattle.table.specs.Table.{rowNumbers, lent, rowsFrom, targetEnd};
+ghost use Rattle.renumber_reverse.specs.Reverse.{turnedRow, turnedRows, turnedLevels, reversedOf, notReversed, withRows};
 ghost use Rattle.renumber_reverse.specs.Stages.{InOrder};
 use table::FEW_ROWS;
-use table::MOST_ROWS;
+use table::MAX_ROWS;
 use table::Row;
 use table::Table;
 use table::row_at;
@@ -57,7 +57,7 @@ fn reverse_few(table: Table, rows: &[u16], levels: Levels, back: &mut [u16]) -> 
 fn reverse_many(table: Table, rows: &[u16], levels: Levels, back: &mut [u16]) -> Reversed
     ensures { λ r. ⌜ (r ≡ reversedOf (lent table (now (rows .entry))) levels (length (now (back .entry)) / 3)) × (now (back .exit) ≡ withRows (lent table (now (rows .entry))) levels (now (back .entry))) ⌝ }
 {
-    let mut order = [0u32; MOST_ROWS];
+    let mut order = [0u32; MAX_ROWS];
     reverse_by(table, rows, levels, &mut order, back)
 }
 

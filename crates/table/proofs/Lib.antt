@@ -5,3 +5,4 @@ pub mod Order
 pub mod Sound
 pub mod Numbers
 pub mod Theorems
+pub mod Renumberings

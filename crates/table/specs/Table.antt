@@ -32,6 +32,11 @@ rowsFrom (a ∷ []) = []
 rowsFrom (a ∷ b ∷ []) = []
 rowsFrom (a ∷ b ∷ c ∷ xs) = row a b c ∷ rowsFrom xs
 
+-- and back: each row as three numbers
+abbrev pub rowNumbers : List Row → List ℕ
+rowNumbers [] = []
+rowNumbers (r ∷ rs) = r .low ∷ r .high ∷ r .target ∷ rowNumbers rs
+
 -- the rows in use: those that are lent
 abbrev pub usedRows : Lent → List Row
 usedRows t = rowsFrom (t .rows)
@@ -58,6 +63,12 @@ apartFrom r (s ∷ ss) = apart r s && apartFrom r ss
 abbrev pub targetsApart : List Row → Bool
 targetsApart [] = true
 targetsApart (r ∷ rs) = apartFrom r rs && targetsApart rs
+
+-- rows by themselves: whole ones, at most 1,024, and sound
+unfoldable pub rowListSound : List ℕ → Bool
+rowListSound ns =
+    leb (length (rowsFrom ns)) 1024
+    && (eqb (length ns) (length (rowsFrom ns) * 3) && (rising 0 (rowsFrom ns) && targetsApart (rowsFrom ns)))
 
 unfoldable pub rowsSound : Lent → Bool
 rowsSound t = rising 0 (usedRows t) && targetsApart (usedRows t)

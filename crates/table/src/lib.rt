@@ -4,11 +4,14 @@ ghost use mathlib.Core.Bool.{true, _&&_};
 ghost use Prim.Native.Nat.{_+_, _*_, _≤_};
 ghost use lib.Dec.{leb};
 ghost use lib.ListN.{length, take, getD, replicate};
-ghost use Rattle.table.specs.Table.{lent, rowsFrom, row, noRow, targetEnd, rising, bareSound, tableSound};
+ghost use Rattle.table.specs.Table.{lent, rowsFrom, row, noRow, targetEnd, rising, targetsApart, rowListSound, bareSound, tableSound};
+ghost use Rattle.table.specs.Renumbering.{noTable, levelsOf, typedPairs};
 ghost use Rattle.table.specs.Order.{rowOrder, inOrder, orderOf, bareOrder};
 ghost use Rattle.table.specs.Stages.{chain, fieldsSound, RowsRise, RowsOrder};
 use lists_sort::sort_keys;
+use table_levels::LevelPair;
 use table_levels::Levels;
+use table_levels::MAX_PAIRS;
 use table_levels::levels_sound;
 use table_rows::row_rises;
 
@@ -28,8 +31,14 @@ pub struct Table {
     pub count: usize,
 }
 
+// A table, and beside it its level pairs: the first `table.pairs` are used.
+pub struct Renumbering {
+    pub table: Table,
+    pub levels: [LevelPair; MAX_PAIRS],
+}
+
 // The most rows that a table has.
-pub const MOST_ROWS: usize = 1024;
+pub const MAX_ROWS: usize = 1024;
 
 // Up to so many rows little room is taken for their order, for all of it is zeroed.
 pub const FEW_ROWS: usize = 64;
@@ -63,6 +72,75 @@ fn to_row(low: u16, high: u16, target: u16) -> Row
     }
 }
 
+// Whether rows by themselves are sound: whole ones and at most 1,024, their sources rise, their targets are apart.
+pub fn rows_sound(rows: &[u16]) -> bool
+    ensures { λ r. ⌜ r ≡ rowListSound (now (rows .entry)) ⌝ }
+{
+    let n = rows.len() / 3;
+    if MAX_ROWS < n {
+        return false;
+    }
+    if rows.len() != n * 3 {
+        return false;
+    }
+    if n <= FEW_ROWS {
+        return few_rows(rows, n);
+    }
+    many_rows(rows, n)
+}
+
+fn few_rows(rows: &[u16], n: usize) -> bool
+    requires { ⌜ (length (now rows) ≡ n * 3) × (n ≤ 64) ⌝ }
+    ensures { λ r. ⌜ r ≡ (rising 0 (rowsFrom (now (rows .entry))) && targetsApart (rowsFrom (now (rows .entry)))) ⌝ }
+{
+    let mut order = [0u32; FEW_ROWS];
+    rows_order(rows, n, &mut order)
+}
+
+fn many_rows(rows: &[u16], n: usize) -> bool
+    requires { ⌜ (length (now rows) ≡ n * 3) × (n ≤ 1024) ⌝ }
+    ensures { λ r. ⌜ r ≡ (rising 0 (rowsFrom (now (rows .entry))) && targetsApart (rowsFrom (now (rows .entry)))) ⌝ }
+{
+    let mut order = [0u32; MAX_ROWS];
+    rows_order(rows, n, &mut order)
+}
+
+// The table whose every number is 0.
+pub fn empty_table() -> Renumbering
+    ensures { λ r. ⌜ r ≡ noTable ⌝ }
+{
+    Renumbering {
+        table: Table {
+            from: 0,
+            to: 0,
+            pairs: 0,
+            count: 0,
+        },
+        levels: [LevelPair { levels: [0u8; 2] }; MAX_PAIRS],
+    }
+}
+
+// The two levels of a pair.
+fn two_of(pair: LevelPair) -> [u8; 2]
+    ensures { λ r. ⌜ (r ≡ pair .levels) × (length (pair .levels) ≡ 2) ⌝ }
+{
+    pair.levels
+}
+
+// The level pairs as an array of two-number arrays.
+pub fn levels_of(renumbering: Renumbering) -> Levels
+    ensures { λ r. ⌜ (r ≡ levelsOf renumbering) × (typedPairs renumbering ≡ true) ⌝ }
+{
+    let mut levels = [[0u8; 2]; MAX_PAIRS];
+    let mut i: usize = 0;
+    while i < MAX_PAIRS {
+        let pair = renumbering.levels[i];
+        levels[i] = two_of(pair);
+        i += 1;
+    }
+    levels
+}
+
 // Whether the table is sound, with its rows and its level pairs.
 pub fn table_sound(table: Table, rows: &[u16], levels: Levels) -> bool
     ensures { λ r. ⌜ r ≡ tableSound (lent table (now (rows .entry))) levels ⌝ }
@@ -84,7 +162,7 @@ fn few_sound(table: Table, rows: &[u16], levels: Levels) -> bool
 fn many_sound(table: Table, rows: &[u16], levels: Levels) -> bool
     ensures { λ r. ⌜ r ≡ tableSound (lent table (now (rows .entry))) levels ⌝ }
 {
-    let mut order = [0u32; MOST_ROWS];
+    let mut order = [0u32; MAX_ROWS];
     table_order(table, rows, levels, &mut order)
 }
 
@@ -110,7 +188,7 @@ pub fn bare_order(table: Table, rows: &[u16], order: &mut [u32]) -> bool
         clear(order);
         return false;
     }
-    if rows_sound(rows, n, order) {
+    if rows_order(rows, n, order) {
         return true;
     }
     clear(order);
@@ -142,7 +220,7 @@ fn fields_sound(table: Table, held: usize) -> bool
         return false;
     }
     let count = table.count;
-    if MOST_ROWS < count {
+    if MAX_ROWS < count {
         return false;
     }
     held == count * 3
@@ -164,7 +242,7 @@ fn to_rise(sources: bool, targets: bool) -> Rise
 }
 
 // Whether the rows are sound, which the order of their targets shows; they are put in order only where they do not stand so.
-fn rows_sound(rows: &[u16], n: usize, order: &mut [u32]) -> bool
+fn rows_order(rows: &[u16], n: usize, order: &mut [u32]) -> bool
     requires { ⌜ (length (now rows) ≡ n * 3) × (n ≤ 1024) × (n ≤ length (now order)) ⌝ }
     ensures { λ r. ⌜ RowsOrder (rowsFrom (now (rows .entry))) n r (now (order .entry)) (now (order .exit)) ⌝ }
 {

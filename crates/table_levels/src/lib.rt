@@ -12,6 +12,11 @@ pub const MAX_PAIRS: usize = 256;
 // The level pairs of a table, passed beside it.
 pub type Levels = [[u8; 2]; MAX_PAIRS];
 
+// A level and the level that it goes to.
+pub struct LevelPair {
+    pub levels: [u8; 2],
+}
+
 // The level that a level goes to, where it has a partner.
 pub enum Partner {
     Level(u8),

@@ -34,8 +34,8 @@ returns c =
     let a = f .before .before .before .args in
     order-refused (a .table) (a .rows .now) (a .order .now) _ (tests-failed (a .table) (a .rows .now) (f .fields-sound .result) _ (f .fields-sound .ensures) (not-true _ (t .if1 .taken))) (k .clear .ensures)
 
-rows-sound-requires : tie.Need-rows-sound-requires
-rows-sound-requires c κs =
+rows-order-requires : tie.Need-rows-order-requires
+rows-order-requires c κs =
     let e1 = c .before in
     let a = e1 .before .before .before .before .args in
     let h = fields-held (a .table) (a .rows .now) (fields e1) in
@@ -49,8 +49,8 @@ returns-2 c =
     let r = c .before .before .before in
     let e1 = r .before .before in
     let a = e1 .before .before .before .before .args in
-    let b = both-sound (a .table) (a .rows .now) (fields e1) (sym (r .rows-sound .ensures .sound) ∙ c .if2 .taken) in
-    order-given (a .table) (a .rows .now) (a .order .now) _ b (held e1) (r .rows-sound .ensures .written (c .if2 .taken))
+    let b = both-sound (a .table) (a .rows .now) (fields e1) (sym (r .rows-order .ensures .sound) ∙ c .if2 .taken) in
+    order-given (a .table) (a .rows .now) (a .order .now) _ b (held e1) (r .rows-order .ensures .written (c .if2 .taken))
 
 clear-requires-2 : tie.Need-clear-requires-2
 clear-requires-2 c κs = search needs
@@ -65,8 +65,8 @@ returns-3 c =
     let r = e2 .before .before .before in
     let e1 = r .before .before in
     let a = e1 .before .before .before .before .args in
-    let u = rows-unsound (a .table) (a .rows .now) (sym (r .rows-sound .ensures .sound) ∙ e2 .if2 .left) in
-    let n : length (r .rows-sound .last .1 .1 .0) ≡ length (a .order .now) = search needs in
+    let u = rows-unsound (a .table) (a .rows .now) (sym (r .rows-order .ensures .sound) ∙ e2 .if2 .left) in
+    let n : length (r .rows-order .last .1 .1 .0) ≡ length (a .order .now) = search needs in
     order-refused (a .table) (a .rows .now) (a .order .now) _ (rw u) (k .clear2 .ensures ∙ ap (λ (z : ℕ). replicate z 0) n)
 
 pub bare-order-spec : {M : Type 1} → statement M
@@ -77,7 +77,7 @@ bare-order-spec =
     clear-requires
     same-length
     returns
-    rows-sound-requires
+    rows-order-requires
     same-length-2
     returns-2
     clear-requires-2
