@@ -130,6 +130,22 @@ pub fn write_four(out: &mut [u8], at: usize, value: u32) -> usize
     write_number(&mut out[..], at, 4, value)
 }
 
+// Writes numbers over a list where there is room for all of them, and tells the place after them; else nothing, and the place that was given.
+pub fn write_numbers(numbers: &[u16], out: &mut [u16], at: usize) -> usize
+    ensures { λ r. ⌜ Writes at (now (numbers .entry)) (now (out .entry)) (now (out .exit)) r ⌝ }
+{
+    let n = numbers.len();
+    if !has_room(out.len(), at, n) {
+        return at;
+    }
+    let mut i: usize = 0;
+    while i < n {
+        out[at + i] = numbers[i];
+        i += 1;
+    }
+    at + n
+}
+
 // Where a reader stands.
 pub struct Place {
     pub ok: bool,

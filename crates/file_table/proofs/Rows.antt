@@ -1,23 +1,26 @@
 -- Rows that were read alone, and what that says of reading them with all their rules.
-use mathlib.Core.Bool.{Bool, true, false, cond, not, _&&_}
-use mathlib.Core.List.{List, [], _∷_, _++_}
+use mathlib.Core.Bool.{Bool, true, false, cond, not, _&&_, true≢false}
+use mathlib.Core.List.{List, [], _∷_, _++_, append-assoc}
 use mathlib.Core.Path.{_≡_, refl, sym, ap, _∙_}
 use mathlib.Core.Logic.{_⊎_, inl, inr}
-use Prim.Native.Nat.{ℕ, zero, suc, _+_, _-_, _*_, _≤_, _<_}
+use Prim.Native.Nat.{ℕ, zero, suc, _+_, _-_, _*_, _/_, _≤_, _<_}
 use native.Mathlib.Omega.{arith}
-use lib.ListN.{length, take, length-append}
-use lib.Seq.{take-append-le, take-all, take-at}
+use lib.ListN.{length, take, set, length-append, length-set}
+use lib.Seq.{take-append-le, take-all, take-at, length-take-le}
 use Rattle.label.proofs.Bools.{and-left, and-right, less-or}
 use Rattle.table.specs.declared.Row.{Row}
-use Rattle.table.specs.Table.{row, noRow, rising, apartFrom, targetsApart, targetEnd}
-use Rattle.file_format.specs.Format.{Found, got, bad, after, numberAt, manyAt, readAt, many, Reads}
+use Rattle.table.specs.Table.{row, rowsFrom, rowNumbers, rising, apartFrom, targetsApart, targetEnd, rowListSound}
+use Rattle.table.proofs.Lent.{rows-length, rows-numbers, list-whole}
+use Rattle.table.proofs.Renumberings.{put-next}
+use Rattle.file_format.specs.Format.{Format, Found, got, bad, after, valueOr, told, numberAt, manyAt, readAt, many, Reads}
 use Rattle.file_format.proofs.Numbers.{Within, number-within}
 use Rattle.file_format.proofs.Loops.{Passed, begins, turns, refuses, ends}
 use Rattle.file_format.proofs.Told.{many-refuses, many-reads, passed-same}
 use Rattle.file_format.specs.Places.{Filled}
-use Rattle.file_table.specs.declared.LevelPair.{LevelPair}
-use Rattle.file_table.specs.declared.Renumbering.{Renumbering}
-use Rattle.file_table.specs.TableFormat.{floorOf, rowFormat, withRow, noPair, renumberingOf}
+use Rattle.table_levels.specs.declared.LevelPair.{LevelPair}
+use Rattle.table_levels.specs.Levels.{noPair}
+use Rattle.table.specs.declared.Renumbering.{Renumbering}
+use Rattle.file_table.specs.TableFormat.{floorOf, rowFormat, withRow, tableFields, headOf}
 use Rattle.file_table.specs.Stages.{rowAlone, RowsAlone}
 use Rattle.file_table.proofs.Apart.{apart-last, floor-last, rising-last}
 
@@ -183,7 +186,84 @@ seen-passed {s} {ok} {n} {at} h =
       meets = λ j k a b. absurd (omega arith);
     }
 
--- a table whose pairs and rows were read into their places
-pub renumbering-again : {p q : ℕ} {levels : List LevelPair} {rows : List Row} (from to : ℕ) → Filled 16 noPair p levels → Filled 64 noRow q rows
-    → _≡_ {A = Renumbering} (renumberingOf from to (take p levels) (take q rows)) (record { table = record { from = from; to = to; pairs = p; count = q; rows = rows }; levels = levels })
-renumbering-again from to f g = λ i. record { table = record { from = from; to = to; pairs = f .size i; count = g .size i; rows = g .places i }; levels = f .places i }
+-- a table whose pairs were read into their places, and whose rows are counted
+pub head-again : {p q : ℕ} {levels : List LevelPair} {rows : List Row} (from to : ℕ) → Filled 256 noPair p levels → length rows ≡ q
+    → _≡_ {A = Renumbering} (headOf (tableFields from to (take p levels) rows)) (record { table = record { from = from; to = to; pairs = p; count = q }; levels = levels })
+head-again from to f g = λ i. record { table = record { from = from; to = to; pairs = f .size i; count = g i }; levels = f .places i }
+
+-- Rows that lie in a list of numbers.
+
+pub rows-take : (n : ℕ) (xs : List ℕ) → rowsFrom (take (n * 3) xs) ≡ take n (rowsFrom xs)
+rows-take zero xs = refl
+rows-take (suc n) xs = let e : suc n * 3 ≡ suc (suc (suc (n * 3))) = omega arith in ap (λ (k : ℕ). rowsFrom (take k xs)) e ∙ go xs
+  where
+    go : (ys : List ℕ) → rowsFrom (take (suc (suc (suc (n * 3)))) ys) ≡ take (suc n) (rowsFrom ys)
+    go [] = refl
+    go (a ∷ []) = refl
+    go (a ∷ b ∷ []) = refl
+    go (a ∷ b ∷ c ∷ ys) = ap (λ (z : List Row). row a b c ∷ z) (rows-take n ys)
+
+rows-join : (xs : List ℕ) (n a b c : ℕ) → length xs ≡ n * 3 → rowsFrom (xs ++ (a ∷ b ∷ c ∷ [])) ≡ rowsFrom xs ++ (row a b c ∷ [])
+rows-join [] n a b c h = refl
+rows-join (x ∷ []) n a b c h = absurd (omega arith)
+rows-join (x ∷ y ∷ []) n a b c h = absurd (omega arith)
+rows-join (x ∷ y ∷ z ∷ xs) zero a b c h = absurd (omega arith)
+rows-join (x ∷ y ∷ z ∷ xs) (suc n) a b c h = ap (λ (w : List Row). row x y z ∷ w) (rows-join xs n a b c (omega arith))
+
+-- a row is put behind those that are there
+pub rows-put : (l : List ℕ) (i a b c : ℕ) → i * 3 + 3 ≤ length l
+    → take (i + 1) (rowsFrom (set (set (set l (i * 3) a) (i * 3 + 1) b) (i * 3 + 2) c)) ≡ take i (rowsFrom l) ++ (row a b c ∷ [])
+rows-put l i a b c h =
+    let l1 : List ℕ = set l (i * 3) a in
+    let l2 : List ℕ = set (set l (i * 3) a) (i * 3 + 1) b in
+    let l3 : List ℕ = set (set (set l (i * 3) a) (i * 3 + 1) b) (i * 3 + 2) c in
+    let n1 : length (set l (i * 3) a) ≡ length l = length-set l (i * 3) a in
+    let n2 : length (set (set l (i * 3) a) (i * 3 + 1) b) ≡ length l = length-set (set l (i * 3) a) (i * 3 + 1) b ∙ n1 in
+    let p1 : take (i * 3 + 1) (set l (i * 3) a) ≡ take (i * 3) l ++ (a ∷ []) = put-next l (i * 3) a (omega arith) in
+    let p2 : take (i * 3 + 1 + 1) (set (set l (i * 3) a) (i * 3 + 1) b) ≡ take (i * 3 + 1) (set l (i * 3) a) ++ (b ∷ []) = put-next l1 (i * 3 + 1) b (omega (arith, n1)) in
+    let p3 : take (i * 3 + 2 + 1) (set (set (set l (i * 3) a) (i * 3 + 1) b) (i * 3 + 2) c) ≡ take (i * 3 + 2) (set (set l (i * 3) a) (i * 3 + 1) b) ++ (c ∷ []) = put-next l2 (i * 3 + 2) c (omega (arith, n2)) in
+    let e2 : i * 3 + 2 ≡ i * 3 + 1 + 1 = omega arith in
+    let e3 : (i + 1) * 3 ≡ i * 3 + 2 + 1 = omega arith in
+    let q2 : take (i * 3 + 2) (set (set l (i * 3) a) (i * 3 + 1) b) ≡ (take (i * 3) l ++ (a ∷ [])) ++ (b ∷ []) =
+    ap (λ (k : ℕ). take k l2) e2 ∙ p2 ∙ ap (λ (z : List ℕ). z ++ (b ∷ [])) p1 in
+    let q3 : take ((i + 1) * 3) (set (set (set l (i * 3) a) (i * 3 + 1) b) (i * 3 + 2) c) ≡ ((take (i * 3) l ++ (a ∷ [])) ++ (b ∷ [])) ++ (c ∷ []) =
+    ap (λ (k : ℕ). take k l3) e3 ∙ p3 ∙ ap (λ (z : List ℕ). z ++ (c ∷ [])) q2 in
+    let q4 : ((take (i * 3) l ++ (a ∷ [])) ++ (b ∷ [])) ++ (c ∷ []) ≡ take (i * 3) l ++ (a ∷ b ∷ c ∷ []) =
+    append-assoc (take (i * 3) l ++ (a ∷ [])) (b ∷ []) (c ∷ []) ∙ append-assoc (take (i * 3) l) (a ∷ []) (b ∷ c ∷ []) in
+    sym (rows-take (i + 1) l3)
+    ∙ ap rowsFrom (q3 ∙ q4)
+    ∙ rows-join (take (i * 3) l) i a b c (length-take-le (i * 3) l (omega arith))
+    ∙ ap (λ (z : List Row). z ++ (row a b c ∷ [])) (rows-take i l)
+
+pub rows-there : (n : ℕ) (xs : List ℕ) → n * 3 ≤ length xs → length (take n (rowsFrom xs)) ≡ n
+rows-there n xs h = length-take-le n (rowsFrom xs) (let e : length (rowsFrom xs) ≡ length xs / 3 = rows-length xs in omega arith)
+
+-- rows that rise are sound by themselves exactly when their targets are apart
+pub apart-list : (n : ℕ) (xs : List ℕ) → n ≤ 1024 → n * 3 ≤ length xs → rising 0 (take n (rowsFrom xs)) ≡ true → rowListSound (take (n * 3) xs) ≡ targetsApart (take n (rowsFrom xs))
+apart-list n xs h k r =
+    let l : length (take (n * 3) xs) ≡ n * 3 = length-take-le (n * 3) xs k in
+    let e : rowsFrom (take (n * 3) xs) ≡ take n (rowsFrom xs) = rows-take n xs in
+    sym (list-whole (take (n * 3) xs) (targetsApart (take n (rowsFrom xs))) (omega (arith, l)) (omega (arith, l)) (rw (e, r)))
+
+-- the rows that stand at the head of a list of numbers, as numbers
+pub numbers-head : (n : ℕ) (xs : List ℕ) → n * 3 ≤ length xs → rowNumbers (take n (rowsFrom xs)) ≡ take (n * 3) xs
+numbers-head n xs k = ap rowNumbers (sym (rows-take n xs)) ∙ rows-numbers (take (n * 3) xs) n (length-take-le (n * 3) xs k)
+
+-- What was found, from what a reader came to.
+pub found-refused : {A : Type 0} {f : Format A} {s : List ℕ} {ok k : Bool} {at n : ℕ} {a : A} (z : A) → Reads f s ok at k a n → not k ≡ true
+    → Reads f s ok at false (valueOr z (cond ok (readAt f s at) (bad at))) n × (valueOr z (cond ok (readAt f s at) (bad at)) ≡ z)
+found-refused {A} {f} {s} {ok} {k} {at} {n} {a} z e h = go k h (e .reads)
+  where
+    go : (t : Bool) → not t ≡ true → cond ok (readAt f s at) (bad at) ≡ told t a n
+        → Reads f s ok at false (valueOr z (cond ok (readAt f s at) (bad at))) n × (valueOr z (cond ok (readAt f s at) (bad at)) ≡ z)
+    go true h e = absurd (true≢false (sym h))
+    go false h e = (record { reads = e }, ap (valueOr z) e)
+
+pub found-value : {A : Type 0} {f : Format A} {s : List ℕ} {ok k : Bool} {at n : ℕ} {a : A} (z : A) → Reads f s ok at k a n → not k ≡ false
+    → Reads f s ok at true (valueOr z (cond ok (readAt f s at) (bad at))) n × (valueOr z (cond ok (readAt f s at) (bad at)) ≡ a)
+found-value {A} {f} {s} {ok} {k} {at} {n} {a} z e h = go k h (e .reads)
+  where
+    go : (t : Bool) → not t ≡ false → cond ok (readAt f s at) (bad at) ≡ told t a n
+        → Reads f s ok at true (valueOr z (cond ok (readAt f s at) (bad at))) n × (valueOr z (cond ok (readAt f s at) (bad at)) ≡ a)
+    go true h e = let v : valueOr z (cond ok (readAt f s at) (bad at)) ≡ a = ap (valueOr z) e in (record { reads = e ∙ ap (λ (x : A). got x n) (sym v) }, v)
+    go false h e = absurd (true≢false h)

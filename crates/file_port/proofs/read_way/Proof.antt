@@ -1,5 +1,9 @@
 -- `file_port::read_way` meets its contract.
 use borrow.Author.Needs.{needs}
+use mathlib.Core.Path.{_∙_}
+use Rattle.file_format.proofs.Told.{then-told, such-told, counted-told, fields-told}
+use Rattle.file_port.specs.PortFormat.{wayFormat}
+use Rattle.file_port.proofs.LabelLaws.{level-alone}
 use Rattle.file_port.proofs.read_way.Statement.{statement}
 use Rattle.file_port.proofs.read_way.Tie as tie
 
@@ -40,7 +44,13 @@ read-flags-requires : tie.Need-read-flags-requires
 read-flags-requires c κs = search needs
 
 returns : tie.Need-returns
-returns c = ?
+unfolding wayFormat
+returns c =
+    fields-told
+    (then-told (such-told (c .before .before .before .before .before .before .before .before .before .before .before .read-octet .ensures .0) (c .before .before .before .before .before .before .before .before .judge .ensures) (c .before .before .before .before .before .before .before .before .before .level-fits .ensures ∙ level-alone (c .before .before .before .before .before .before .before .before .before .before .before .before .before .args .on) (c .before .before .before .before .before .before .before .before .before .before .before .read-octet .result .value)))
+    (then-told (such-told (c .before .before .before .before .before .before .before .read-octet2 .ensures .0) (c .before .before .before .before .judge2 .ensures) (c .before .before .before .before .before .level-fits2 .ensures))
+    (counted-told (rw (c .before .before .before .most-flags .ensures .0) at (c .before .before .read-two .ensures .0)) (c .read-flags .ensures .0))))
+    (c .read-flags .ensures .1)
 
 pub read-way-spec : {M : Type 1} → statement M
 read-way-spec =

@@ -1,5 +1,9 @@
 -- `file_port::write_later` meets its contract.
 use borrow.Author.Needs.{needs}
+use Rattle.file_format.specs.Format.{octets}
+use Rattle.file_format.proofs.Writing.{room-wrote, writes-then}
+use Rattle.file_port.specs.LabelFormat.{labelFormat}
+use Rattle.file_port.specs.PortFormat.{givenFormat, wayFormat, spellingsFormat, laterFormat}
 use Rattle.file_port.proofs.write_later.Statement.{statement}
 use Rattle.file_port.proofs.write_later.Tie as tie
 
@@ -34,7 +38,13 @@ same-length : tie.Need-same-length
 same-length c = search needs
 
 returns : tie.Need-returns
-returns c = ?
+unfolding octets labelFormat givenFormat wayFormat spellingsFormat laterFormat
+returns c =
+    writes-then (room-wrote (rw (c .before .before .before .before .before .before .before .before .before .before .before .before .before .before .before .before .before .before .before .before .before .before .before .before .before .flag-of .ensures .0) at (c .before .before .before .before .before .before .before .before .before .before .before .before .before .before .before .before .before .before .before .before .before .before .before .before .write-octet .ensures)))
+    (writes-then (c .before .before .before .before .before .before .before .before .before .before .before .before .before .before .before .before .before .before .before .before .write-way .ensures)
+    (writes-then (c .before .before .before .before .before .before .before .before .before .before .before .before .before .before .before .before .write-way2 .ensures)
+    (writes-then (room-wrote (rw (c .before .before .before .before .before .before .before .before .before .before .before .before .sum-of .ensures) at (c .before .before .before .before .before .before .before .before .before .before .before .write-octet2 .ensures)))
+    (writes-then (room-wrote (rw (c .before .before .before .before .before .before .before .flag-of2 .ensures .0) at (c .before .before .before .before .before .before .write-octet3 .ensures))) (room-wrote (c .before .before .write-label .ensures))))))
 
 pub write-later-spec : {M : Type 1} → statement M
 write-later-spec =

@@ -1,5 +1,9 @@
 -- `file_port::write_port` meets its contract.
 use borrow.Author.Needs.{needs}
+use mathlib.Core.Path.{sym}
+use Rattle.file_format.specs.Format.{octets}
+use Rattle.file_format.proofs.Writing.{stops-short, goes-on, writes-then}
+use Rattle.file_port.specs.PortFormat.{secondPort, portFormat}
 use Rattle.file_port.proofs.write_port.Statement.{statement}
 use Rattle.file_port.proofs.write_port.Tie as tie
 
@@ -10,7 +14,8 @@ has-room-requires : tie.Need-has-room-requires
 has-room-requires c κs = search needs
 
 returns : tie.Need-returns
-returns c = ?
+returns c =
+    stops-short (c .before .has-room .result) (c .before .before .port-size .result) (c .before .has-room .ensures) (sym (c .before .before .port-size .ensures .0)) (c .if1 .taken)
 
 write-plain-requires : tie.Need-write-plain-requires
 write-plain-requires c κs = search needs
@@ -22,7 +27,10 @@ same-length : tie.Need-same-length
 same-length c = search needs
 
 returns-2 : tie.Need-returns-2
-returns-2 c = ?
+unfolding octets portFormat secondPort
+returns-2 c =
+    goes-on (c .before .before .before .before .before .before .before .before .before .has-room .result) (c .before .before .before .before .before .before .before .before .before .before .port-size .result) (c .before .before .before .before .before .before .before .before .before .has-room .ensures) (sym (c .before .before .before .before .before .before .before .before .before .before .port-size .ensures .0)) (c .before .before .before .before .before .before .before .before .if1 .left)
+    (writes-then (c .before .before .before .before .before .before .write-plain .ensures) (c .before .before .write-later .ensures))
 
 pub write-port-spec : {M : Type 1} → statement M
 write-port-spec =

@@ -1,7 +1,16 @@
 -- `file_port::write_way` meets its contract.
 use borrow.Author.Needs.{needs}
+use mathlib.Core.Bool.{true}
+use mathlib.Core.Path.{_≡_}
+use lib.ListN.{length}
+use Rattle.label.proofs.Steps.{length-mapped}
+use Rattle.file_format.proofs.Writing.{room-wrote, writes-then}
+use Rattle.file_port.proofs.LabelLaws.{way-octets}
 use Rattle.file_port.proofs.write_way.Statement.{statement}
 use Rattle.file_port.proofs.write_way.Tie as tie
+
+sized : (c : tie.Start) → length (c .args .way .flags) ≡ 256
+sized c = search (length-mapped, needs)
 
 count-used-requires : tie.Need-count-used-requires
 count-used-requires c κs = search needs
@@ -31,7 +40,12 @@ same-length : tie.Need-same-length
 same-length c = search needs
 
 returns : tie.Need-returns
-returns c = ?
+returns c =
+    let w = c .before .before .before .before .before .before .before .before .before .before .before .before .before .before .before .before .before .before .before .before .args .way in
+    rw (way-octets true w (c .before .before .before .before .before .before .before .before .before .before .before .before .before .before .before .before .before .before .count-used .result) (sized (c .before .before .before .before .before .before .before .before .before .before .before .before .before .before .before .before .before .before .before .before)) (c .before .before .before .before .before .before .before .before .before .before .before .before .before .before .before .before .before .before .count-used .ensures .0))
+    (writes-then (room-wrote (c .before .before .before .before .before .before .before .before .before .before .before .before .before .before .before .write-octet .ensures))
+    (writes-then (room-wrote (c .before .before .before .before .before .before .before .before .before .before .write-octet2 .ensures))
+    (writes-then (room-wrote (c .before .before .before .before .before .before .write-two .ensures)) (c .before .before .write-flags .ensures))))
 
 pub write-way-spec : {M : Type 1} → statement M
 write-way-spec =
