@@ -86,7 +86,7 @@ flat-length g k h (a ∷ as′) =
     let m : suc (length as′) * k ≡ length as′ * k + k = suc-mul (length as′) k in
     omega (arith, length-append (g a) (flat g as′), h a)
 
-flat-snoc : {A : Type 0} (g : A → List ℕ) (as′ : List A) (a : A) → flat g (as′ ++ (a ∷ [])) ≡ flat g as′ ++ g a
+pub flat-snoc : {A : Type 0} (g : A → List ℕ) (as′ : List A) (a : A) → flat g (as′ ++ (a ∷ [])) ≡ flat g as′ ++ g a
 flat-snoc g [] a = append-nil (g a)
 flat-snoc g (b ∷ as′) a = rw (flat-snoc g as′ a) (sym (append-assoc (g b) (flat g as′) (g a)))
 

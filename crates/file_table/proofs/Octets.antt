@@ -1,19 +1,19 @@
 -- The octets of a table, as its writer goes through them, and how many there are.
 use mathlib.Core.Bool.{Bool, true, false, cond}
 use mathlib.Core.List.{List, [], _∷_, _++_}
-use mathlib.Core.Path.{_≡_, refl, sym, ap, _∙_}
+use mathlib.Core.Path.{_≡_, refl, sym, ap, subst, _∙_}
 use Prim.Native.Nat.{ℕ, _+_, _*_, _/_, _≤_, _<_}
 use native.Mathlib.Omega.{arith}
 use lib.Dec.{leb}
-use lib.ListN.{length, take, length-append, length-take}
+use lib.ListN.{length, take, getD, length-append, length-take}
 use lib.Seq.{length-take-le, take-all}
 use borrow.Author.Tests.{leb-true, leb-false}
 use Rattle.table.specs.declared.Row.{Row}
-use Rattle.file_format.specs.Format.{digits, inTurn, octets}
+use Rattle.file_format.specs.Format.{digits, inTurn, octets, Wrote}
 use Rattle.file_format.specs.Laws.{flat}
 use Rattle.file_format.proofs.Places.{used-is}
-use Rattle.file_format.proofs.Writing.{flat-turn, flat-length}
-use Rattle.table.specs.Table.{rowsFrom}
+use Rattle.file_format.proofs.Writing.{flat-turn, flat-length, writes-turn}
+use Rattle.table.specs.Table.{noRow, rowsFrom}
 use Rattle.table.proofs.Lent.{rows-length}
 use Rattle.table_levels.specs.declared.LevelPair.{LevelPair}
 use Rattle.table.specs.declared.Renumbering.{Renumbering}
@@ -82,3 +82,8 @@ module _ (r : Renumbering) (rows : List ℕ) (n m : ℕ) (l : length (r .levels)
       let f : length (flat pairOctets (take n (r .levels))) ≡ length (take n (r .levels)) * 2 = flat-length pairOctets 2 (λ p. refl) (take n (r .levels)) in
       let g : length (flat rowOctets (take m (rowsFrom rows))) ≡ length (take m (rowsFrom rows)) * 6 = flat-length rowOctets 6 (λ p. refl) (take m (rowsFrom rows)) in
       rw table-octets (omega (arith, length-append (flat pairOctets (take n (r .levels))) (digits 2 m ++ flat rowOctets (take m (rowsFrom rows))), f, g, a, b))
+
+-- a turn of the loop that writes rows
+pub rows-turn : {at i n m : ℕ} {out out₁ out₂ : List ℕ} (xs : List Row) (x : Row) → x ≡ getD xs i noRow → i < length xs → Wrote at (flat rowOctets (take i xs)) out out₁ n
+    → Wrote n (rowOctets x) out₁ out₂ m → Wrote at (flat rowOctets (take (i + 1) xs)) out out₂ m
+rows-turn {at} {i} {n} {m} {out} {out₁} {out₂} xs x e h a b = writes-turn rowOctets noRow xs h a (subst (λ (z : Row). Wrote n (rowOctets z) out₁ out₂ m) e b)

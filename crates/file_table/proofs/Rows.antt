@@ -1,18 +1,24 @@
 -- Rows that were read alone, and what that says of reading them with all their rules.
 use mathlib.Core.Bool.{Bool, true, false, cond, not, _&&_, true≢false}
 use mathlib.Core.List.{List, [], _∷_, _++_, append-assoc}
-use mathlib.Core.Path.{_≡_, refl, sym, ap, _∙_}
+use mathlib.Core.Path.{_≡_, refl, sym, ap, subst, _∙_}
+use borrow.Author.Tests.{not-true}
 use mathlib.Core.Logic.{_⊎_, inl, inr}
 use Prim.Native.Nat.{ℕ, zero, suc, _+_, _-_, _*_, _/_, _≤_, _<_}
 use native.Mathlib.Omega.{arith}
 use lib.ListN.{length, take, set, length-append, length-set}
-use lib.Seq.{take-append-le, take-all, take-at, length-take-le}
+use lib.Seq.{take-append-le, take-all, take-at, take-take, length-take-le}
+use lib.Dec.{leb}
+use native.Mathlib.Numerals.{add-one}
+use Rattle.lists.specs.Lists.{paint}
+use Rattle.lists.proofs.Laws.{paint-none}
 use Rattle.label.proofs.Bools.{and-left, and-right, less-or}
 use Rattle.table.specs.declared.Row.{Row}
 use Rattle.table.specs.Table.{row, rowsFrom, rowNumbers, rising, apartFrom, targetsApart, targetEnd, rowListSound}
+use Rattle.table.specs.Renumbering.{noTable}
 use Rattle.table.proofs.Lent.{rows-length, rows-numbers, list-whole}
 use Rattle.table.proofs.Renumberings.{put-next}
-use Rattle.file_format.specs.Format.{Format, Found, got, bad, after, valueOr, told, numberAt, manyAt, readAt, many, Reads}
+use Rattle.file_format.specs.Format.{Format, Found, got, bad, after, valueOr, told, numberAt, manyAt, readAt, many, Reads, written, Writes}
 use Rattle.file_format.proofs.Numbers.{Within, number-within}
 use Rattle.file_format.proofs.Loops.{Passed, begins, turns, refuses, ends}
 use Rattle.file_format.proofs.Told.{many-refuses, many-reads, passed-same}
@@ -20,7 +26,7 @@ use Rattle.file_format.specs.Places.{Filled}
 use Rattle.table_levels.specs.declared.LevelPair.{LevelPair}
 use Rattle.table_levels.specs.Levels.{noPair}
 use Rattle.table.specs.declared.Renumbering.{Renumbering}
-use Rattle.file_table.specs.TableFormat.{floorOf, rowFormat, withRow, tableFields, headOf}
+use Rattle.file_table.specs.TableFormat.{floorOf, rowFormat, withRow, TableFields, tableFields, noFields, tableFormat, headOf, foundTable}
 use Rattle.file_table.specs.Stages.{rowAlone, RowsAlone}
 use Rattle.file_table.proofs.Apart.{apart-last, floor-last, rising-last}
 
@@ -187,21 +193,23 @@ seen-passed {s} {ok} {n} {at} h =
     }
 
 -- a table whose pairs were read into their places, and whose rows are counted
-pub head-again : {p q : ℕ} {levels : List LevelPair} {rows : List Row} (from to : ℕ) → Filled 256 noPair p levels → length rows ≡ q
+pub head-again : {p q : ℕ} {levels : List LevelPair} (from to : ℕ) (rows : List Row) → Filled 256 noPair p levels → length rows ≡ q
     → _≡_ {A = Renumbering} (headOf (tableFields from to (take p levels) rows)) (record { table = record { from = from; to = to; pairs = p; count = q }; levels = levels })
-head-again from to f g = λ i. record { table = record { from = from; to = to; pairs = f .size i; count = g i }; levels = f .places i }
+head-again from to rows f g = λ i. record { table = record { from = from; to = to; pairs = f .size i; count = g i }; levels = f .places i }
 
 -- Rows that lie in a list of numbers.
 
+three-taken : (n : ℕ) → ((zs : List ℕ) → rowsFrom (take (n * 3) zs) ≡ take n (rowsFrom zs)) → (ys : List ℕ) → rowsFrom (take (suc (suc (suc (n * 3)))) ys) ≡ take (suc n) (rowsFrom ys)
+three-taken n h [] = refl
+three-taken n h (a ∷ []) = refl
+three-taken n h (a ∷ b ∷ []) = refl
+three-taken n h (a ∷ b ∷ c ∷ ys) = ap (λ (z : List Row). row a b c ∷ z) (h ys)
+
 pub rows-take : (n : ℕ) (xs : List ℕ) → rowsFrom (take (n * 3) xs) ≡ take n (rowsFrom xs)
 rows-take zero xs = refl
-rows-take (suc n) xs = let e : suc n * 3 ≡ suc (suc (suc (n * 3))) = omega arith in ap (λ (k : ℕ). rowsFrom (take k xs)) e ∙ go xs
-  where
-    go : (ys : List ℕ) → rowsFrom (take (suc (suc (suc (n * 3)))) ys) ≡ take (suc n) (rowsFrom ys)
-    go [] = refl
-    go (a ∷ []) = refl
-    go (a ∷ b ∷ []) = refl
-    go (a ∷ b ∷ c ∷ ys) = ap (λ (z : List Row). row a b c ∷ z) (rows-take n ys)
+rows-take (suc n) xs =
+    let e : suc n * 3 ≡ suc (suc (suc (n * 3))) = omega arith in
+    ap (λ (k : ℕ). rowsFrom (take k xs)) e ∙ three-taken n (λ zs. rows-take n zs) xs
 
 rows-join : (xs : List ℕ) (n a b c : ℕ) → length xs ≡ n * 3 → rowsFrom (xs ++ (a ∷ b ∷ c ∷ [])) ≡ rowsFrom xs ++ (row a b c ∷ [])
 rows-join [] n a b c h = refl
@@ -267,3 +275,52 @@ found-value {A} {f} {s} {ok} {k} {at} {n} {a} z e h = go k h (e .reads)
         → Reads f s ok at true (valueOr z (cond ok (readAt f s at) (bad at))) n × (valueOr z (cond ok (readAt f s at) (bad at)) ≡ a)
     go true h e = let v : valueOr z (cond ok (readAt f s at) (bad at)) ≡ a = ap (valueOr z) e in (record { reads = e ∙ ap (λ (x : A). got x n) (sym v) }, v)
     go false h e = absurd (true≢false h)
+
+-- what the loop over rows answers
+pub rows-answer : {s : List ℕ} {ok k : Bool} {at count m n′ : ℕ} (b : Bool) (at₁ c : ℕ) (xs done : List Row) → k ≡ b → m ≡ at₁ → n′ ≡ c → c ≤ count → take c xs ≡ done
+    → RowsAlone s ok at count b done at₁ → RowsAlone s ok at count k (take n′ xs) m × (n′ ≤ count)
+rows-answer b at₁ c xs done e1 e2 e3 h t r = rw (e1, e2, e3, t) (r, h)
+
+pub seen-none : {s : List ℕ} {ok : Bool} {n at : ℕ} → not ok ≡ true → RowsAlone s ok at n false [] at
+seen-none {s} {ok} {n} {at} h = subst (λ (b : Bool). RowsAlone s ok at n b [] at) (not-true ok h) (seen-passed h)
+
+-- where targets meet, the first row that meets one before it is blamed
+pub meets-answer : {s : List ℕ} {ok k k′ : Bool} {at count m m′ n′ : ℕ} (c j : ℕ) (xs : List Row) → RowsAlone s ok at count k (take c xs) m → c ≤ count → length (take c xs) ≡ c → j < c
+    → targetsApart (take j xs) ≡ true → targetsApart (take (j + 1) xs) ≡ false → k′ ≡ false → m′ ≡ at + j * 6 + 4 → n′ ≡ c
+    → Reads (many rowFormat withRow count []) s ok at k′ (take n′ xs) m′ × (n′ ≤ count)
+meets-answer c j xs r h l b t0 t1 ek em en =
+    let a : take j (take c xs) ≡ take j xs = take-take j c xs (omega arith) in
+    let d : take (suc j) (take c xs) ≡ take (suc j) xs = take-take (suc j) c xs (omega arith) in
+    rw (ek, em, en) (r .meets j (omega (arith, l)) (rw a t0) (rw d (rw (add-one j) at t1)), h)
+
+none-written : (at : ℕ) (out : List ℕ) → out ≡ written at [] out
+none-written at out = go (leb (at + 0) (length out))
+  where
+    go : (b : Bool) → out ≡ cond b (paint at [] out) out
+    go true = sym (paint-none at out)
+    go false = refl
+
+module _ (version : ℕ) {s : List ℕ} {ok k : Bool} {at n : ℕ} (rows : List ℕ) (place : ℕ) where
+  -- a table that was refused, and one that was read
+  pub table-refused : {t : TableFields} {r : Renumbering} → Reads (tableFormat version) s ok at k t n → not k ≡ true → r ≡ noTable
+      → Reads (tableFormat version) s ok at false (foundTable version s ok at) n × (r ≡ headOf (foundTable version s ok at)) × (rows ≡ written place (rowNumbers (foundTable version s ok at .rows)) rows)
+      × (length (foundTable version s ok at .rows) ≤ 1024)
+  table-refused {t} {r} b h e =
+      let f = found-refused noFields b h in
+      let v : foundTable version s ok at ≡ noFields = f .1 in
+      (f .0, e ∙ ap headOf (sym v), rw v (none-written place rows), rw v (omega arith))
+
+  pub table-read : {from to p q nxt : ℕ} {levels : List LevelPair} {rows′ : List ℕ} (kept : List ℕ) → Reads (tableFormat version) s ok at k (tableFields from to (take p levels) (take q (rowsFrom kept))) n → not k ≡ false
+      → Filled 256 noPair p levels → q ≤ 1024 → q * 3 ≤ length kept → Writes place (take (q * 3) kept) rows rows′ nxt
+      → Reads (tableFormat version) s ok at true (foundTable version s ok at) n × (_≡_ {A = Renumbering} (record { table = record { from = from; to = to; pairs = p; count = q }; levels = levels }) (headOf (foundTable version s ok at)))
+      × (rows′ ≡ written place (rowNumbers (foundTable version s ok at .rows)) rows) × (length (foundTable version s ok at .rows) ≤ 1024)
+  table-read {from} {to} {p} {q} {nxt} {levels} {rows′} kept b h fl few l w =
+      let f = found-value noFields b h in
+      let v : foundTable version s ok at ≡ tableFields from to (take p levels) (take q (rowsFrom kept)) = f .1 in
+      let c : length (take q (rowsFrom kept)) ≡ q = rows-there q kept l in
+      (
+        f .0,
+        sym (head-again from to (take q (rowsFrom kept)) fl c) ∙ ap headOf (sym v),
+        w .buffer ∙ ap (λ (z : List ℕ). written place z rows) (sym (numbers-head q kept l)) ∙ ap (λ (t : TableFields). written place (rowNumbers (t .rows)) rows) (sym v),
+        rw v (omega (arith, c)),
+      )

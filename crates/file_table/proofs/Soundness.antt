@@ -242,8 +242,8 @@ module _ (version : ℕ) (x : LentTable) (ty : typedPairs (x .item) ≡ true) (e
       let numbers : levelNumbers (map two (take (x .item .table .pairs) (x .item .levels))) ≡ true = rw (map-take (x .item .table .pairs) (x .item .levels)) at (p .level-numbers) in
       let a = pairs-each 0 0 (take (x .item .table .pairs) (x .item .levels)) rise numbers (two-take (x .item .table .pairs) (x .item .levels) twos) in
       let ri : rising 0 (take 1024 (rowsFrom (x .rows))) ≡ true = rw all-rows (r .rise) in
-      let ap : targetsApart (take 1024 (rowsFrom (x .rows))) ≡ true = rw all-rows (r .apart) in
-      let b = rows-each [] (take 1024 (rowsFrom (x .rows))) ri ap in
+      let ra : targetsApart (take 1024 (rowsFrom (x .rows))) ≡ true = rw all-rows (r .apart) in
+      let b = rows-each [] (take 1024 (rowsFrom (x .rows))) ri ra in
       let f : 1 ≤ x .item .table .from = some (x .item .table .from) (p .from) in
       let g : 1 ≤ x .item .table .to = some (x .item .table .to) (p .to) in
       let ff : x .item .table .from ≤ 4294967295 = from-fits (lentOf x) (levelsOf (x .item)) e in
@@ -252,12 +252,15 @@ module _ (version : ℕ) (x : LentTable) (ty : typedPairs (x .item) ≡ true) (e
       record {
         format =
             (
-              (f, ff, omega (arith, ff)),
               (
-                (g, p .to-fits, omega (arith, p .to-fits)),
-                ((a, np, omega (arith, np, pairs-most version)), (b, nr, omega (arith, nr, rows-most version))),
+                (f, ff, omega (arith, ff)),
+                (
+                  (g, p .to-fits, omega (arith, p .to-fits)),
+                  ((a, np, omega (arith, np, pairs-most version)), (b, nr, omega (arith, nr, rows-most version))),
+                ),
               ),
-            ), refl;
+              refl,
+            );
         again =
             λ i. record {
               item = record { table = record { from = x .item .table .from; to = x .item .table .to; pairs = pairs-there i; count = rows-length i }; levels = levels-again i };

@@ -241,18 +241,18 @@ fn read_rows(octets: &[u8], ok: bool, at: usize, count: usize, rows: &mut [u16])
     requires { ⌜ (count ≤ 1024) × (count * 3 ≤ length (now rows)) ⌝ }
     ensures { λ r. ⌜ (Reads (many rowFormat withRow count []) (now (octets .entry)) ok at (r .ok) (take (r .count) (rowsFrom (now (rows .exit)))) (r .at)) × (r .count ≤ count) ⌝ }
 {
-    let read = read_each_row(octets, ok, at, count, &mut rows[..]);
-    if targets_apart(&rows[..], read.count) {
+    let read = read_each_row(octets, ok, at, count, rows);
+    if targets_apart(rows, read.count) {
         return read;
     }
-    let place = at + first_meeting(&rows[..], read.count) * 6 + 4;
+    let place = at + first_meeting(rows, read.count) * 6 + 4;
     to_rows(false, place, read.count)
 }
 
 // Reads a table with its level pairs in a file of this version. Its rows are written into the lent list from a place on, where there is room for all of them. A refused table is
 // all zero, and writes nothing.
 pub fn read_table(octets: &[u8], ok: bool, at: usize, version: u8, rows: &mut [u16], from: usize) -> TableRead
-    ensures { λ r. ⌜ (Reads (tableFormat version) (now (octets .entry)) ok at (r .ok) (foundTable version (now (octets .entry)) ok at) (r .at)) × (r .renumbering ≡ headOf (foundTable version (now (octets .entry)) ok at)) × (now (rows .exit) ≡ written from (rowNumbers (foundTable version (now (octets .entry)) ok at .rows)) (now (rows .entry))) ⌝ }
+    ensures { λ r. ⌜ (Reads (tableFormat version) (now (octets .entry)) ok at (r .ok) (foundTable version (now (octets .entry)) ok at) (r .at)) × (r .renumbering ≡ headOf (foundTable version (now (octets .entry)) ok at)) × (now (rows .exit) ≡ written from (rowNumbers (foundTable version (now (octets .entry)) ok at .rows)) (now (rows .entry))) × (length (foundTable version (now (octets .entry)) ok at .rows) ≤ 1024) ⌝ }
 {
     let mut kept = [0u16; MAX_NUMBERS];
     let source = read_four(octets, ok, at, 1, 4294967295);
@@ -268,7 +268,7 @@ pub fn read_table(octets: &[u8], ok: bool, at: usize, version: u8, rows: &mut [u
             renumbering: empty_table(),
         };
     }
-    write_numbers(&kept[..read.count * 3], &mut rows[..], from);
+    write_numbers(&kept[..read.count * 3], rows, from);
     let two = levels.levels;
     TableRead {
         ok: true,
