@@ -10,7 +10,7 @@ ghost use Rattle.export_batch.specs.Batch.{between, setRead, rowsRead, g
 use decision::Decision;
 use decision::Facts;
 use file_read::read_file;
-use file_set::FILE_PORTS;
+use file_set::MAX_PORTS;
 use forward::forward;
 use port::Port;
 use route_ports::no_port;
@@ -50,7 +50,7 @@ pub extern "C" fn inglebreek_forward_batch(
         items: kept,
     };
     let n = count_slots(input.len(), output.len());
-    if (arriving < FILE_PORTS) & (leaving < FILE_PORTS) {
+    if (arriving < MAX_PORTS) & (leaving < MAX_PORTS) {
         let from = set.ports[arriving];
         let to = set.ports[leaving];
         forward_between(from, to, tables, &rows[..used], n, input, output);

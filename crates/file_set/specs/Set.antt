@@ -1,34 +1,27 @@
--- docs/FILE.md: the set of records that a file says, and when it is sound: its counts keep to 16 and 8, each record in use is sound as document 01 says, the tables with the rows
--- that are lent beside the set, every other place is all zero.
-use mathlib.Core.Bool.{Bool, false, not, _&&_}
+-- docs/FILE.md: the set of records that a file says, and when it is sound: its counts keep to 16 and 8, each record in use is sound as document 01 says, with the rows that are lent for
+-- it, every other place is all zero, and no number is left over behind the rows of the last table.
+use mathlib.Core.Bool.{Bool, not, _&&_}
 use mathlib.Core.List.{List}
 use Prim.Native.Nat.{ℕ}
 use lib.Dec.{leb, eqb}
 use lib.ListN.{length, replicate}
-use Rattle.label.specs.Label.{zeroLabel, isZero}
-use Rattle.option.specs.declared.Spellings.{Spellings}
+use Rattle.label.specs.Label.{isZero}
 use Rattle.option.specs.Permitted.{someOf}
-use Rattle.basic.specs.Settings.{basicOff, isOff}
+use Rattle.basic.specs.Settings.{isOff}
 use Rattle.port.specs.declared.Port.{Port}
 use Rattle.port.specs.Port.{portSound}
+use Rattle.table_levels.specs.Levels.{unusedPairs}
 use Rattle.table.specs.declared.Table.{Table}
 use Rattle.table.specs.declared.Renumbering.{Renumbering}
 use Rattle.table.specs.Renumbering.{noTable, levelsOf, typedPairs}
-use Rattle.table_levels.specs.Levels.{unusedPairs}
 use Rattle.table_choose.specs.declared.Tables.{Tables}
 use Rattle.table_choose.specs.Tables.{tablesSound}
 use Rattle.file_format.specs.Places.{placesFit}
+use Rattle.file_port.specs.PortFormat.{noPort}
 use Rattle.file_port.specs.Theorems.{typedPort}
 use Rattle.file_set.specs.declared.Set.{Set}
 
--- the records whose every number is 0, and the set of none; such a port permits no spelling
-abbrev pub noSpelling : Spellings
-noSpelling = record { shortest = false; ten = false; numbers = false; pairs = false }
-
-abbrev pub noPort : Port
-noPort =
-    record { domain = 0; lowest = zeroLabel; highest = zeroLabel; required = false; assigned = zeroLabel; basic = basicOff; spellings = noSpelling; unlabelled = false; default = zeroLabel }
-
+-- the set of no records
 abbrev pub emptySet : Set
 emptySet = record { portcount = 0; ports = replicate 16 noPort; tablecount = 0; tables = replicate 8 noTable }
 
@@ -41,7 +34,7 @@ zeroPort p =
 unfoldable pub zeroTable : Table → List (List ℕ) → Bool
 zeroTable t ls = (((eqb (t .from) 0 && eqb (t .to) 0) && eqb (t .pairs) 0) && eqb (t .count) 0) && unusedPairs ls
 
--- what suits a place that is used, and one that is not
+-- what suits a place that is used, and one that is not; what makes the tables in use sound is said of all of them with their rows
 unfoldable pub usedPort : Port → Bool
 usedPort p = portSound p && typedPort p
 
@@ -59,9 +52,9 @@ typedSet s = eqb (length (s .ports)) 16 && eqb (length (s .tables)) 8
 abbrev pub tablesIn : Set → Tables
 tablesIn s = record { count = s .tablecount; items = s .tables }
 
--- with the numbers of the rows, table after table; none may be left over
 unfoldable pub setSound : Set → List ℕ → Bool
-setSound s ns =
-    (((leb (s .portcount) 16 && placesFit usedPort unusedPort (s .portcount) (s .ports)) && tablesSound (tablesIn s) ns)
+setSound s rows =
+    (((leb (s .portcount) 16 && placesFit usedPort unusedPort (s .portcount) (s .ports))
     && placesFit typedPairs unusedTable (s .tablecount) (s .tables))
+    && tablesSound (tablesIn s) rows)
     && typedSet s

@@ -1,16 +1,16 @@
 // The set of records that a house file says: ports and tables, and what makes the set sound (docs/FILE.md).
 ghost use mathlib.Core.Path.{_≡_};
-ghost use mathlib.Core.Bool.{cond};
-ghost use lib.Dec.{eqb};
-ghost use lib.ListN.{length};
-ghost use Rattle.table.specs.Renumbering.{typedPairs};
-ghost use Rattle.file_port.specs.Theorems.{typedPort};
+ghost use mathlib.Core.Bool.{true, cond};
+ghost use Prim.Native.Nat.{_≤_};
+ghost use lib.Dec.{leb, eqb};
+ghost use lib.ListN.{length, take};
+ghost use Rattle.file_port.specs.Theorems.{typedWay, typedPort};
 ghost use Rattle.file_format.specs.Places.{placesFit};
-ghost use Rattle.file_set.specs.Set.{noPort, emptySet, zeroPort, zeroTable, usedPort, unusedPort, unusedTable, setSound};
-use basic::Basic;
+ghost use Rattle.table.specs.Renumbering.{typedPairs};
+ghost use Rattle.file_set.specs.Set.{emptySet, zeroPort, zeroTable, usedPort, unusedPort, unusedTable, setSound};
 use basic::Way;
+use file_port::empty_port;
 use label::Label;
-use option::Spellings;
 use port::Port;
 use port::port_sound;
 use table::Renumbering;
@@ -23,38 +23,15 @@ use table_choose::tables_sound;
 use table_levels::Levels;
 use table_levels::levels_sound;
 
-// The most ports of a file.
-pub const FILE_PORTS: usize = 16;
+// The most ports of a set.
+pub const MAX_PORTS: usize = 16;
 
-// The first `portcount` ports and the first `tablecount` tables are used. The rows of the tables are lent beside it, table after table.
+// The first `portcount` ports and the first `tablecount` tables are used. The tables' rows are lent beside it as one list of numbers, three to a row.
 pub struct Set {
     pub portcount: usize,
-    pub ports: [Port; FILE_PORTS],
+    pub ports: [Port; MAX_PORTS],
     pub tablecount: usize,
     pub tables: [Renumbering; MAX_TABLES],
-}
-
-// The port whose every number is 0.
-pub fn empty_port() -> Port
-    ensures { λ r. ⌜ r ≡ noPort ⌝ }
-{
-    let none = Label::empty(0, 0);
-    Port {
-        domain: 0,
-        lowest: none,
-        highest: none,
-        required: false,
-        assigned: none,
-        basic: Basic::off(),
-        spellings: Spellings {
-            shortest: false,
-            ten: false,
-            numbers: false,
-            pairs: false,
-        },
-        unlabelled: false,
-        default: none,
-    }
 }
 
 // The set of no records.
@@ -65,9 +42,9 @@ pub fn empty_set() -> Set
     let table = empty_table();
     Set {
         portcount: 0,
-        ports: [port; FILE_PORTS],
+        ports: [port; 16],
         tablecount: 0,
-        tables: [table; MAX_TABLES],
+        tables: [table; 8],
     }
 }
 
@@ -98,7 +75,7 @@ fn port_zero(port: Port) -> bool
         & unset
 }
 
-// A label has its 120 places, and a way its 256: their types say so.
+// A label has its 120 places, and a way its 256 of 16 bits: their types say so.
 fn label_typed(label: Label) -> bool
     ensures { λ r. ⌜ r ≡ eqb (length (label .runs)) 120 ⌝ }
 {
@@ -106,9 +83,22 @@ fn label_typed(label: Label) -> bool
 }
 
 fn way_typed(way: Way) -> bool
-    ensures { λ r. ⌜ r ≡ eqb (length (way .flags)) 256 ⌝ }
+    ensures { λ r. ⌜ r ≡ typedWay way ⌝ }
 {
+    let mut i: usize = 0;
+    while i < 256 {
+        if !is_small(way.flags[i]) {
+            return false;
+        }
+        i += 1;
+    }
     true
+}
+
+fn is_small(x: u16) -> bool
+    ensures { λ r. ⌜ r ≡ leb x 65535 ⌝ }
+{
+    x <= 65535
 }
 
 fn port_typed(port: Port) -> bool
@@ -151,7 +141,7 @@ fn table_zero(table: Table, levels: Levels) -> bool
     (table.from == 0) & (table.to == 0) & (table.pairs == 0) & (table.count == 0) & places
 }
 
-// Whether a table suits its place: all zero in one that is not used. That those in use are sound is asked of all together.
+// Whether a table suits its place, but for the soundness of one that is used.
 fn table_fits(renumbering: Renumbering, used: bool) -> bool
     ensures { λ r. ⌜ r ≡ cond used (typedPairs renumbering) (unusedTable renumbering) ⌝ }
 {
@@ -163,11 +153,11 @@ fn table_fits(renumbering: Renumbering, used: bool) -> bool
     table_zero(table, levels)
 }
 
-fn ports_fit(ports: [Port; FILE_PORTS], n: usize) -> bool
+fn ports_fit(ports: [Port; MAX_PORTS], n: usize) -> bool
     ensures { λ r. ⌜ r ≡ placesFit usedPort unusedPort n ports ⌝ }
 {
     let mut i: usize = 0;
-    while i < FILE_PORTS {
+    while i < 16 {
         let port = ports[i];
         if !port_fits(port, i < n) {
             return false;
@@ -181,7 +171,7 @@ fn tables_fit(tables: [Renumbering; MAX_TABLES], n: usize) -> bool
     ensures { λ r. ⌜ r ≡ placesFit typedPairs unusedTable n tables ⌝ }
 {
     let mut i: usize = 0;
-    while i < MAX_TABLES {
+    while i < 8 {
         let renumbering = tables[i];
         if !table_fits(renumbering, i < n) {
             return false;
@@ -191,18 +181,18 @@ fn tables_fit(tables: [Renumbering; MAX_TABLES], n: usize) -> bool
     true
 }
 
-// Whether the set is sound, with the rows of its tables.
+// Whether the set is sound with the rows that are lent for it.
 pub fn set_sound(set: Set, rows: &[u16]) -> bool
     ensures { λ r. ⌜ r ≡ setSound set (now (rows .entry)) ⌝ }
 {
     let held = set.ports;
     let kept = set.tables;
     let ports = ports_fit(held, set.portcount);
-    let unused = tables_fit(kept, set.tablecount);
-    let used = Tables {
+    let places = tables_fit(kept, set.tablecount);
+    let all = Tables {
         count: set.tablecount,
         items: kept,
     };
-    let tables = tables_sound(used, rows);
-    (set.portcount <= FILE_PORTS) & ports & tables & unused
+    let tables = tables_sound(all, rows);
+    (set.portcount <= 16) & ports & places & tables
 }

@@ -30,11 +30,7 @@ tables-sound-requires c κs = search needs
 
 returns : tie.Need-returns
 unfolding setSound
-returns c =
-    let t = c .before in
-    let u = t .before in
-    let p = u .before in
-    rw (p .ports-fit .ensures, u .tables-fit .ensures, t .tables-sound .ensures, all-typed (p .before .before .before .before)) (sym (and-true _))
+returns c = rw (c .before .before .before .ports-fit .ensures, c .before .before .tables-fit .ensures, c .before .tables-sound .ensures, all-typed (c .before .before .before .before .before .before .before)) (sym (and-true _))
 
 pub set-sound-spec : {M : Type 1} → statement M
 set-sound-spec = tie.close (tie.spec ports-fit-requires tables-fit-requires tables-sound-requires returns)

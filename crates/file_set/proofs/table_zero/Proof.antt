@@ -2,7 +2,7 @@
 use borrow.Author.Needs.{needs}
 use mathlib.Core.Path.{_≡_, refl}
 use Rattle.file_set.specs.Set.{zeroTable}
-use Rattle.file_set.proofs.Sets.{places-zero}
+use Rattle.file_set.proofs.Sets.{pairs-zero}
 use Rattle.file_set.proofs.table_zero.Statement.{statement}
 use Rattle.file_set.proofs.table_zero.Tie as tie
 
@@ -11,9 +11,7 @@ levels-sound-requires c κs = search needs
 
 returns : tie.Need-returns
 unfolding zeroTable
-returns c =
-    let s = c .before .before .before .before in
-    rw (s .levels-sound .ensures, places-zero (s .before .args .levels)) refl
+returns c = rw (c .before .before .before .before .levels-sound .ensures, pairs-zero (c .before .before .before .before .before .args .levels)) refl
 
 pub table-zero-spec : {M : Type 1} → statement M
 table-zero-spec = tie.close (tie.spec levels-sound-requires returns)

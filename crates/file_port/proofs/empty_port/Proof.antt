@@ -1,8 +1,8 @@
--- `file_set::empty_port` meets its contract.
+-- `file_port::empty_port` meets its contract.
 use borrow.Author.Needs.{needs}
 use mathlib.Core.Path.{refl}
-use Rattle.file_set.proofs.empty_port.Statement.{statement}
-use Rattle.file_set.proofs.empty_port.Tie as tie
+use Rattle.file_port.proofs.empty_port.Statement.{statement}
+use Rattle.file_port.proofs.empty_port.Tie as tie
 
 empty-requires : tie.Need-empty-requires
 empty-requires c κs = search needs
