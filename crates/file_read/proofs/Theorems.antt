@@ -184,3 +184,58 @@ given-back version least most s rows room e q h =
           (λ i. record { verdict = 0; at = 0; used = length (y .numbers i); set = y .set i });
       room-after = rw (l, b, l, zero-add, eq-eqb (totalOf version s rows) (totalOf version s rows) refl) (ap (λ (z : List ℕ). written 0 z room) (y .numbers));
     }
+
+pub room-kept : RoomKept
+unfolding fileReading fileAnswer fileRoom roomAfter
+room-kept o room n = go (readAt (fileFormat (length o)) o 0) n
+  where
+    held : (xs : List ℕ) (r : Records) → rowsOf (r .1) ≡ xs → (b : Bool) → leb (length xs) (length room) ≡ b → (cond b (accepted r) outgrown .verdict ≡ 0 → ⊥) → written 0 xs room ≡ room
+    held xs r e true t m = absurd (m refl)
+    held xs r e false t m = let l : length room < length xs = leb-false _ _ t in rw (lt-leb (0 + length xs) (length room) (omega arith))
+
+    ended : (v : (ℕ × ℕ) × Records) (k : ℕ) (b : Bool) → eqb k (length o) ≡ b → (cond b (cond (leb (length (rowsOf (v .1 .1))) (length room)) (accepted (v .1)) outgrown) (fileRefused k) .verdict ≡ 0 → ⊥)
+        → cond b (written 0 (rowsOf (v .1 .1)) room) room ≡ room
+    ended v k true t m = held (rowsOf (v .1 .1)) (v .1) refl (leb (length (rowsOf (v .1 .1))) (length room)) refl m
+    ended v k false t m = refl
+
+    go : (x : Found ((ℕ × ℕ) × Records)) → (fileAnswer (length o) (length room) x .verdict ≡ 0 → ⊥) → roomAfter (length o) x room ≡ room
+    go (got v k) m = ended v k (eqb k (length o)) refl m
+    go (bad k) m = refl
+
+pub length-first : LengthFirst
+unfolding fileReading fileAnswer fileFormat readAt
+length-first o room n = go (less-or (length o) 2)
+  where
+    known : numberAt 2 (length o) (length o) o 0 ≡ bad 0 → fileReading o room ≡ fileRefused 0
+    known e = rw e
+
+    whole : 2 ≤ length o → (valueAt o 0 2 < length o) ⊎ (length o ≤ valueAt o 0 2) → fileReading o room ≡ fileRefused 0
+    whole h (inl l) = known (number-under o 0 2 (length o) (length o) h l)
+    whole h (inr l) = known (number-over o 0 2 (length o) (length o) h l (above (length o) (valueAt o 0 2) l n))
+      where
+        above : (a b : ℕ) → a ≤ b → (b ≡ a → ⊥) → a < b
+        above a b l n = split (less-or a b)
+          where
+            split : (a < b) ⊎ (b ≤ a) → a < b
+            split (inl k) = k
+            split (inr k) = absurd (n (omega arith))
+
+    go : (length o < 2) ⊎ (2 ≤ length o) → fileReading o room ≡ fileRefused 0
+    go (inl h) = known (number-cut o 0 2 (length o) (length o) h)
+    go (inr h) = whole h (less-or (valueAt o 0 2) (length o))
+
+pub named : Named
+unfolding fileReading fileAnswer fileFormat readAt
+named o room e h n m = go (getD o 2 0) refl
+  where
+    first : numberAt 2 (length o) (length o) o 0 ≡ got (valueAt o 0 2) 2
+    first = number-good o 0 2 (length o) (length o) (omega arith) (omega arith) (omega arith)
+
+    known : numberAt 1 1 2 o 2 ≡ bad 2 → fileReading o room ≡ unknown
+    known q = rw (first, q, lt-ltb 2 (length o) h)
+
+    go : (v : ℕ) → getD o 2 0 ≡ v → fileReading o room ≡ unknown
+    go zero q = known (number-under o 2 1 1 2 (omega arith) (omega (arith, q)))
+    go (suc zero) q = absurd (n q)
+    go (suc (suc zero)) q = absurd (m q)
+    go (suc (suc (suc v))) q = known (number-over o 2 1 1 2 (omega arith) (omega (arith, q)) (omega (arith, q)))
