@@ -5,18 +5,16 @@ use mathlib.Core.Option.{Option, some}
 use mathlib.Core.Path.{_≡_, refl, ap, _∙_}
 use Prim.Native.Nat.{ℕ, zero, suc}
 use native.Mathlib.Omega.{arith}
-use lib.Dec.{leb, ltb, eqb}
-use lib.ListN.{length, getD, drop, replicate}
+use lib.Dec.{ltb}
+use lib.ListN.{getD, drop, replicate}
 use Rattle.label.specs.declared.Label.{Label}
 use Rattle.port.specs.declared.Port.{Port}
 use Rattle.port.specs.Port.{portSound}
 use Rattle.table.specs.Table.{tableSound}
 use Rattle.file_set.specs.declared.Set.{Set}
-use Rattle.file_format.specs.Format.{Found, got, bad, readAt}
 use Rattle.file_port.specs.PortFormat.{noPort}
-use Rattle.file_set.specs.Set.{emptySet, tablesIn}
-use Rattle.file_read.specs.SetFormat.{Records, rowsOf}
-use Rattle.file_read.specs.File.{fileFormat, fileReading, fileAnswer, accepted, fileRefused, unknown, outgrown}
+use Rattle.file_set.specs.Set.{tablesIn}
+use Rattle.file_read.proofs.Answers.{not-accepted}
 use Rattle.route_ports.specs.Ports.{unlistedPort, portAt}
 use Rattle.decision.specs.Decision.{Refusal, silenced, decided}
 use Rattle.area.specs.Area.{badArea}
@@ -32,24 +30,6 @@ all-alike : {A : Type 0} (n i : ℕ) (d e : A) → (P : A → Type 0) → P d �
 all-alike zero i d e P p q = q
 all-alike (suc n) zero d e P p q = p
 all-alike (suc n) (suc i) d e P p q = all-alike n i d e P p q
-
-none-read : (total room : ℕ) (f : Found ((ℕ × ℕ) × Records)) → (fileAnswer total room f .verdict ≡ 0 → ⊥) → fileAnswer total room f .set ≡ emptySet
-unfolding fileAnswer
-none-read total room (got v n) h = go (eqb n total) (leb (length (rowsOf (v .1 .1))) room) h
-  where
-    go : (t u : Bool) → (cond t (cond u (accepted (v .1)) outgrown) (fileRefused n) .verdict ≡ 0 → ⊥) → cond t (cond u (accepted (v .1)) outgrown) (fileRefused n) .set ≡ emptySet
-    go true true h = absurd (h refl)
-    go true false h = refl
-    go false u h = refl
-none-read total room (bad n) h = go (eqb n 2 && ltb 2 total)
-  where
-    go : (t : Bool) → cond t unknown (fileRefused n) .set ≡ emptySet
-    go true = refl
-    go false = refl
-
-not-accepted : (o : List ℕ) (room : ℕ) → (fileReading o room .verdict ≡ 0 → ⊥) → fileReading o room .set ≡ emptySet
-unfolding fileReading
-not-accepted o room h = none-read (length o) room (readAt (fileFormat (length o)) o 0) h
 
 unsound : portSound noPort ≡ false
 unfolding portSound

@@ -2,14 +2,17 @@
 use borrow.Author.Needs.{needs}
 use borrow.Author.Tests.{ltb-true}
 use native.Mathlib.Omega.{arith}
-use mathlib.Core.Path.{_≡_, sym}
+use mathlib.Core.Path.{_≡_, sym, ap}
 use mathlib.Core.Bool.{true, _&&_}
-use Prim.Native.Nat.{_<_}
+use Prim.Native.Nat.{ℕ, _<_, _≤_}
 use lib.Dec.{ltb}
-use lib.ListN.{length}
+use lib.ListN.{length, replicate}
 use lib.Seq.{length-take-le}
 use Rattle.label.proofs.Bools.{and-left, and-right}
 use Rattle.label.proofs.Steps.{length-mapped}
+use Rattle.file_read.specs.declared.FileRead.{FileRead}
+use Rattle.file_read.specs.File.{fileReading}
+use Rattle.file_read.proofs.Answers.{used-fits}
 use Rattle.route_ports.specs.Ports.{unlistedPort, portAt}
 use Rattle.export_batch.proofs.Slots.{inside, both-there, none-there, batch-is}
 use Rattle.export_batch.proofs.inglebreek_forward_batch.Statement.{statement}
@@ -27,6 +30,15 @@ to-there c = ltb-true _ _ (and-right (ltb (start c .args .arriving) 16) (ltb (st
 
 sized : (c : tie.After-read-file) → length (c .read-file .result .set .ports) ≡ 16
 sized c = search (length-mapped, needs)
+
+-- what is lent of the room lies in it
+fits : (r : tie.After-read-file) → r .read-file .result .used ≤ length (r .read-file .last .1 .0)
+fits r =
+    let o = r .before .before .before .before .before .args .file .now in
+    let e : r .read-file .result .used ≡ fileReading o (length (replicate {A = ℕ} 24576 0)) .used = ap (λ (x : FileRead). x .used) (r .read-file .ensures .0) in
+    let u : fileReading o (length (replicate {A = ℕ} 24576 0)) .used ≤ length (replicate {A = ℕ} 24576 0) = used-fits o (length (replicate {A = ℕ} 24576 0)) in
+    let l : length (r .read-file .last .1 .0) ≡ length (replicate {A = ℕ} 24576 0) = search needs in
+    omega (arith, e, u, l)
 
 slice-aggregate-read-file : tie.Need-slice-aggregate-read-file
 slice-aggregate-read-file c = search needs
@@ -50,7 +62,7 @@ element-copy-out-to : tie.Need-element-copy-out-to
 element-copy-out-to c = to-there (c .before)
 
 array-share-prefix-rows : tie.Need-array-share-prefix-rows
-array-share-prefix-rows c = search needs
+array-share-prefix-rows c = fits (c .before .before .before .before .before .before .before)
 
 slice-aggregate-forward-between : tie.Need-slice-aggregate-forward-between
 slice-aggregate-forward-between c = sym (length-take-le _ _ (array-share-prefix-rows (c .before)))
@@ -83,7 +95,7 @@ no-port-requires : tie.Need-no-port-requires
 no-port-requires c κs = search needs
 
 array-share-prefix-rows-2 : tie.Need-array-share-prefix-rows-2
-array-share-prefix-rows-2 c = search needs
+array-share-prefix-rows-2 c = fits (c .before .before .before .before .before .before)
 
 slice-aggregate-forward-between-2 : tie.Need-slice-aggregate-forward-between-2
 slice-aggregate-forward-between-2 c = sym (length-take-le _ _ (array-share-prefix-rows-2 (c .before)))
