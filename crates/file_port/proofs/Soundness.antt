@@ -430,18 +430,18 @@ first-said version p h =
     record {
       sound =
           port-both p (h .0) (later (λ q. basicSound (q .basic) ≡ true) plain-basic p h) (later (λ q. someOf (q .spellings) ≡ true) (λ d lo hi r a. refl) p h)
-              (later (λ q. defaultSound q ≡ true) plain-default p h);
+          (later (λ q. defaultSound q ≡ true) plain-default p h);
       sayable = or-right (leb 2 version) (isPlain p) (later (λ q. isPlain q ≡ true) plain-plain p h);
       typed =
           typed-port p
-              (record {
-                lowest = k .0;
-                highest = k .1;
-                assigned = k .2;
-                receiving = later (λ q. typedWay (q .basic .receiving) ≡ true) plain-receiving p h;
-                sending = later (λ q. typedWay (q .basic .sending) ≡ true) plain-sending p h;
-                default = later (λ q. length (q .default .runs) ≡ 120) (λ d lo hi r a. refl) p h;
-              });
+          (record {
+            lowest = k .0;
+            highest = k .1;
+            assigned = k .2;
+            receiving = later (λ q. typedWay (q .basic .receiving) ≡ true) plain-receiving p h;
+            sending = later (λ q. typedWay (q .basic .sending) ≡ true) plain-sending p h;
+            default = later (λ q. length (q .default .runs) ≡ 120) (λ d lo hi r a. refl) p h;
+          });
     }
 
 -- Version 2.
@@ -461,7 +461,7 @@ second-said version p v h =
     record {
       sound =
           port-both p (h .0 .0) (way-basic (p .basic .on) (p .basic .receiving) (p .basic .sending) (a .0) (b .0)) (l .1 .1 .1 .0 .1)
-              (default-none (p .unlabelled) (p .lowest) (p .highest) (p .default) ∙ g .0);
+          (default-none (p .unlabelled) (p .lowest) (p .highest) (p .default) ∙ g .0);
       sayable = rw (le-leb 2 version v);
       typed = typed-port p (record { lowest = k .0; highest = k .1; assigned = k .2; receiving = a .1; sending = b .1; default = g .1 });
     }

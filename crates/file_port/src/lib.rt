@@ -224,12 +224,25 @@ fn given_fits(none: bool, lowest: Label, highest: Label, given: Label) -> bool
 }
 
 // A label that the port may be without.
-fn read_given(octets: &[u8], ok: bool, at: usize, none: bool, lowest: Label, highest: Label, domain: u32) -> LabelRead
+fn read_given(
+    octets: &[u8],
+    ok: bool,
+    at: usize,
+    none: bool,
+    lowest: Label,
+    highest: Label,
+    domain: u32,
+) -> LabelRead
     ensures { λ r. ⌜ Reads (givenFormat none domain lowest highest) (now (octets .entry)) ok at (r .ok) (r .label) (r .at) ⌝ }
 {
     let read = read_label(octets, ok, at, given_domain(none, domain));
     let given = read.label;
-    let kept = judge(read.ok, read.at, at, given_fits(none, lowest, highest, given));
+    let kept = judge(
+        read.ok,
+        read.at,
+        at,
+        given_fits(none, lowest, highest, given),
+    );
     LabelRead {
         ok: kept.ok,
         at: kept.at,
@@ -383,7 +396,15 @@ fn read_later(octets: &[u8], ok: bool, at: usize, plain: Port) -> PortRead
     let unlabelled = faces.value == 1;
     let low = plain.lowest;
     let high = plain.highest;
-    let default = read_given(octets, faces.ok, faces.at, !unlabelled, low, high, plain.domain);
+    let default = read_given(
+        octets,
+        faces.ok,
+        faces.at,
+        !unlabelled,
+        low,
+        high,
+        plain.domain,
+    );
     let given = plain.assigned;
     let label = default.label;
     let arriving = receiving.way;

@@ -84,8 +84,7 @@ unfolding usedPort
 ports-each version zero ps e q = tt
 ports-each version (suc n) [] e q = tt
 ports-each version (suc n) (p ∷ ps) e q =
-    let u = and-left (usedPort p) _ e in
-    (
+    let u = and-left (usedPort p) _ e in (
       ports-said .says version p (and-right (portSound p) _ u) (and-left (portSound p) _ u) (and-left (portSayable version p) _ q),
       ports-each version n ps (and-right (usedPort p) _ e) (and-right (portSayable version p) _ q),
     )
@@ -245,11 +244,10 @@ set-says version s rows e q w =
     let ft : padded 8 noTable (take (s .tablecount) (s .tables)) ≡ s .tables =
     padded-again 8 (s .tablecount) noTable (s .tables) (p .table-places) (p .tables-held) (fits-unused typedPairs unusedTable noTable table-unused (s .tablecount) (s .tables) (p .tables)) in
     record {
-      format =
-          (
-            (ports-each version (s .portcount) (s .ports) (p .ports) q, omega (arith, np, p .ports-held), omega (arith, np, p .ports-held)),
-            (r .each, omega (arith, nf, p .tables-held), omega (arith, nf, p .tables-held)),
-          );
+      format = (
+        (ports-each version (s .portcount) (s .ports) (p .ports) q, omega (arith, np, p .ports-held), omega (arith, np, p .ports-held)),
+        (r .each, omega (arith, nf, p .tables-held), omega (arith, nf, p .tables-held)),
+      );
       set =
           λ i. record { portcount = np i; ports = fp i; tablecount = nf i; tables = (ap (padded 8 noTable) (r .heads) ∙ ft) i };
       numbers = r .numbers;

@@ -65,7 +65,7 @@ module _ {version : ℕ} {s : List ℕ} {count at₀ i at used : ℕ} {tables : 
         passed = turns (elements version s) same (k .passed) t m h e;
         held =
             subst (λ (z : List Renumbering). Held 8 noTable (i + 1) (set tables i r) z) (sym (map-snoc (k .done) t))
-                (rw q (held-more (headOf t) (k .held) (omega arith)));
+            (rw q (held-more (headOf t) (k .held) (omega arith)));
         numbers = u ∙ ap (λ (z : ℕ). z + length (rowNumbers (t .rows))) (k .numbers) ∙ sym (length-append (rowsOf (k .done)) (rowNumbers (t .rows))) ∙ ap length (sym o);
         bound = omega (arith, k .bound);
         rows = ap (λ (z : ℕ). take z work′) u ∙ ap (take (used + length (rowNumbers (t .rows)))) w ∙ written-behind used (rowsOf (k .done)) (rowNumbers (t .rows)) work (k .rows) (k .numbers) b ∙ sym o;

@@ -175,7 +175,7 @@ given-back version least most s rows room e q h =
     let o : List ℕ = octets (fileFormat (totalOf version s rows)) ((totalOf version s rows, version), recordsOf s rows) in
     let l : length (octets (fileFormat (totalOf version s rows)) ((totalOf version s rows, version), recordsOf s rows)) ≡ totalOf version s rows = any-length (totalOf version s rows) (totalOf version s rows) version (recordsOf s rows) in
     let b : readAt (fileFormat (totalOf version s rows)) (octets (fileFormat (totalOf version s rows)) ((totalOf version s rows, version), recordsOf s rows)) 0
-        ≡ got ((totalOf version s rows, version), recordsOf s rows) (0 + length (octets (fileFormat (totalOf version s rows)) ((totalOf version s rows, version), recordsOf s rows))) =
+    ≡ got ((totalOf version s rows, version), recordsOf s rows) (0 + length (octets (fileFormat (totalOf version s rows)) ((totalOf version s rows, version), recordsOf s rows))) =
     read-back (fileFormat (totalOf version s rows)) o 0 v (sound-file (totalOf version s rows) version (recordsOf s rows) least most f (y .format)) (stands-self o) in
     let n : length (rowsOf (recordsOf s rows .1)) ≤ length room = omega (arith, ap length (y .numbers)) in
     record {

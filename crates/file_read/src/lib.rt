@@ -102,7 +102,14 @@ fn read_ports(octets: &[u8], ok: bool, at: usize, version: u8) -> PortsRead
     read_each_port(octets, count.ok, count.at, count.value as usize, version)
 }
 
-fn read_each_table(octets: &[u8], ok: bool, at: usize, count: usize, version: u8, work: &mut [u16]) -> TablesRead
+fn read_each_table(
+    octets: &[u8],
+    ok: bool,
+    at: usize,
+    count: usize,
+    version: u8,
+    work: &mut [u16],
+) -> TablesRead
     requires { ⌜ (count ≤ 8) × (24576 ≤ length (now work)) ⌝ }
     ensures { λ r. ⌜ TablesTold (many (alike (tableFormat version)) same count 0) (now (octets .entry)) ok at (r .ok) (r .at) (r .count) (r .used) (r .tables) (now (work .exit)) ⌝ }
 {
@@ -141,7 +148,14 @@ fn read_tables(octets: &[u8], ok: bool, at: usize, version: u8, work: &mut [u16]
     ensures { λ r. ⌜ TablesTold (tablesFormat version) (now (octets .entry)) ok at (r .ok) (r .at) (r .count) (r .used) (r .tables) (now (work .exit)) ⌝ }
 {
     let count = read_octet(octets, ok, at, 0, 8);
-    read_each_table(octets, count.ok, count.at, count.value as usize, version, work)
+    read_each_table(
+        octets,
+        count.ok,
+        count.at,
+        count.value as usize,
+        version,
+        work,
+    )
 }
 
 // The most octets of a file of this version.

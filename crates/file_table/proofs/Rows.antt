@@ -317,8 +317,7 @@ module _ (version : ℕ) {s : List ℕ} {ok k : Bool} {at n : ℕ} (rows : List 
   table-read {from} {to} {p} {q} {nxt} {levels} {rows′} kept b h fl few l w =
       let f = found-value noFields b h in
       let v : foundTable version s ok at ≡ tableFields from to (take p levels) (take q (rowsFrom kept)) = f .1 in
-      let c : length (take q (rowsFrom kept)) ≡ q = rows-there q kept l in
-      (
+      let c : length (take q (rowsFrom kept)) ≡ q = rows-there q kept l in (
         f .0,
         sym (head-again from to (take q (rowsFrom kept)) fl c) ∙ ap headOf (sym v),
         w .buffer ∙ ap (λ (z : List ℕ). written place z rows) (sym (numbers-head q kept l)) ∙ ap (λ (t : TableFields). written place (rowNumbers (t .rows)) rows) (sym v),

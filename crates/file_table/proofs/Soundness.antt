@@ -250,17 +250,16 @@ module _ (version : ℕ) (x : LentTable) (ty : typedPairs (x .item) ≡ true) (e
       let np : length (take (x .item .table .pairs) (x .item .levels)) ≤ mostPairs version = omega (arith, pairs-there, few-pairs) in
       let nr : length (take 1024 (rowsFrom (x .rows))) ≤ mostRows version = omega (arith, rows-length, few-rows) in
       record {
-        format =
+        format = (
+          (
+            (f, ff, omega (arith, ff)),
             (
-              (
-                (f, ff, omega (arith, ff)),
-                (
-                  (g, p .to-fits, omega (arith, p .to-fits)),
-                  ((a, np, omega (arith, np, pairs-most version)), (b, nr, omega (arith, nr, rows-most version))),
-                ),
-              ),
-              refl,
-            );
+              (g, p .to-fits, omega (arith, p .to-fits)),
+              ((a, np, omega (arith, np, pairs-most version)), (b, nr, omega (arith, nr, rows-most version))),
+            ),
+          ),
+          refl,
+        );
         again =
             λ i. record {
               item = record { table = record { from = x .item .table .from; to = x .item .table .to; pairs = pairs-there i; count = rows-length i }; levels = levels-again i };

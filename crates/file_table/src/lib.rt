@@ -251,7 +251,14 @@ fn read_rows(octets: &[u8], ok: bool, at: usize, count: usize, rows: &mut [u16])
 
 // Reads a table with its level pairs in a file of this version. Its rows are written into the lent list from a place on, where there is room for all of them. A refused table is
 // all zero, and writes nothing.
-pub fn read_table(octets: &[u8], ok: bool, at: usize, version: u8, rows: &mut [u16], from: usize) -> TableRead
+pub fn read_table(
+    octets: &[u8],
+    ok: bool,
+    at: usize,
+    version: u8,
+    rows: &mut [u16],
+    from: usize,
+) -> TableRead
     ensures { λ r. ⌜ (Reads (tableFormat version) (now (octets .entry)) ok at (r .ok) (foundTable version (now (octets .entry)) ok at) (r .at)) × (r .renumbering ≡ headOf (foundTable version (now (octets .entry)) ok at)) × (now (rows .exit) ≡ written from (rowNumbers (foundTable version (now (octets .entry)) ok at .rows)) (now (rows .entry))) × (length (foundTable version (now (octets .entry)) ok at .rows) ≤ 1024) ⌝ }
 {
     let mut kept = [0u16; MAX_NUMBERS];

@@ -26,12 +26,14 @@ read-given-requires c κs = search needs
 
 returns : tie.Need-returns
 unfolding laterFormat
-returns c =
-    (then-told (flag-told (c .before .before .before .before .before .before .before .before .before .before .before .before .before .before .read-octet .ensures .0) refl)
-    (then-told (c .before .before .before .before .before .before .before .before .before .before .before .before .read-way .ensures)
-    (then-told (c .before .before .before .before .before .before .before .before .before .before .before .read-way2 .ensures)
-    (then-told (c .before .before .before .before .before .before .before .before .before .before .read-spellings .ensures)
-    (then-told (flag-told (c .before .before .before .before .before .before .before .before .before .read-octet2 .ensures .0) refl) (c .before .before .before .before .before .read-given .ensures))))), refl)
+returns c = (
+  then-told (flag-told (c .before .before .before .before .before .before .before .before .before .before .before .before .before .before .read-octet .ensures .0) refl)
+      (then-told (c .before .before .before .before .before .before .before .before .before .before .before .before .read-way .ensures)
+      (then-told (c .before .before .before .before .before .before .before .before .before .before .before .read-way2 .ensures)
+      (then-told (c .before .before .before .before .before .before .before .before .before .before .read-spellings .ensures)
+      (then-told (flag-told (c .before .before .before .before .before .before .before .before .before .read-octet2 .ensures .0) refl) (c .before .before .before .before .before .read-given .ensures))))),
+  refl,
+)
 
 pub read-later-spec : {M : Type 1} → statement M
 read-later-spec = tie.close (tie.spec read-octet-requires read-way-requires read-way-requires-2 read-spellings-requires read-octet-requires-2 read-given-requires returns)

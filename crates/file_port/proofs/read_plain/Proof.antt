@@ -33,11 +33,13 @@ plain-requires c κs = search needs
 returns : tie.Need-returns
 unfolding plainFormat
 returns c =
-    rw (c .plain .ensures)
-    (then-told (c .before .before .before .before .before .before .before .before .before .before .before .read-four .ensures .0)
-    (then-told (c .before .before .before .before .before .before .before .before .before .before .read-label .ensures .0)
-    (then-told (such-told (c .before .before .before .before .before .before .before .before .before .read-label2 .ensures .0) (c .before .before .before .before .before .judge .ensures) (c .before .before .before .before .before .before .within .ensures))
-    (then-told (flag-told (c .before .before .before .before .read-octet .ensures .0) refl) (c .before .before .read-given .ensures)))), refl)
+    rw (c .plain .ensures) (
+      then-told (c .before .before .before .before .before .before .before .before .before .before .before .read-four .ensures .0)
+          (then-told (c .before .before .before .before .before .before .before .before .before .before .read-label .ensures .0)
+          (then-told (such-told (c .before .before .before .before .before .before .before .before .before .read-label2 .ensures .0) (c .before .before .before .before .before .judge .ensures) (c .before .before .before .before .before .before .within .ensures))
+          (then-told (flag-told (c .before .before .before .before .read-octet .ensures .0) refl) (c .before .before .read-given .ensures)))),
+      refl,
+    )
 
 pub read-plain-spec : {M : Type 1} → statement M
 read-plain-spec =
