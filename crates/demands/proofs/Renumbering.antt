@@ -13,10 +13,9 @@ use Rattle.label.specs.Label.{used, labelOf, wellFormed, member}
 use Rattle.label.proofs.Bools.{never, and-right, all-below, below-all, implies-yes, yes-implies}
 use Rattle.label.proofs.Runs.{covers-top}
 use Rattle.label.proofs.Labels.{formed}
-use Rattle.table.specs.declared.Table.{Table}
 use Rattle.table_levels.specs.declared.Partner.{Partner}
 use Rattle.table_levels.specs.declared.Partner.the-variants.{Level, Missing}
-use Rattle.table.specs.Table.{usedRows, tableSound}
+use Rattle.table.specs.Table.{Lent, usedRows, tableSound}
 use Rattle.table_levels.specs.Levels.{partnerOf}
 use Rattle.table.specs.Numbers.{hasNumber, numbered}
 use Rattle.renumber.specs.declared.Renumbered.{Renumbered}
@@ -25,7 +24,7 @@ use Rattle.renumber.proofs.Theorems.{renumbering}
 use Rattle.demands.specs.Alone.{Numbered, RenumberAlone}
 
 -- the test of the categories, over membership
-module _ (l : Label) (t : Table) (w : wellFormed l ≡ true) where
+module _ (l : Label) (t : Lent) (w : wellFormed l ≡ true) where
   pub whole-says : numbered (usedRows t) (used l) ≡ true → (c : ℕ) → member l c ≡ true → hasNumber (usedRows t) c ≡ true
   unfolding numbered member
   whole-says e c m =
