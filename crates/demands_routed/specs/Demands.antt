@@ -28,11 +28,12 @@ pub record RoutedForwards (b : Routing) (r : Route) (l m : Label) (s : List ℕ)
   pub matched : Decides (b .destination) (routesOf (b .routes)) r
   pub forwards : Forwards (pairBy b r) l m s
 
--- two areas past checks 1 to 5 and 19 whose options 134 mean one label of the arriving port's domain, with kept options in order, ports, tables, routes,
+-- two areas past checks 1 to 5 and 19 whose options 134 mean one label of the arriving port's domain, with kept options in order, ports, tables and their rows, routes,
 -- arriving port number, destination and facts alike; the outputs may differ
 pub record RoutedAlike (b c : Routing) (l : Label) : Type 0 where
   pub ports : b .ports ≡ c .ports
   pub tables : b .tables ≡ c .tables
+  pub rows : b .rows ≡ c .rows
   pub routes : b .routes ≡ c .routes
   pub arriving : b .arriving ≡ c .arriving
   pub destination : b .destination ≡ c .destination

@@ -216,7 +216,7 @@ fn fields_sound(table: Table, held: usize) -> bool
     if table.to == 0 {
         return false;
     }
-    if 256 < table.pairs {
+    if MAX_PAIRS < table.pairs {
         return false;
     }
     let count = table.count;

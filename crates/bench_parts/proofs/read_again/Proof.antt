@@ -1,14 +1,16 @@
--- `bench_parts::time_read_file` meets its contract.
+-- `bench_parts::read_again` meets its contract.
 use borrow.Author.Needs.{needs}
+use mathlib.Core.Path.{_≡_}
 use Prim.Native.Nat.{_≤_, _-_}
-use Rattle.bench_parts.proofs.time_read_file.Statement.{statement}
-use Rattle.bench_parts.proofs.time_read_file.Tie as tie
+use lib.ListN.{length}
+use Rattle.bench_parts.proofs.read_again.Statement.{statement}
+use Rattle.bench_parts.proofs.read_again.Tie as tie
 
 abbrev Inv-loop : tie.InvT-loop
-Inv-loop octets times total₀ i₀ total i = i ≤ times
+Inv-loop octets rows₀ times total₀ i₀ rows total i = (i ≤ times) × (length rows ≡ length rows₀)
 
 abbrev μ-loop : tie.MeasureT-loop
-μ-loop octets times total₀ i₀ total i = times - i
+μ-loop octets rows₀ times total₀ i₀ rows total i = times - i
 
 loop-holds : tie.Need-loop-holds Inv-loop μ-loop
 loop-holds c = search needs
@@ -31,11 +33,14 @@ loop-less c = search needs
 loop-again : tie.Need-loop-again Inv-loop μ-loop
 loop-again c = search needs
 
+same-length : tie.Need-same-length Inv-loop μ-loop
+same-length c = search needs
+
 returns : tie.Need-returns Inv-loop μ-loop
 returns c = search needs
 
-pub time-read-file-spec : {M : Type 1} → statement M
-time-read-file-spec =
+pub read-again-spec : {M : Type 1} → statement M
+read-again-spec =
     tie.close
     (tie.spec
     Inv-loop
@@ -47,4 +52,5 @@ time-read-file-spec =
     add-i
     loop-less
     loop-again
+    same-length
     returns)

@@ -1,19 +1,16 @@
--- `bench_parts::time_write_file` meets its contract.
+-- `bench_parts::write_again` meets its contract.
 use borrow.Author.Needs.{needs}
 use mathlib.Core.Path.{_≡_}
 use Prim.Native.Nat.{_≤_, _-_}
 use lib.ListN.{length}
-use Rattle.bench_parts.proofs.time_write_file.Statement.{statement}
-use Rattle.bench_parts.proofs.time_write_file.Tie as tie
+use Rattle.bench_parts.proofs.write_again.Statement.{statement}
+use Rattle.bench_parts.proofs.write_again.Tie as tie
 
 abbrev Inv-loop : tie.InvT-loop
-Inv-loop octets out₀ times set total₀ i₀ out total i = (i ≤ times) × (length out ≡ length out₀)
+Inv-loop set rows out₀ times total₀ i₀ out total i = (i ≤ times) × (length out ≡ length out₀)
 
 abbrev μ-loop : tie.MeasureT-loop
-μ-loop octets out₀ times set total₀ i₀ out total i = times - i
-
-read-file-requires : tie.Need-read-file-requires Inv-loop μ-loop
-read-file-requires c κs = search needs
+μ-loop set rows out₀ times total₀ i₀ out total i = times - i
 
 loop-holds : tie.Need-loop-holds Inv-loop μ-loop
 loop-holds c = search needs
@@ -39,13 +36,12 @@ same-length c = search needs
 returns : tie.Need-returns Inv-loop μ-loop
 returns c = search needs
 
-pub time-write-file-spec : {M : Type 1} → statement M
-time-write-file-spec =
+pub write-again-spec : {M : Type 1} → statement M
+write-again-spec =
     tie.close
     (tie.spec
     Inv-loop
     μ-loop
-    read-file-requires
     loop-holds
     write-file-requires
     written-digest-requires
