@@ -2,10 +2,10 @@
 use crate::field::octets_of;
 use crate::field::take_octets;
 use crate::field::take_output;
+use crate::record::TABLE_NUMBERS;
 use crate::record::TakenFacts;
 use crate::record::TakenHost;
 use crate::record::TakenPort;
-use crate::record::TABLE_NUMBERS;
 use crate::record::TakenTable;
 use crate::record::first_rows;
 use crate::record::levels_at;

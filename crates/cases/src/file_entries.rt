@@ -77,14 +77,7 @@ fn put_accepted(out: &mut [u8], n: usize, ports: usize, tables: usize) -> usize 
 }
 
 // The set with its rows is written into an output of `room` octets: number, count, output.
-fn put_written(
-    out: &mut [u8],
-    n: usize,
-    set: Set,
-    rows: &[u16],
-    room: u16,
-    fill: u8,
-) -> usize {
+fn put_written(out: &mut [u8], n: usize, set: Set, rows: &[u16], room: u16, fill: u8) -> usize {
     let mut space = [fill; ROOM];
     let size = room as usize;
     let w = write_file(set, rows, &mut space[0..size]);
@@ -121,7 +114,14 @@ pub fn ask_read_write(case: &[u8], at: usize, out: &mut [u8], n: usize) -> usize
         return put_refused(out, n, file.verdict, file.at, octets);
     }
     let set = file.set;
-    put_written(out, n, set, used_rows(&rows, file.used), room.value, fill.value)
+    put_written(
+        out,
+        n,
+        set,
+        used_rows(&rows, file.used),
+        room.value,
+        fill.value,
+    )
 }
 
 // The rows that were read: the first numbers of a list.

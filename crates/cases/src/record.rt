@@ -413,12 +413,18 @@ fn greater(a: usize, b: usize) -> usize {
 // A row into a list at its place, and the place behind it.
 fn put_row(rows: &mut [u16], i: usize, low: u16, high: u16, target: u16) -> usize {
     if i < rows.len() / 3 {
-        rows[i * 3] = low;
-        rows[i * 3 + 1] = high;
-        rows[i * 3 + 2] = target;
+        put_number(rows, i * 3, low);
+        put_number(rows, i * 3 + 1, high);
+        put_number(rows, i * 3 + 2, target);
         return i + 1;
     }
     i
+}
+
+fn put_number(rows: &mut [u16], at: usize, number: u16) {
+    if at < rows.len() {
+        rows[at] = number;
+    }
 }
 
 // How many rows a list has up to the last that is not zero.

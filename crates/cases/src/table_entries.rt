@@ -26,12 +26,7 @@ pub fn ask_reverse(case: &[u8], at: usize, out: &mut [u8], n: usize) -> usize {
     let levels = levels_at(case, t.levels, t.stored);
     let lent = room.value as usize * 3;
     let mut back = [0u16; TABLE_NUMBERS];
-    let reversed = reverse(
-        table,
-        first_rows(&rows, t.end),
-        levels,
-        &mut back[0..lent],
-    );
+    let reversed = reverse(table, first_rows(&rows, t.end), levels, &mut back[0..lent]);
     let turned = reverse_levels(levels);
     put_reverse(out, n, reversed, turned, &back)
 }
