@@ -69,21 +69,18 @@ routed routes destination = box threePorts [] routes destination levelThree
 abbrev pub renumberedBy : List Renumbering → Routing
 renumberedBy tables = box threePorts tables (0 ∷ 0 ∷ 2 ∷ 9 ∷ []) 7 levelThree
 
--- the same with rows lent, for a datagram of category 0
-abbrev pub categoryZero : List ℕ
-categoryZero = 134 ∷ 11 ∷ 0 ∷ 0 ∷ 0 ∷ 5 ∷ 1 ∷ 5 ∷ 0 ∷ 3 ∷ 128 ∷ 0 ∷ []
-
+-- by tables whose rows are lent, unread
 abbrev pub lentBy : List Renumbering → List ℕ → Routing
 lentBy tables rows =
     record {
       ports = threePorts;
       tables = listed tables;
       rows = rows;
-      routes = 0 ∷ 0 ∷ 2 ∷ 9 ∷ [];
+      routes = 0 ∷ 0 ∷ 1 ∷ 5 ∷ [];
       arriving = 0;
       destination = 7;
       facts = noFact;
-      area = categoryZero;
+      area = levelThree;
       room = 41;
     }
 
@@ -134,12 +131,12 @@ boxes =
     ∷ is (renumberedBy []) (drop 16 3 9 0)
     ∷ is (renumberedBy (bareTable 9 5 (pair 3 4 ∷ []) ∷ bareTable 5 6 (pair 3 4 ∷ []) ∷ [])) (drop 16 3 9 0)
     ∷ is (renumberedBy (bareTable 5 9 (pair 1 2 ∷ []) ∷ bareTable 5 9 (pair 3 4 ∷ []) ∷ [])) (drop 16 3 9 0)
-    -- rows of several tables in one list: each table takes as many as it counts. A row too few, a number too few, a number left over
-    ∷ is (lentBy (rowTable 9 5 [] 1 ∷ rowTable 5 9 (pair 3 4 ∷ []) 1 ∷ []) (10 ∷ 20 ∷ 5 ∷ 0 ∷ 0 ∷ 7 ∷ [])) (pass 12 (labelOf 9 4 (run 7 7 ∷ [])))
-    ∷ is (lentBy (rowTable 5 9 (pair 3 4 ∷ []) 1 ∷ rowTable 9 5 [] 1 ∷ []) (10 ∷ 20 ∷ 5 ∷ 0 ∷ 0 ∷ 7 ∷ [])) (drop 16 3 9 0)
-    ∷ is (lentBy (rowTable 5 9 (pair 3 4 ∷ []) 1 ∷ rowTable 9 5 [] 1 ∷ []) (0 ∷ 0 ∷ 7 ∷ [])) (drop 2 0 0 0)
-    ∷ is (lentBy (rowTable 5 9 (pair 3 4 ∷ []) 1 ∷ []) (0 ∷ 0 ∷ [])) (drop 2 0 0 0)
-    ∷ is (lentBy (rowTable 5 9 (pair 3 4 ∷ []) 1 ∷ []) (0 ∷ 0 ∷ 7 ∷ 1 ∷ [])) (drop 2 0 0 0)
+    -- rows of several tables in one list: each table takes as many as it counts. Rows that only another share makes sound; a row too few; a number too few; a number left over
+    ∷ is (lentBy (rowTable 9 5 [] 1 ∷ rowTable 5 9 [] 1 ∷ []) (10 ∷ 20 ∷ 5 ∷ 0 ∷ 0 ∷ 7 ∷ [])) (pass 12 (bare 3))
+    ∷ is (lentBy (rowTable 9 5 [] 2 ∷ rowTable 5 9 [] 0 ∷ []) (10 ∷ 20 ∷ 5 ∷ 0 ∷ 0 ∷ 7 ∷ [])) (drop 2 0 0 0)
+    ∷ is (lentBy (rowTable 5 9 [] 1 ∷ rowTable 9 5 [] 1 ∷ []) (0 ∷ 0 ∷ 7 ∷ [])) (drop 2 0 0 0)
+    ∷ is (lentBy (rowTable 5 9 [] 1 ∷ []) (0 ∷ 0 ∷ [])) (drop 2 0 0 0)
+    ∷ is (lentBy (rowTable 5 9 [] 1 ∷ []) (0 ∷ 0 ∷ 7 ∷ 1 ∷ [])) (drop 2 0 0 0)
     -- 14 before 22, and 6; 22 before 16
     ∷ is (box threePorts [] [] 7 (empty 0 (0 ∷ 0 ∷ []))) (drop 14 3 9 0)
     ∷ is (box threePorts [] [] 7 []) (drop 6 12 1 134)

@@ -1,14 +1,13 @@
 -- The theorems of `specs/Theorems.antt`.
 use mathlib.Core.Bool.{Bool, true, false, cond, _&&_}
-use mathlib.Core.List.{List, [], _∷_, _++_}
+use mathlib.Core.List.{List, [], _∷_}
 use mathlib.Core.Path.{_≡_, refl, sym, ap, subst, _∙_}
-use Prim.Native.Nat.{ℕ, zero, suc, _+_, _≤_}
+use Prim.Native.Nat.{ℕ, zero, suc, _+_, _≤_, _<_}
 use native.Mathlib.Omega.{arith}
-use native.Mathlib.Nat.{zero-add}
 use lib.Dec.{leb}
 use lib.ListN.{length, take, drop, getD}
-use lib.Seq.{take-at}
-use borrow.Author.Tests.{le-leb}
+use lib.Seq.{take-at, drop-at}
+use borrow.Author.Tests.{le-leb, lt-leb}
 use Rattle.label.proofs.Bools.{and-left, and-right, and-both}
 use Rattle.lists.specs.Lists.{paint}
 use Rattle.port.specs.declared.Port.{Port}
@@ -27,10 +26,9 @@ use Rattle.file_read.specs.File.{fileFormat, fileReading, fileRoom, portsSayabl
 use Rattle.file_read.specs.Theorems as theorems
 use Rattle.file_read.proofs.Sets.{parts}
 use Rattle.file_read.proofs.Theorems.{accepted-only, given-back}
-use Rattle.file_write.specs.declared.Written.{Written}
 use Rattle.file_write.specs.declared.Written.the-variants.{Done, Short, Unsound, Long}
-use Rattle.file_write.specs.Written.{writtenOf, fileOutput}
-use Rattle.file_write.specs.Theorems.{Tells, WrittenBack, OneFile, OneFileIn, OneFileEach, allPlain, allSmall, Sayable}
+use Rattle.file_write.specs.Written.{writtenOf, numberOf, fileOutput}
+use Rattle.file_write.specs.Theorems.{Tells, WrittenBack, OnlyFile, OneFileIn, OneFileEach, allPlain, allSmall, Sayable, Answers}
 use Rattle.file_write.proofs.First.{small-first}
 use Rattle.file_write.proofs.Sizes.{file-length}
 
@@ -145,10 +143,59 @@ passed true true false t n e = let z : _≡_ {A = ℕ} 0 1 = cc in absurd (omega
 passed true false c t n e = let z : _≡_ {A = ℕ} 0 1 = cc in absurd (omega arith)
 passed false b c t n e = let z : _≡_ {A = ℕ} 0 1 = cc in absurd (omega arith)
 
+module _ (s : Set) (rows out : List ℕ) (n : ℕ) (e : writtenOf s rows (length out) ≡ Done n) where
+  tests : Passed (setSound s rows) (leb (totalOf 2 s rows) 61440) (leb (totalOf 2 s rows) (length out)) (totalOf 2 s rows) n
+  unfolding writtenOf
+  tests = passed (setSound s rows) (leb (totalOf 2 s rows) 61440) (leb (totalOf 2 s rows) (length out)) (totalOf 2 s rows) n e
+
+  sized : length (fileOctets 2 s rows) ≡ n
+  sized = file-length s rows ∙ tests .count
+
+  output-is : fileOutput s rows out ≡ paint 0 (fileOctets 2 s rows) out
+  unfolding fileOutput
+  output-is = rw (tests .sound-set, tests .short, tests .fits)
+
+  file-is : take n (fileOutput s rows out) ≡ fileOctets 2 s rows
+  file-is = ap (take n) output-is ∙ take-at (fileOctets 2 s rows) (drop (0 + length (fileOctets 2 s rows)) out) n sized
+
+  past-is : drop n (fileOutput s rows out) ≡ drop n out
+  past-is =
+      let z : 0 + length (fileOctets 2 s rows) ≡ n = omega (arith, sized) in
+      ap (drop n) output-is ∙ drop-at (fileOctets 2 s rows) (drop (0 + length (fileOctets 2 s rows)) out) n sized ∙ ap (λ (k : ℕ). drop k out) z
+
 pub written-back : WrittenBack
-unfolding writtenOf fileOutput
 written-back s rows out n e =
-    let p = passed (setSound s rows) (leb (totalOf 2 s rows) 61440) (leb (totalOf 2 s rows) (length out)) (totalOf 2 s rows) n e in
-    let w : take n (cond (setSound s rows && (leb (totalOf 2 s rows) 61440 && leb (totalOf 2 s rows) (length out))) (paint 0 (fileOctets 2 s rows) out) out) ≡ fileOctets 2 s rows =
-    rw (p .sound-set, p .short, p .fits) (take-at (fileOctets 2 s rows) (drop (0 + length (fileOctets 2 s rows)) out) n (file-length s rows ∙ p .count)) in
-    rw w (tells-back 2 (omega arith) (omega arith) s rows (p .sound-set) (second-says s rows (p .sound-set) ∙ p .short))
+    let p = tests s rows out n e in
+    rw (file-is s rows out n e) (tells-back 2 (omega arith) (omega arith) s rows (p .sound-set) (second-says s rows (p .sound-set) ∙ p .short))
+
+-- nothing is written without the number 0
+nothing-written : (a b c : Bool) (t : ℕ) (xs out : List ℕ) → (numberOf (cond a (cond b (cond c (Done t) Short) Long) Unsound) ≡ 0 ∷ [] → ⊥) → cond (a && (b && c)) xs out ≡ out
+nothing-written true true true t xs out h = absurd (h refl)
+nothing-written true true false t xs out h = refl
+nothing-written true false c t xs out h = refl
+nothing-written false b c t xs out h = refl
+
+module _ (s : Set) (rows : List ℕ) (room : ℕ) where
+  is-unsound : setSound s rows ≡ false → numberOf (writtenOf s rows room) ≡ 2 ∷ []
+  unfolding writtenOf
+  is-unsound e = rw e
+
+  is-long : setSound s rows ≡ true → 61440 < totalOf 2 s rows → numberOf (writtenOf s rows room) ≡ []
+  unfolding writtenOf
+  is-long e h = rw (e, lt-leb (totalOf 2 s rows) 61440 h)
+
+  is-short : setSound s rows ≡ true → totalOf 2 s rows ≤ 61440 → room < totalOf 2 s rows → numberOf (writtenOf s rows room) ≡ 1 ∷ []
+  unfolding writtenOf
+  is-short e h l = rw (e, le-leb (totalOf 2 s rows) 61440 h, lt-leb (totalOf 2 s rows) room l)
+
+  is-done : setSound s rows ≡ true → totalOf 2 s rows ≤ 61440 → totalOf 2 s rows ≤ room → writtenOf s rows room ≡ Done (totalOf 2 s rows)
+  unfolding writtenOf
+  is-done e h l = rw (e, le-leb (totalOf 2 s rows) 61440 h, le-leb (totalOf 2 s rows) room l)
+
+is-refused : (s : Set) (rows out : List ℕ) → (numberOf (writtenOf s rows (length out)) ≡ 0 ∷ [] → ⊥) → fileOutput s rows out ≡ out
+unfolding writtenOf fileOutput
+is-refused s rows out h =
+    nothing-written (setSound s rows) (leb (totalOf 2 s rows) 61440) (leb (totalOf 2 s rows) (length out)) (totalOf 2 s rows) (paint 0 (fileOctets 2 s rows) out) out h
+
+pub answers : Answers
+answers = record { unsound = is-unsound; long = is-long; short = is-short; done = is-done; refused = is-refused; past = past-is }
