@@ -19,7 +19,7 @@ pub const MAX_BASIC_OCTETS: usize = 5;
 pub const LEVELS: [u8; 4] = [0b1010_1011, 0b1001_0110, 0b0101_1010, 0b0011_1101];
 
 /// The place of a level in the list; none for "anything else".
-fn rank(level: u8) -> Option<usize> {
+pub fn rank(level: u8) -> Option<usize> {
     LEVELS.iter().position(|listed| *listed == level)
 }
 

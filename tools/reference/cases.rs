@@ -13,7 +13,8 @@
 //   8 forward    as 6 with facts for the mark                               as 6
 //   9 deliver    as 7 with facts for the mark                               as 7
 //   10 read a file      n (2), n octets                                     ACCEPTED and the numbers of ports and tables, REFUSED and the
-//                                                                           place, or VERSION and the version octet
+//                                                                           place, VERSION and the version octet, or ROOM where it has
+//                                                                           over 2048 rows
 //   11 read and write   n (2), n octets, output                             as 10 where it is not accepted; else number, count, output
 //   12 write a file     port count (1), stored (1, at most 16), that many wide ports, table count (1), stored (1, at most 8),
 //                       that many wide tables, output                       number or NAMED, count, output
@@ -24,6 +25,7 @@
 //   17 spell       label, spellings (1), output                             as 4
 //   18 in a box    ports (1, at most 64), that many wide ports, tables (1, at most 8), that many wide tables, routes (2, at most 256),
 //                  that many routes, arriving port (1), destination (4), facts, n (1), n octets, output       as 6
+//   19 renumber    label, wide table                                         as 3
 //   20 build a message  number (1), type (1), code (1), pointer (1), n (1), n octets of header, m (2), m octets of data, output, output
 //                                                                           number, message count, options count, output, output
 //   21 read a message   n (2), n octets                                     25; or 0, type, code, pointer, header and data in hex
@@ -45,12 +47,13 @@
 //                   stored (2, at most 256), that many flag fields (2 each)
 //                 2 spellings (1, at most 15): 1 tag 1 shortest, 2 tag 1 with ten bitmap octets, 4 tag 2, 8 tag 5
 //                 4 default label: unlabelled (1), label
-//   wide table    from (4), to (4), level pair count (2), stored (2, at most 16), that many pairs (1 + 1),
-//                 row count (2), lent (2, at most 64), that many rows of low (2), high (2), target low (2)
+//   wide table    from (4), to (4), level pair count (2), stored (2, at most 256), that many pairs (1 + 1),
+//                 row count (2), lent (2, at most 1024), that many rows of low (2), high (2), target low (2)
 //   route    prefix (4), length (1), port (1), domain (4)
 //   output   length (2, at most 512, in entries 11 and 12 at most 65535), the octet that fills it (1)
 //
-// Places that are not stored are 0. Counts are free: a count over its limit is what the entries must refuse.
+// Places that are not stored are 0. The rows of a table are lent as counted, with those past the count that are not zero; those of a wide
+// table as they are there. Counts are free: a count over its limit is what the entries must refuse.
 
 use std::io::{self, Read, Write};
 
@@ -62,7 +65,9 @@ use crate::label::{HeldLabel, Run, MAX_RUNS};
 use crate::memory::{Call, MemoryRecord, MAX_DESTINATIONS};
 use crate::messages::{self, Report};
 use crate::option::{read_alone, read_bitmap_alone, spell_alone, ALL_SPELLINGS, PLAIN_SPELLINGS};
-use crate::records::{renumber_alone, reverse, HostRecord, PortRecord, Row, TableRecord, MAX_LEVEL_PAIRS, MAX_ROWS};
+use crate::records::{
+    renumber_alone, reverse, HostRecord, PortRecord, Row, TableRecord, FIRST_LEVEL_PAIRS, FIRST_ROWS, MAX_LEVEL_PAIRS, MAX_ROWS,
+};
 use crate::routes::{BoxRecord, Route, MAX_BOX_PORTS, MAX_BOX_TABLES, MAX_ROUTES};
 
 pub const CONTAINS: u8 = 1;
@@ -83,6 +88,7 @@ pub const FORWARD_WIDE: u8 = 15;
 pub const DELIVER_WIDE: u8 = 16;
 pub const SPELL_PERMITTED: u8 = 17;
 pub const IN_BOX: u8 = 18;
+pub const RENUMBER_WIDE: u8 = 19;
 pub const BUILD_MESSAGE: u8 = 20;
 pub const READ_MESSAGE: u8 = 21;
 pub const REVERSE: u8 = 22;
@@ -98,8 +104,10 @@ pub const MESSAGE: u8 = 5;
 
 pub const MAX_OUTPUT: usize = 512;
 pub const MAX_FILE_OUTPUT: usize = 65_535;
-/// Rows that are lent for a reverse table.
+/// The most rows that are lent for a reverse table.
 pub const MAX_ROOM: usize = 1024;
+/// The rows that are lent for a file.
+pub const FILE_ROOM: usize = 2048;
 pub const BROKEN: &str = "BROKEN";
 
 #[derive(Clone, Copy)]
@@ -166,6 +174,7 @@ pub enum Case {
     DeliverWide(Box<DeliverCase>),
     SpellPermitted(HeldLabel, u8, Output),
     InBox(Box<BoxCase>),
+    RenumberWide(HeldLabel, TableRecord),
     BuildMessage(MessageCase),
     ReadMessage(Vec<u8>),
     Reverse(TableRecord, usize),
@@ -252,14 +261,20 @@ impl<'a> Fields<'a> {
     fn table(&mut self) -> Option<TableRecord> {
         let mut table = TableRecord { from: self.four()?, to: self.four()?, ..TableRecord::ALL_ZERO };
         table.level_count = self.one()? as u16;
-        for place in 0..self.stored(MAX_LEVEL_PAIRS)? {
+        for place in 0..self.stored(FIRST_LEVEL_PAIRS)? {
             table.levels[place] = [self.one()?, self.one()?];
         }
         table.row_count = self.two()?;
-        for place in 0..self.stored(MAX_ROWS)? {
-            table.rows[place] = Row { low: self.two()?, high: self.two()?, target_low: self.two()? };
-        }
+        let stored = self.stored(FIRST_ROWS)?;
+        table.rows = self.several(stored, Fields::row)?;
+        // "a table's rows are lent as counted (stored rows past the count that are not zero are lent too, so that it is unsound as before)"
+        let lent = table.rows_needed().max(MAX_ROWS.min(table.row_count as usize));
+        table.rows.resize(lent, Row::ZERO);
         Some(table)
+    }
+
+    fn row(&mut self) -> Option<Row> {
+        Some(Row { low: self.two()?, high: self.two()?, target_low: self.two()? })
     }
 
     fn output(&mut self) -> Option<Output> {
@@ -322,9 +337,8 @@ impl<'a> Fields<'a> {
             table.levels[place] = [self.one()?, self.one()?];
         }
         table.row_count = self.two()?;
-        for place in 0..self.long_stored(MAX_ROWS)? {
-            table.rows[place] = Row { low: self.two()?, high: self.two()?, target_low: self.two()? };
-        }
+        let lent = self.long_stored(MAX_ROWS)?;
+        table.rows = self.several(lent, Fields::row)?;
         Some(table)
     }
 
@@ -457,6 +471,7 @@ pub fn parse(octets: &[u8], entries: &Entries) -> Option<Case> {
         DELIVER_WIDE => Case::DeliverWide(Box::new(fields.deliver_wide()?)),
         SPELL_PERMITTED => Case::SpellPermitted(fields.label()?, fields.spellings()?, fields.output()?),
         IN_BOX => Case::InBox(Box::new(fields.in_box()?)),
+        RENUMBER_WIDE => Case::RenumberWide(fields.label()?, fields.wide_table()?),
         BUILD_MESSAGE => Case::BuildMessage(fields.message()?),
         READ_MESSAGE => Case::ReadMessage(fields.long_octets()?),
         REVERSE => Case::Reverse(fields.wide_table()?, fields.long_stored(MAX_ROOM)?),
@@ -517,15 +532,17 @@ impl Encoder {
     fn table(&mut self, table: &TableRecord) {
         self.four(table.from);
         self.four(table.to);
-        let stored = self.stored(table.pairs_needed(), MAX_LEVEL_PAIRS);
+        let stored = self.stored(table.pairs_needed(), FIRST_LEVEL_PAIRS);
         self.octets.extend([table.level_count as u8, stored as u8]);
         for pair in &table.levels[..stored] {
             self.octets.extend(pair);
         }
-        let stored = self.stored(table.rows_needed(), MAX_ROWS);
+        let stored = self.stored(table.rows_needed(), FIRST_ROWS);
         self.two(table.row_count);
         self.octets.push(stored as u8);
-        self.rows(&table.rows[..stored]);
+        let mut rows = table.rows.clone();
+        rows.resize(stored, Row::ZERO);
+        self.rows(&rows);
     }
 
     fn counted_octets(&mut self, octets: &[u8]) {
@@ -578,13 +595,13 @@ impl Encoder {
     fn wide_table(&mut self, table: &TableRecord) {
         self.four(table.from);
         self.four(table.to);
-        let (pairs, rows) = (self.stored(table.pairs_needed(), MAX_LEVEL_PAIRS), self.stored(table.rows_needed(), MAX_ROWS));
+        let pairs = self.stored(table.pairs_needed(), MAX_LEVEL_PAIRS);
         self.two(table.level_count);
         self.two(pairs as u16);
         self.octets.extend(table.levels[..pairs].concat());
         self.two(table.row_count);
-        self.two(rows as u16);
-        self.rows(&table.rows[..rows]);
+        self.two(table.rows.len() as u16);
+        self.rows(&table.rows);
     }
 
     fn rows(&mut self, rows: &[Row]) {
@@ -778,6 +795,11 @@ pub fn encode(case: &Case, spare: usize) -> Vec<u8> {
             encoder.octets.push(IN_BOX);
             encoder.in_box(case);
         }
+        Case::RenumberWide(label, table) => {
+            encoder.octets.push(RENUMBER_WIDE);
+            encoder.label(label);
+            encoder.wide_table(table);
+        }
         Case::BuildMessage(case) => {
             let Report { icmp_type, icmp_code, pointer } = case.report;
             encoder.octets.extend([BUILD_MESSAGE, case.number, icmp_type, icmp_code, pointer]);
@@ -863,7 +885,7 @@ impl Line {
             self.number(*level as usize);
         }
         self.number(table.row_count as usize);
-        for row in &table.rows[..table.row_count as usize] {
+        for row in &table.rows {
             self.number(row.low as usize);
             self.number(row.high as usize);
             self.number(row.target_low as usize);
@@ -880,6 +902,7 @@ impl Line {
                 self.word("VERSION");
                 self.number(version as usize);
             }
+            Refusal::Room => self.word("ROOM"),
         }
     }
 
@@ -950,7 +973,7 @@ pub fn answer(case: &Case) -> String {
     match case {
         Case::Contains(label, category) => line.word(yes_or_no(label.contains(*category))),
         Case::Within(label, bound) => line.word(yes_or_no(label.within(bound))),
-        Case::Renumber(label, table) => {
+        Case::Renumber(label, table) | Case::RenumberWide(label, table) => {
             let (number, renumbered) = renumber_alone(label, table);
             line.number(number as usize);
             line.label(&renumbered);
@@ -982,7 +1005,7 @@ pub fn answer(case: &Case) -> String {
             let decision = deliver(&case.port, &case.host, &case.facts, &case.area);
             line.decision(&decision);
         }
-        Case::ReadFile(octets) => match file::read(octets) {
+        Case::ReadFile(octets) => match file::read(octets, FILE_ROOM) {
             Ok(set) => {
                 line.word("ACCEPTED");
                 line.number(set.port_count as usize);
@@ -990,7 +1013,7 @@ pub fn answer(case: &Case) -> String {
             }
             Err(refusal) => line.refusal(refusal),
         },
-        Case::ReadAndWrite(octets, output) => match file::read(octets) {
+        Case::ReadAndWrite(octets, output) => match file::read(octets, FILE_ROOM) {
             Ok(set) => line.written(&set, *output),
             Err(refusal) => line.refusal(refusal),
         },

@@ -3,10 +3,10 @@
 // The generator makes cases of these entries alone, and the line for every other one is BROKEN.
 
 /// The entries that the box has. Who builds another one adds its number here.
-pub const BUILT: &[u8] = &[1, 2, 3, 4, 5, 6, 7, 8, 9, 10, 11, 12, 13, 14, 15, 16, 17, 18, 20, 21, 22, 24, 25];
+pub const BUILT: &[u8] = &[1, 2, 3, 4, 5, 6, 7, 8, 9, 10, 11, 12, 13, 14, 15, 16, 17, 18, 19, 20, 21, 22, 24, 25];
 
 /// The entries that this program knows.
-pub const KNOWN: &[u8] = &[1, 2, 3, 4, 5, 6, 7, 8, 9, 10, 11, 12, 13, 14, 15, 16, 17, 18, 20, 21, 22, 24, 25];
+pub const KNOWN: &[u8] = &[1, 2, 3, 4, 5, 6, 7, 8, 9, 10, 11, 12, 13, 14, 15, 16, 17, 18, 19, 20, 21, 22, 24, 25];
 
 /// The groups of a wide port that are built.
 pub const GROUPS: u8 = BASIC_GROUP | SPELLINGS_GROUP | DEFAULT_GROUP;

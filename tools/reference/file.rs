@@ -1,22 +1,44 @@
 // The house file: ports and tables as octets.
 //
-// Document 02, wish 1. Every number is big-endian, every list is led by its count.
+// Document 02, wishes 1 and 8. Every number is big-endian, every list is led by its count.
 //
 //   file     length of the whole file (2), version (1), port count (1), ports, table count (1), tables
 //   label    domain (4), level (1), run count (1), low (2) and high (2) of each run
-//   port     domain (4), lowest label, highest label, required (1: 0 or 1), assigned label
+//   port     domain (4), lowest label, highest label, required (1: 0 or 1), assigned label; from version 2 on also: Basic Security on
+//            (1: 0 or 1); receiving: lowest level (1), highest level (1), count (2), flag fields (2 each); sending: the same four;
+//            permitted spellings (1); unlabelled (1: 0 or 1); default label
 //   table    from (4), to (4), pair count (2), each pair (1 + 1), row count (2), low (2), high (2) and target low (2) of each row
 
+use crate::basic::{rank, BasicRecord, WayRecord, MAX_FLAG_FIELDS};
 use crate::label::{HeldLabel, Run, HIGHEST_CATEGORY, MAX_RUNS};
-use crate::records::{PortRecord, Row, TableRecord, MAX_LEVEL_PAIRS, MAX_ROWS};
+use crate::option::ALL_SPELLINGS;
+use crate::records::{PortRecord, Row, TableRecord, FIRST_LEVEL_PAIRS, FIRST_ROWS, MAX_LEVEL_PAIRS, MAX_ROWS};
 
-/// "At most 16 ports, 8 tables and 32 KiB."
+/// "At most 16 ports, 8 tables".
 pub const MAX_PORTS: usize = 16;
 pub const MAX_TABLES: usize = 8;
-pub const MAX_FILE: usize = 32 * 1024;
-/// "one version octet (1)"
-pub const VERSION: u8 = 1;
+/// Where the version octet stands.
 pub const VERSION_AT: usize = 2;
+
+/// What one version of the file can say.
+#[derive(Clone, Copy, PartialEq, Eq)]
+pub struct Version {
+    pub octet: u8,
+    pub max_file: usize,
+    pub max_pairs: usize,
+    pub max_rows: usize,
+    /// "with the port fields added since"
+    pub later_fields: bool,
+}
+
+/// "one version octet (1)", "32 KiB". "version 1 files still read under their old limits".
+pub const FIRST: Version =
+    Version { octet: 1, max_file: 32 * 1024, max_pairs: FIRST_LEVEL_PAIRS, max_rows: FIRST_ROWS, later_fields: false };
+/// Wish 8: "version 2, at most 60 KiB, with the port fields added since".
+pub const SECOND: Version = Version { octet: 2, max_file: 60 * 1024, max_pairs: MAX_LEVEL_PAIRS, max_rows: MAX_ROWS, later_fields: true };
+pub const VERSIONS: [Version; 2] = [FIRST, SECOND];
+/// "The writer writes version 2".
+pub const WRITTEN: Version = SECOND;
 
 /// Ports and tables as they are held: 16 and 8 places with a count each.
 #[derive(Clone, PartialEq, Eq)]
@@ -34,6 +56,8 @@ pub enum Refusal {
     Place(usize),
     /// "An unknown version is refused by name."
     Version(u8),
+    /// Wish 8: "so is a sound file whose rows outgrow their lent room".
+    Room,
 }
 
 impl SetRecord {
@@ -105,7 +129,7 @@ impl<'a> Reader<'a> {
         Ok(label)
     }
 
-    /// "if it is required, the assigned label is all zero"
+    /// "if it is required, the assigned label is all zero"; "on other ports" the default label too.
     fn no_label(&mut self) -> Result<HeldLabel, Refusal> {
         for width in [4, 1, 1] {
             self.field(width, |number| number == 0)?;
@@ -114,7 +138,7 @@ impl<'a> Reader<'a> {
     }
 
     /// Rules over a whole label are tested when it has been read, and blame its first octet.
-    fn port(&mut self) -> Result<PortRecord, Refusal> {
+    fn port(&mut self, version: &Version) -> Result<PortRecord, Refusal> {
         let domain = self.field(4, |domain| domain != 0)?;
         let lowest = self.label(domain)?;
         let highest_at = self.at;
@@ -129,14 +153,54 @@ impl<'a> Reader<'a> {
             return Err(Refusal::Place(assigned_at));
         }
         // "Version 1 files read later port fields as 01 had them".
-        Ok(PortRecord { domain, lowest, highest, required, assigned, ..PortRecord::PLAIN })
+        let mut port = PortRecord { domain, lowest, highest, required, assigned, ..PortRecord::PLAIN };
+        if version.later_fields {
+            self.later_fields(&mut port)?;
+        }
+        Ok(port)
     }
 
-    fn table(&mut self) -> Result<TableRecord, Refusal> {
+    /// The port fields of wishes 3, 5 and 6.
+    fn later_fields(&mut self, port: &mut PortRecord) -> Result<(), Refusal> {
+        let on = self.field(1, |on| on <= 1)? == 1;
+        port.basic = BasicRecord { on, receiving: self.way(on)?, sending: self.way(on)? };
+        port.spellings = self.field(1, |spellings| spellings >= 1 && spellings <= ALL_SPELLINGS as u32)? as u8;
+        port.unlabelled = self.field(1, |unlabelled| unlabelled <= 1)? == 1;
+        let default_at = self.at;
+        port.default = if port.unlabelled { self.label(port.domain)? } else { self.no_label()? };
+        if port.unlabelled && !(port.lowest.within(&port.default) && port.default.within(&port.highest)) {
+            return Err(Refusal::Place(default_at));
+        }
+        Ok(())
+    }
+
+    /// "the levels are of the four and lowest ≤ highest each way, [...] each set's count is at most 256"; "switched off, they are all 0".
+    fn way(&mut self, on: bool) -> Result<WayRecord, Refusal> {
+        if !on {
+            for width in [1, 1, 2] {
+                self.field(width, |number| number == 0)?;
+            }
+            return Ok(WayRecord::ALL_ZERO);
+        }
+        let lowest = self.field(1, |level| rank(level as u8).is_some())? as u8;
+        let not_below = |level: u32| match (rank(lowest), rank(level as u8)) {
+            (Some(low), Some(high)) => low <= high,
+            _ => false,
+        };
+        let highest = self.field(1, not_below)? as u8;
+        let count = self.field(2, |count| count <= MAX_FLAG_FIELDS as u32)? as u16;
+        let mut way = WayRecord { lowest, highest, count, ..WayRecord::ALL_ZERO };
+        for place in 0..count as usize {
+            way.places[place] = self.field(2, any)? as u16;
+        }
+        Ok(way)
+    }
+
+    fn table(&mut self, version: &Version) -> Result<TableRecord, Refusal> {
         let from = self.field(4, |domain| domain != 0)?;
         let to = self.field(4, |domain| domain != 0)?;
         let mut table = TableRecord { from, to, ..TableRecord::ALL_ZERO };
-        table.level_count = self.field(2, |count| count <= MAX_LEVEL_PAIRS as u32)? as u16;
+        table.level_count = self.field(2, |count| count <= version.max_pairs as u32)? as u16;
         // "strictly rising on both sides"
         let mut least = [0, 0];
         for place in 0..table.level_count as usize {
@@ -146,9 +210,10 @@ impl<'a> Reader<'a> {
                 least[side] = level + 1;
             }
         }
-        table.row_count = self.field(2, |count| count <= MAX_ROWS as u32)? as u16;
-        for place in 0..table.row_count as usize {
-            table.rows[place] = self.row(&table.rows[..place])?;
+        table.row_count = self.field(2, |count| count <= version.max_rows as u32)? as u16;
+        for _ in 0..table.row_count {
+            let row = self.row(&table.rows)?;
+            table.rows.push(row);
         }
         Ok(table)
     }
@@ -168,28 +233,34 @@ impl<'a> Reader<'a> {
 }
 
 /// "A file is accepted exactly when its length agrees, then its version is known, then every record is sound; a refusal names the
-/// first octet of the first bad field (a cut-off one and octets after the last table count)."
-pub fn read(octets: &[u8]) -> Result<SetRecord, Refusal> {
+/// first octet of the first bad field (a cut-off one and octets after the last table count)." `room` is how many rows are lent for those of
+/// all tables.
+pub fn read(octets: &[u8], room: usize) -> Result<SetRecord, Refusal> {
     let mut reader = Reader { octets, at: 0 };
     reader.field(2, |length| length as usize == octets.len())?;
-    let version = reader.field(1, any)? as u8;
-    if version != VERSION {
-        return Err(Refusal::Version(version));
-    }
-    if octets.len() > MAX_FILE {
+    let octet = reader.field(1, any)? as u8;
+    let version = match VERSIONS.iter().find(|version| version.octet == octet) {
+        Some(version) => version,
+        None => return Err(Refusal::Version(octet)),
+    };
+    if octets.len() > version.max_file {
         return Err(Refusal::Place(0));
     }
     let mut set = SetRecord::empty();
     set.port_count = reader.field(1, |count| count <= MAX_PORTS as u32)? as u8;
     for place in 0..set.port_count as usize {
-        set.ports[place] = reader.port()?;
+        set.ports[place] = reader.port(version)?;
     }
     set.table_count = reader.field(1, |count| count <= MAX_TABLES as u32)? as u8;
     for place in 0..set.table_count as usize {
-        set.tables[place] = reader.table()?;
+        set.tables[place] = reader.table(version)?;
     }
     if reader.at < octets.len() {
         return Err(Refusal::Place(reader.at));
+    }
+    let rows: usize = set.tables.iter().map(|table| table.rows.len()).sum();
+    if rows > room {
+        return Err(Refusal::Room);
     }
     Ok(set)
 }
@@ -204,12 +275,26 @@ fn label_octets(label: &HeldLabel) -> Vec<u8> {
     octets
 }
 
-fn port_octets(port: &PortRecord) -> Vec<u8> {
+fn port_octets(port: &PortRecord, version: &Version) -> Vec<u8> {
     let mut octets = port.domain.to_be_bytes().to_vec();
     octets.extend(label_octets(&port.lowest));
     octets.extend(label_octets(&port.highest));
     octets.push(port.required as u8);
     octets.extend(label_octets(&port.assigned));
+    if version.later_fields {
+        octets.push(port.basic.on as u8);
+        octets.extend(way_octets(&port.basic.receiving));
+        octets.extend(way_octets(&port.basic.sending));
+        octets.extend([port.spellings, port.unlabelled as u8]);
+        octets.extend(label_octets(&port.default));
+    }
+    octets
+}
+
+fn way_octets(way: &WayRecord) -> Vec<u8> {
+    let mut octets = vec![way.lowest, way.highest];
+    octets.extend(way.count.to_be_bytes());
+    octets.extend(way.places[..way.count as usize].iter().flat_map(|field| field.to_be_bytes()));
     octets
 }
 
@@ -218,7 +303,7 @@ fn table_octets(table: &TableRecord) -> Vec<u8> {
     octets.extend(table.level_count.to_be_bytes());
     octets.extend(table.levels[..table.level_count as usize].concat());
     octets.extend(table.row_count.to_be_bytes());
-    for row in &table.rows[..table.row_count as usize] {
+    for row in &table.rows {
         for number in [row.low, row.high, row.target_low] {
             octets.extend(number.to_be_bytes());
         }
@@ -226,10 +311,10 @@ fn table_octets(table: &TableRecord) -> Vec<u8> {
     octets
 }
 
-/// "A sound set has one file", where version 1 can say it.
-pub fn file_of(set: &SetRecord) -> Vec<u8> {
-    let mut octets = vec![0, 0, VERSION, set.port_count];
-    octets.extend(set.ports[..set.port_count as usize].iter().flat_map(port_octets));
+/// "a set has one file per version that can say it"
+pub fn file_of(set: &SetRecord, version: &Version) -> Vec<u8> {
+    let mut octets = vec![0, 0, version.octet, set.port_count];
+    octets.extend(set.ports[..set.port_count as usize].iter().flat_map(|port| port_octets(port, version)));
     octets.push(set.table_count);
     octets.extend(set.tables[..set.table_count as usize].iter().flat_map(table_octets));
     let length = octets.len() as u16;
@@ -242,7 +327,7 @@ pub fn file_of(set: &SetRecord) -> Vec<u8> {
 pub enum Unwritten {
     /// 2.
     Unsound,
-    /// "until Wish 8 the writer refuses others by name, after 2": a port has later fields that version 1 cannot say.
+    /// Wish 8: "A set that would be longer is refused by name after 2".
     Named,
     /// 1.
     Short,
@@ -254,10 +339,10 @@ pub fn write(set: &SetRecord, output: &mut [u8]) -> Result<usize, Unwritten> {
     if !set.sound() {
         return Err(Unwritten::Unsound);
     }
-    if !set.ports[..set.port_count as usize].iter().all(PortRecord::is_plain) {
+    let file = file_of(set, &WRITTEN);
+    if file.len() > WRITTEN.max_file {
         return Err(Unwritten::Named);
     }
-    let file = file_of(set);
     if output.len() < file.len() {
         return Err(Unwritten::Short);
     }

@@ -17,6 +17,8 @@ mod categories;
 mod decision;
 mod differ;
 mod entries;
+// It has more than is compared here: a writer of files of version 1.
+#[allow(dead_code)]
 mod fast;
 mod fastcheck;
 mod file;

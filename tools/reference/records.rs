@@ -7,10 +7,12 @@ use crate::categories::Categories;
 use crate::label::{HeldLabel, Label, HIGHEST_CATEGORY};
 use crate::option::{ALL_SPELLINGS, PLAIN_SPELLINGS};
 
-/// "up to 16 level pairs"
-pub const MAX_LEVEL_PAIRS: usize = 16;
-/// "up to 64 rows (low, high, target low)"
-pub const MAX_ROWS: usize = 64;
+/// Document 02, wish 8: "Raise the table to 1,024 rows, lent by the caller (not as many as counted: 2), and level pairs to 256."
+pub const MAX_LEVEL_PAIRS: usize = 256;
+pub const MAX_ROWS: usize = 1024;
+/// Document 01: "up to 16 level pairs", "up to 64 rows (low, high, target low)".
+pub const FIRST_LEVEL_PAIRS: usize = 16;
+pub const FIRST_ROWS: usize = 64;
 
 /// "Port: domain, lowest and highest label, whether a label is required, an assigned label." Then the fields of document 02.
 #[derive(Clone, PartialEq, Eq)]
@@ -56,12 +58,6 @@ impl PortRecord {
 
     /// The later fields "as 01 had them".
     pub const PLAIN: PortRecord = PortRecord { spellings: PLAIN_SPELLINGS, ..PortRecord::ALL_ZERO };
-
-    /// Whether a sound port has the later fields "as 01 had them".
-    pub fn is_plain(&self) -> bool {
-        let plain = PortRecord::PLAIN;
-        self.basic == plain.basic && self.spellings == plain.spellings && self.unlabelled == plain.unlabelled
-    }
 
     /// "Sound: nonzero domain, all labels used are well formed and of that domain, lowest ≤ highest. If a label isn't required, the
     /// assigned label is in range; if it is required, the assigned label is all zero." Wish 3: "Sound then also asks" for the fields of
@@ -177,7 +173,8 @@ impl Row {
     }
 }
 
-/// "Renumbering table: from and to domain [...]; up to 16 level pairs, held as an array of two-number arrays [...]; up to 64 rows".
+/// "Renumbering table: from and to domain [...]; [...] level pairs, held as an array of two-number arrays [...]; [...] rows". The rows are
+/// those that the caller lends.
 #[derive(Clone, PartialEq, Eq)]
 pub struct TableRecord {
     pub from: u32,
@@ -185,7 +182,7 @@ pub struct TableRecord {
     pub level_count: u16,
     pub levels: [[u8; 2]; MAX_LEVEL_PAIRS],
     pub row_count: u16,
-    pub rows: [Row; MAX_ROWS],
+    pub rows: Vec<Row>,
 }
 
 /// What a sound table says.
@@ -198,7 +195,7 @@ pub struct Table {
 
 impl TableRecord {
     pub const ALL_ZERO: TableRecord =
-        TableRecord { from: 0, to: 0, level_count: 0, levels: [[0, 0]; MAX_LEVEL_PAIRS], row_count: 0, rows: [Row::ZERO; MAX_ROWS] };
+        TableRecord { from: 0, to: 0, level_count: 0, levels: [[0, 0]; MAX_LEVEL_PAIRS], row_count: 0, rows: Vec::new() };
 
     /// The places up to the last one that is not zero.
     pub fn pairs_needed(&self) -> usize {
@@ -209,19 +206,20 @@ impl TableRecord {
         self.rows.iter().rposition(|row| *row != Row::ZERO).map_or(0, |last| last + 1)
     }
 
-    /// "from and to domain, neither 0; [...] Counts keep to their limits, unused places are 0".
+    /// "from and to domain, neither 0; [...] Counts keep to their limits, unused places are 0"; rows "lent by the caller (not as many as
+    /// counted: 2)".
     pub fn sound(&self) -> Option<Table> {
         let (level_count, row_count) = (self.level_count as usize, self.row_count as usize);
         if self.from == 0 || self.to == 0 || level_count > MAX_LEVEL_PAIRS || row_count > MAX_ROWS {
             return None;
         }
         let (levels, unused_levels) = self.levels.split_at(level_count);
-        let (rows, unused_rows) = self.rows.split_at(row_count);
-        let unused_zero = unused_levels.iter().all(|pair| *pair == [0, 0]) && unused_rows.iter().all(|row| *row == Row::ZERO);
-        if !unused_zero || !levels_sound(levels) || !rows_sound(rows) {
+        let unused_zero = unused_levels.iter().all(|pair| *pair == [0, 0]);
+        let lent_as_counted = self.rows.len() == row_count;
+        if !unused_zero || !lent_as_counted || !levels_sound(levels) || !rows_sound(&self.rows) {
             return None;
         }
-        Some(Table { from: self.from, to: self.to, levels: levels.to_vec(), rows: rows.to_vec() })
+        Some(Table { from: self.from, to: self.to, levels: levels.to_vec(), rows: self.rows.clone() })
     }
 }
 
@@ -282,7 +280,7 @@ pub fn reverse(record: &TableRecord, room: usize) -> Result<TableRecord, u8> {
     for (place, [source, target]) in table.levels.iter().enumerate() {
         reversed.levels[place] = [*target, *source];
     }
-    reversed.rows[..rows.len()].copy_from_slice(&rows);
+    reversed.rows = rows;
     Ok(reversed)
 }
 

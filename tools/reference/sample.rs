@@ -9,7 +9,7 @@ use crate::decision::{forward, Facts};
 use crate::file;
 use crate::label::{HeldLabel, Run, HIGHEST_CATEGORY};
 use crate::option::MAX_OCTETS;
-use crate::records::{PortRecord, Row, TableRecord};
+use crate::records::{PortRecord, Row, TableRecord, MAX_ROWS};
 
 /// The label of a domain and level with the categories 0 to `highest`.
 fn label_up_to(domain: u32, level: u8, highest: u16) -> HeldLabel {
@@ -37,8 +37,7 @@ pub fn leaving() -> PortRecord {
 pub fn table() -> TableRecord {
     let mut table = TableRecord { from: 5, to: 9, level_count: 3, row_count: 2, ..TableRecord::ALL_ZERO };
     table.levels[..3].copy_from_slice(&[[1, 2], [3, 4], [5, 6]]);
-    table.rows[0] = Row { low: 0, high: 99, target_low: 1000 };
-    table.rows[1] = Row { low: 100, high: 300, target_low: 0 };
+    table.rows = vec![Row { low: 0, high: 99, target_low: 1000 }, Row { low: 100, high: 300, target_low: 0 }];
     table
 }
 
@@ -53,9 +52,10 @@ impl Sample {
         Sample { arriving: arriving(), leaving: leaving(), table: Some(table()) }
     }
 
-    /// Wish 1: "uses the first two ports and first table of a file". None for one that is "refused or under two ports".
+    /// Wish 1: "uses the first two ports and first table of a file". None for one that is "refused or under two ports". Every sound file
+    /// is read: room is lent for the rows of all tables.
     pub fn of_file(octets: &[u8]) -> Option<Sample> {
-        let set = file::read(octets).ok()?;
+        let set = file::read(octets, file::MAX_TABLES * MAX_ROWS).ok()?;
         if set.port_count < 2 {
             return None;
         }

@@ -64,7 +64,7 @@ among-said (x ∷ xs) f zero h e = rw (eq-eqb x f e)
 among-said (x ∷ xs) f (suc k) h e = or-true-right (eqb x f) (among-said xs f k (omega arith) e)
 
 -- settings that are switched off and all 0 are one value
-unused-zeros : (fs : List ℕ) → unused fs ≡ true → fs ≡ replicate (length fs) 0
+pub unused-zeros : (fs : List ℕ) → unused fs ≡ true → fs ≡ replicate (length fs) 0
 unused-zeros [] e = refl
 unused-zeros (x ∷ xs) e = rw (eqb-true x 0 (and-left (eqb x 0) _ e)) (ap (λ (l : List ℕ). 0 ∷ l) (unused-zeros xs (and-right (eqb x 0) _ e)))
 

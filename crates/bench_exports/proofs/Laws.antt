@@ -5,6 +5,7 @@ use mathlib.Core.Bool.{true, false, and-false}
 use mathlib.Core.List.{List}
 use borrow.Author.Tests.{le-leb, lt-leb}
 use lib.ListN.{length}
+use Rattle.table.specs.Table.{lent}
 use Rattle.label.specs.declared.Label.{Label}
 use Rattle.label_keys.specs.Keys.{withKeys}
 use Rattle.option_read.specs.declared.Reading.{Reading}
@@ -62,10 +63,10 @@ spells-whole own l out answer out′ answer′ s q h e o a =
     }
 
 -- the records that the sample's functions answer are the sample's
-pub sample-is : (a l : Port) (t : Table) (ls : List (List ℕ)) (facts : Facts) (area : List ℕ) (n : ℕ)
-    → a ≡ sample.arriving → l ≡ sample.leaving → t ≡ sample.table → ls ≡ sample.levels
-    → forwardingOf a l t ls facts area n ≡ sampleForwarding facts area n
-sample-is a l t ls facts area n ea el et els = rw (ea, el, et, els)
+pub sample-is : (a l : Port) (t : Table) (rows : List ℕ) (ls : List (List ℕ)) (facts : Facts) (area : List ℕ) (n : ℕ)
+    → a ≡ sample.arriving → l ≡ sample.leaving → t ≡ sample.head → rows ≡ sample.rows → ls ≡ sample.levels
+    → forwardingOf a l (lent t rows) ls facts area n ≡ sampleForwarding facts area n
+sample-is a l t rows ls facts area n ea el et er els = rw (ea, el, et, er, els)
 
 pub forwards-nothing : (f : Forwarding) (out answer runs : List ℕ) → roomy 8 answer runs ≡ false → Forwards f out answer runs out answer runs 1
 forwards-nothing f out answer runs h = record { number = rw h; numbers = rw h; keys = rw h; octets = rw h }

@@ -17,6 +17,7 @@ use option_spell::spell_label;
 use sample_records::arriving;
 use sample_records::leaving;
 use sample_records::levels;
+use sample_records::rows;
 use sample_records::table;
 
 // How many numbers an answer has.
@@ -103,7 +104,17 @@ pub extern "C" fn inglebreek_forward(
         fragment: fragment,
         source: source,
     };
-    let d = forward(arriving(), leaving(), table(), levels(), facts, area, out);
+    let lent = rows();
+    let d = forward(
+        arriving(),
+        leaving(),
+        table(),
+        &lent,
+        levels(),
+        facts,
+        area,
+        out,
+    );
     let label = d.label;
     let numbers = [
         d.number as u64,

@@ -15,7 +15,6 @@ use sample_records::leaving;
 use sample_records::levels;
 use sample_records::table;
 use sample_records::up_to;
-use table::Row;
 use table::Table;
 ghost use Prim.Native.Nat.{_≤_};
 
@@ -61,7 +60,7 @@ pub extern "C" fn time_spell(octets: &[u8], size: usize, out: &mut [u8], times: 
 
 // Forwards the areas of `size` octets that stand one after the other, `times` in all, from the first again after the last. The arriving port of
 // domain 5 takes the levels from `lower` to `upper` with the categories 0 to `high`; the leaving port is the sample's, and so is the table but
-// for its rows, which are lent: low, high and target of each, at most 64.
+// for its rows, which are lent: low, high and target of each.
 #[no_mangle]
 pub extern "C" fn time_forward(
     lower: u8,
@@ -76,7 +75,8 @@ pub extern "C" fn time_forward(
     forward_many(
         port_of(lower, upper, high),
         leaving(),
-        table_of(rows),
+        table_of(rows.len() / 3),
+        rows,
         area,
         size,
         out,
@@ -88,6 +88,7 @@ fn forward_many(
     arriving: Port,
     leaving: Port,
     table: Table,
+    rows: &[u16],
     area: &[u8],
     size: usize,
     out: &mut [u8],
@@ -115,6 +116,7 @@ fn forward_many(
             arriving,
             leaving,
             table,
+            rows,
             levels,
             facts,
             &area[at..end],
@@ -199,29 +201,12 @@ fn port_of(lower: u8, upper: u8, high: u16) -> Port {
 }
 
 // The sample's table with other rows.
-fn table_of(rows: &[u16]) -> Table {
-    let mut table = table();
-    let none = Row {
-        low: 0,
-        high: 0,
-        target: 0,
-    };
-    table.rows = [none; 64];
-    table.count = 0;
-    let n = rows.len() / 3;
-    let mut i: usize = 0;
-    while i < n {
-        if 64 <= i {
-            return table;
-        }
-        let at = i * 3;
-        table.rows[i] = Row {
-            low: rows[at],
-            high: rows[at + 1],
-            target: rows[at + 2],
-        };
-        i += 1;
-        table.count = i;
+fn table_of(count: usize) -> Table {
+    let sample = table();
+    Table {
+        from: sample.from,
+        to: sample.to,
+        pairs: sample.pairs,
+        count: count,
     }
-    table
 }

@@ -18,10 +18,9 @@ use Rattle.option_read.specs.Reading.{Check, check, notRead, checkedReading, fr
 use Rattle.option_form.specs.Spelled.{lacking}
 use Rattle.option_spell.specs.Spelling.{spellingNumber, spellingAnswer, spellingOut}
 use Rattle.option_spell.proofs.Answers.{answer-refused, out-refused}
-use Rattle.table.specs.declared.Table.{Table}
 use Rattle.table_levels.specs.declared.Partner.{Partner}
 use Rattle.table_levels.specs.declared.Partner.the-variants.{Level, Missing}
-use Rattle.table.specs.Table.{usedRows, tableSound}
+use Rattle.table.specs.Table.{Lent, usedRows, tableSound}
 use Rattle.table_levels.specs.Levels.{partnerOf, known}
 use Rattle.table.specs.Numbers.{numbered}
 use Rattle.renumber.specs.Renumber as renumbers
@@ -87,7 +86,7 @@ renumbered-by true true (Level v) false k to img n z e = ap renumbers.notRenumbe
 renumbered-by true true (Level v) true false to img n z e = ap renumbers.notRenumbered e
 renumbered-by true true (Level v) true true to img n z e = absurd (z (sym e))
 
-renumber : (l : Label) (t : Table) (ls : List (List ℕ)) (c : Check) → FirstCheck (renumberChecks l t ls) c → renumberedOf l t ls ≡ renumbers.notRenumbered (c .number)
+renumber : (l : Label) (t : Lent) (ls : List (List ℕ)) (c : Check) → FirstCheck (renumberChecks l t ls) c → renumberedOf l t ls ≡ renumbers.notRenumbered (c .number)
 unfolding renumberedOf
 renumber l t ls c f =
     renumbered-by (tableSound t ls && wellFormed l) (eqb (l .domain) (t .from)) (partnerOf (take (t .pairs) ls) (l .level)) (numbered (usedRows t) (used l))

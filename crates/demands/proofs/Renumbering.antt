@@ -13,10 +13,9 @@ use Rattle.label.specs.Label.{used, labelOf, wellFormed, member}
 use Rattle.label.proofs.Bools.{never, and-right, all-below, below-all, implies-yes, yes-implies}
 use Rattle.label.proofs.Runs.{covers-top}
 use Rattle.label.proofs.Labels.{formed}
-use Rattle.table.specs.declared.Table.{Table}
 use Rattle.table_levels.specs.declared.Partner.{Partner}
 use Rattle.table_levels.specs.declared.Partner.the-variants.{Level, Missing}
-use Rattle.table.specs.Table.{usedRows, tableSound}
+use Rattle.table.specs.Table.{Lent, usedRows, tableSound}
 use Rattle.table_levels.specs.Levels.{partnerOf}
 use Rattle.table.specs.Numbers.{hasNumber, numbered}
 use Rattle.renumber.specs.declared.Renumbered.{Renumbered}
@@ -25,7 +24,7 @@ use Rattle.renumber.proofs.Theorems.{renumbering}
 use Rattle.demands.specs.Alone.{Numbered, RenumberAlone}
 
 -- the test of the categories, over membership
-module _ (l : Label) (t : Table) (w : wellFormed l ≡ true) where
+module _ (l : Label) (t : Lent) (w : wellFormed l ≡ true) where
   pub whole-says : numbered (usedRows t) (used l) ≡ true → (c : ℕ) → member l c ≡ true → hasNumber (usedRows t) c ≡ true
   unfolding numbered member
   whole-says e c m =
@@ -39,7 +38,7 @@ module _ (l : Label) (t : Table) (w : wellFormed l ≡ true) where
       below-all 65535 (λ c. not (covers (used l) c) || hasNumber (usedRows t) c)
       (λ c k. yes-implies (covers (used l) c) (hasNumber (usedRows t) c) (λ e. h c (rw (w, e))))
 
-module _ (l : Label) (t : Table) (ls : List (List ℕ)) (s : tableSound t ls ≡ true) (w : wellFormed l ≡ true) where
+module _ (l : Label) (t : Lent) (ls : List (List ℕ)) (s : tableSound t ls ≡ true) (w : wellFormed l ≡ true) where
   -- the three ways it goes
   data Way : Type 0 where
     missing : (Numbered l t ls → ⊥) → renumberedOf l t ls ≡ notRenumbered 16 → Way

@@ -13,7 +13,7 @@ use Rattle.basic.specs.declared.Way.{Way}
 use Rattle.port.specs.declared.Port.{Port}
 use Rattle.port.specs.declared.Host.{Host}
 use Rattle.port.specs.Port.{plainPort}
-use Rattle.table.specs.declared.Table.{Table}
+use Rattle.table.specs.Table.{Lent}
 use Rattle.decision.specs.declared.Decision.{Decision}
 use Rattle.decision.specs.declared.Facts.{Facts}
 use Rattle.decision.specs.Decision.{silenced, noFact}
@@ -147,7 +147,7 @@ pub record Answer : Type 0 where
   pub output : List ℕ
   pub silentOutput : List ℕ
 
-abbrev pub unreadTable : Table
+abbrev pub unreadTable : Lent
 unreadTable = record { from = 0; to = 0; pairs = 0; count = 0; rows = [] }
 
 abbrev pub forwarding : Port → Port → ℕ → Facts → List ℕ → Forwarding

@@ -20,12 +20,11 @@ use Rattle.route.specs.Route.{routesOf, matches, longest}
 use Rattle.route.specs.Theorems.{Listed, Decides}
 use Rattle.route.proofs.Longest.{longest-match}
 use Rattle.route_ports.specs.Ports.{portAt, domainsOf}
-use Rattle.table_choose.specs.Tables.{usedTables}
+use Rattle.table_choose.specs.Tables.{usedTables, tablesFrom}
 use Rattle.table_choose.specs.Theorems.{NoneFor}
 use Rattle.table_choose.proofs.Theorems.{first-table}
-use Rattle.file_table.specs.declared.Renumbering.{Renumbering}
 use Rattle.label.proofs.Bools.{never}
-use Rattle.file_table.specs.TableFormat.{levelsOf}
+use Rattle.table.specs.Renumbering.{LentTable, lentOf, levelsOf}
 use Rattle.route_decide.specs.Routing.{Routing, boxSound, chosen, arrivingPort, pairBy, chosenPair, tableBetween, noRoute, routingChecks, routingOf, routedOutput}
 use Rattle.route_decide.proofs.Decides.{routes-of, records-none, routed-of, output-of, unrouted-of}
 use Rattle.demands_routed.proofs.Passing.{passes-of}
@@ -77,7 +76,7 @@ module _ (b c : Routing) (l : Label) (a : RoutedAlike b c l) where
 
   chosen-alike : chosen b ≡ chosen c
   unfolding chosen
-  chosen-alike = λ i. chosen (record { ports = a .ports i; tables = a .tables i; routes = a .routes i; arriving = a .arriving i; destination = a .destination i; facts = a .facts i; area = b .area; room = b .room })
+  chosen-alike = λ i. chosen (record { ports = a .ports i; tables = a .tables i; rows = a .rows i; routes = a .routes i; arriving = a .arriving i; destination = a .destination i; facts = a .facts i; area = b .area; room = b .room })
 
   pair-sized : (d : Routing) (r : Route) → sizes (chosenPair d) ≡ none → sizes (pairBy d r) ≡ none
   unfolding sizes
@@ -88,8 +87,8 @@ module _ (b c : Routing) (l : Label) (a : RoutedAlike b c l) where
       record {
         arriving = port-alike;
         leaving = λ i. portAt (a .ports i) (r .port);
-        table = λ i. tableBetween (a .tables i) (port-alike i) (portAt (a .ports i) (r .port)) .table;
-        levels = λ i. levelsOf (tableBetween (a .tables i) (port-alike i) (portAt (a .ports i) (r .port)));
+        table = λ i. lentOf (tableBetween (a .tables i) (a .rows i) (port-alike i) (portAt (a .ports i) (r .port)));
+        levels = λ i. levelsOf (tableBetween (a .tables i) (a .rows i) (port-alike i) (portAt (a .ports i) (r .port)) .item);
         facts = a .facts;
         kept = a .kept;
         sized = (pair-sized b r (a .sized .0), pair-sized c r (a .sized .1));
@@ -145,14 +144,14 @@ module _ (b : Routing) (e : boxSound b ≡ true) where
 
   tableless-is : (r : Route) → Decides (b .destination) (routesOf (b .routes)) r
       → (arrivingPort b .domain ≡ portAt (b .ports) (r .port) .domain → ⊥)
-      → NoneFor (arrivingPort b .domain) (portAt (b .ports) (r .port) .domain) (usedTables (b .tables))
+      → NoneFor (arrivingPort b .domain) (portAt (b .ports) (r .port) .domain) (tablesFrom (usedTables (b .tables)) (b .rows))
       → NoneApplies (beforeNumbers (pairBy b r))
       → routingOf b .number ≡ 16
   tableless-is r d apart without n =
       let from : ℕ = arrivingPort b .domain in
-      let t = first-table .missing from (portAt (b .ports) (r .port) .domain) (usedTables (b .tables)) without in
+      let t = first-table .missing from (portAt (b .ports) (r .port) .domain) (tablesFrom (usedTables (b .tables)) (b .rows)) without in
       ap (λ (z : Decision). z .number) (routed-of b e r (decides-chosen r d))
-      ∙ crosses .sixteen (pairBy b r) apart n .1 (λ v h. first-table .other from (sym (ap (λ (z : Renumbering). z .table .from) t) ∙ h .from))
+      ∙ crosses .sixteen (pairBy b r) apart n .1 (λ v h. first-table .other from (sym (ap (λ (z : LentTable). z .item .table .from) t) ∙ h .from))
 
 refused-first : (b : Routing) (x : Refusal) (out : List ℕ) → firstOf (routingChecks b) ≡ some x → (routingOf b ≡ refused (silenced (b .facts)) x) × (routedOutput b out ≡ out)
 unfolding routingOf routedOutput

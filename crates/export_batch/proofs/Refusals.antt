@@ -1,57 +1,50 @@
 -- A port of zeros is unsound, and an unsound port passes nothing.
-use mathlib.Core.Bool.{Bool, true, false, cond, not, _&&_, _||_, and-false, true≢false}
+use mathlib.Core.Bool.{Bool, true, false, cond, not, _&&_, _||_, true≢false}
 use mathlib.Core.List.{List, _∷_}
 use mathlib.Core.Option.{Option, some}
 use mathlib.Core.Path.{_≡_, refl, ap, _∙_}
 use Prim.Native.Nat.{ℕ, zero, suc}
 use native.Mathlib.Omega.{arith}
-use lib.Dec.{eqb, ltb}
-use lib.ListN.{length, getD, drop, replicate}
-use Rattle.file_format.specs.Format.{Found, got, bad, readAt}
+use lib.Dec.{ltb}
+use lib.ListN.{getD, drop, replicate}
 use Rattle.label.specs.declared.Label.{Label}
 use Rattle.port.specs.declared.Port.{Port}
 use Rattle.port.specs.Port.{portSound}
 use Rattle.table.specs.Table.{tableSound}
 use Rattle.file_set.specs.declared.Set.{Set}
-use Rattle.file_set.specs.Set.{noPort, emptySet}
-use Rattle.file_read.specs.File.{fileFormat, fileReading, fileAnswer, accepted, fileRefused, unknown}
+use Rattle.file_port.specs.PortFormat.{noPort}
+use Rattle.file_set.specs.Set.{tablesIn}
+use Rattle.file_read.proofs.Answers.{not-accepted}
+use Rattle.route_ports.specs.Ports.{unlistedPort, portAt}
 use Rattle.decision.specs.Decision.{Refusal, silenced, decided}
 use Rattle.area.specs.Area.{badArea}
 use Rattle.arrive.specs.Checks.{silent, when, firstOf}
 use Rattle.forward_rules.specs.Crossing.{Forwarding, sizes, records, sameDomain, crossing, leavingLabel}
 use Rattle.forward_rules.specs.Forward.{forwardOf, forwardChecks, leavingCount}
-use Rattle.export_batch.specs.Batch.{portAt, gatewayOf, forwardingIn}
-use Rattle.export_batch.specs.Theorems.{RefusedFile, NoArriving, NoLeaving}
+use Rattle.export_batch.specs.Batch.{between, forwardingIn}
+use Rattle.export_batch.specs.Theorems.{RefusedFile, NoPort}
 
 -- 1. A refused file.
 
-all-alike : {A : Type 0} (n i : ℕ) (d : A) → getD (replicate n d) i d ≡ d
-all-alike zero i d = refl
-all-alike (suc n) zero d = refl
-all-alike (suc n) (suc i) d = all-alike n i d
-
-none-read : (total : ℕ) (f : Found ((ℕ × ℕ) × Set)) → (fileAnswer total f .verdict ≡ 0 → ⊥) → fileAnswer total f .set ≡ emptySet
-unfolding fileAnswer
-none-read total (got v n) h = go (eqb n total) h
-  where
-    go : (t : Bool) → (cond t (accepted (v .1)) (fileRefused n) .verdict ≡ 0 → ⊥) → cond t (accepted (v .1)) (fileRefused n) .set ≡ emptySet
-    go true h = absurd (h refl)
-    go false h = refl
-none-read total (bad n) h = go (eqb n 2 && ltb 2 total)
-  where
-    go : (t : Bool) → cond t unknown (fileRefused n) .set ≡ emptySet
-    go true = refl
-    go false = refl
-
-pub refused-file : RefusedFile
-unfolding fileReading
-refused-file o h i = ap (λ (s : Set). portAt s i) (none-read (length o) (readAt (fileFormat (length o)) o 0) h) ∙ all-alike 16 i noPort
-
--- 2. An unsound port.
+all-alike : {A : Type 0} (n i : ℕ) (d e : A) → (P : A → Type 0) → P d → P e → P (getD (replicate n d) i e)
+all-alike zero i d e P p q = q
+all-alike (suc n) zero d e P p q = p
+all-alike (suc n) (suc i) d e P p q = all-alike n i d e P p q
 
 unsound : portSound noPort ≡ false
 unfolding portSound
 unsound = refl
+
+unlisted : portSound unlistedPort ≡ false
+unfolding portSound
+unlisted = refl
+
+pub refused-file : RefusedFile
+unfolding portAt
+refused-file o room h i =
+    ap (λ (s : Set). portSound (getD (s .ports) i unlistedPort)) (not-accepted o room h) ∙ all-alike 16 i noPort unlistedPort (λ (p : Port). portSound p ≡ false) unsound unlisted
+
+-- 2. An unsound port.
 
 number-of : (quiet : Bool) (first rest : Option Refusal) (others : List (Option Refusal)) (l : Label) (n : ℕ) (t : Bool)
     → first ≡ when t (silent 1) → rest ≡ some (silent 2) → decided quiet (firstOf (first ∷ rest ∷ others)) l n .number ≡ 0 → ⊥
@@ -82,8 +75,9 @@ nothing f e h =
     by true false c e = refl
     by false b c e = refl
 
-pub no-arriving : NoArriving
-no-arriving s a l e r = nothing (forwardingIn (gatewayOf s a l) r) (ap (λ (p : Port). portSound p && portSound (portAt s l)) e ∙ rw unsound)
-
-pub no-leaving : NoLeaving
-no-leaving s a l e r = nothing (forwardingIn (gatewayOf s a l) r) (ap (λ (p : Port). portSound (portAt s a) && portSound p) e ∙ rw (unsound, and-false))
+pub no-port : NoPort
+no-port s ns a l e r = go (ltb a 16 && ltb l 16)
+  where
+    go : (t : Bool) → forwardOf (forwardingIn (cond t (between (portAt (s .ports) a) (portAt (s .ports) l) (tablesIn s) ns) (between unlistedPort unlistedPort (tablesIn s) ns)) r) .number ≡ 0 → ⊥
+    go true h = nothing (forwardingIn (between (portAt (s .ports) a) (portAt (s .ports) l) (tablesIn s) ns) r) e h
+    go false h = nothing (forwardingIn (between unlistedPort unlistedPort (tablesIn s) ns) r) (rw unlisted) h

@@ -1,24 +1,28 @@
 -- Records and slots: one datagram's slot, a turn of the loop over all, and the records picked from a file's set.
 use mathlib.Core.Path.{_≡_, refl, sym, _∙_, ap}
-use mathlib.Core.Bool.{Bool, true, false, cond}
+use mathlib.Core.Bool.{Bool, true, false, cond, _&&_}
 use mathlib.Core.List.{List, [], _∷_, _++_, append-assoc, append-nil}
 use Prim.Native.Nat.{ℕ, zero, suc, _+_, _-_, _<_, _≤_}
 use native.Mathlib.Omega.{arith}
 use native.Mathlib.Nat.{not-suc-le-zero, le-of-suc-le-suc}
 use native.Mathlib.Numerals.{add-one}
-use lib.Dec.{leb}
+use lib.Dec.{leb, ltb}
 use borrow.Author.Tests.{leb-true, leb-false}
-use lib.ListN.{length, getD, take, drop, length-drop, length-append, take-append-drop, drop-of-length-le}
+use lib.ListN.{length, getD, take, drop, replicate, length-replicate, length-drop, length-append, take-append-drop, drop-of-length-le}
 use lib.Seq.{take-all, take-at, drop-at, drop-drop, drop-cons, length-take-le}
 use Rattle.decision.specs.declared.Decision.{Decision}
 use Rattle.forward_rules.specs.Crossing.{Forwarding}
 use Rattle.forward_rules.specs.Forward.{forwardOf, outputOf}
 use Rattle.forward_rules.specs.Forward.{forwardingOf}
 use Rattle.port.specs.declared.Port.{Port}
-use Rattle.file_table.specs.declared.Renumbering.{Renumbering}
-use Rattle.file_table.specs.TableFormat.{levelsOf}
-use Rattle.file_set.specs.declared.Set.{Set}
-use Rattle.export_batch.specs.Batch.{Gateway, portAt, missing, isFor, gatewayOf, firstFor, factsIn, areaIn, withHead, forwardingIn, slotOf, batchOf}
+use Rattle.table.specs.Renumbering.{LentTable, lentOf, levelsOf}
+use Rattle.table_choose.specs.declared.Tables.{Tables}
+use Rattle.table_choose.specs.Tables.{usedTables, tablesFrom, firstTable}
+use Rattle.file_set.specs.Set.{tablesIn}
+use Rattle.file_read.specs.declared.FileRead.{FileRead}
+use Rattle.file_read.specs.File.{fileReading, fileRoom}
+use Rattle.route_ports.specs.Ports.{unlistedPort, portAt}
+use Rattle.export_batch.specs.Batch.{Gateway, gatewayBy, between, setRead, rowsRead, gatewayOf, factsIn, areaIn, withHead, forwardingIn, slotOf, batchOf}
 
 -- 1. What is picked.
 
@@ -28,30 +32,35 @@ inside [] i d e h = absurd (not-suc-le-zero h)
 inside (x ∷ xs) zero d e h = refl
 inside (x ∷ xs) (suc i) d e h = inside xs i d e (le-of-suc-le-suc h)
 
-pub past : {A : Type 0} (xs : List A) (i : ℕ) (d : A) → length xs ≤ i → getD xs i d ≡ d
-past [] i d h = refl
-past (x ∷ xs) zero d h = absurd (not-suc-le-zero h)
-past (x ∷ xs) (suc i) d h = past xs i d (le-of-suc-le-suc h)
-
--- the first table of those that are left is the first of all
-module _ (from to : ℕ) (l : List Renumbering) (i : ℕ) (d : Renumbering) (so-far : firstFor from to l ≡ firstFor from to (drop i l)) where
-  turns : i < length l → firstFor from to l ≡ cond (isFor from to (getD l i d)) (getD l i d) (firstFor from to (drop (i + 1) l))
-  turns h = so-far ∙ rw (drop-cons l i d h, add-one i)
-
-  pub found : i < length l → isFor from to (getD l i d) ≡ true → getD l i d ≡ firstFor from to l
-  found h e = sym (turns h ∙ rw e)
-
-  pub goes : i < length l → isFor from to (getD l i d) ≡ false → firstFor from to l ≡ firstFor from to (drop (i + 1) l)
-  goes h e = turns h ∙ rw e
-
-  pub none-left : length l ≤ i → missing from to ≡ firstFor from to l
-  none-left h = sym (so-far ∙ ap (firstFor from to) (drop-of-length-le l h))
-
 -- the records that were picked are the gateway's
-pub gateway-is : (s s′ : Set) (a l : ℕ) (p q : Port) (r : Renumbering) (ls : List (List ℕ)) → s ≡ s′ → p ≡ portAt s a → q ≡ portAt s l
-    → r ≡ firstFor (p .domain) (q .domain) (s .tables) → ls ≡ levelsOf r
-    → record { arriving = p; leaving = q; table = r .table; levels = ls } ≡ gatewayOf s′ a l
-gateway-is s s′ a l p q r ls es ep eq er els = rw (els, er, ep, eq, es)
+pub gateway-found : (a l : Port) (ts : Tables) (ns : List ℕ) (x : LentTable) (ls : List (List ℕ)) → x ≡ firstTable (a .domain) (l .domain) (tablesFrom (usedTables ts) ns) → ls ≡ levelsOf (x .item)
+    → record { arriving = a; leaving = l; table = lentOf x; levels = ls } ≡ between a l ts ns
+gateway-found a l ts ns x ls e f =
+    ap (λ (z : List (List ℕ)). record { arriving = a; leaving = l; table = lentOf x; levels = z }) f ∙ ap (gatewayBy a l) e
+
+-- what was read of a file, into room for all rows that a sound one may have
+module _ (o : List ℕ) (f : FileRead) (rows : List ℕ) (e : f ≡ fileReading o (length (replicate {A = ℕ} 24576 0))) (er : rows ≡ fileRoom o (replicate 24576 0)) where
+  read : f ≡ fileReading o 24576
+  read = e ∙ ap (fileReading o) (length-replicate {A = ℕ} 24576 0)
+
+  rows-lent : take (f .used) rows ≡ rowsRead o
+  rows-lent = λ i. take (read i .used) (er i)
+
+  abbrev by-numbers : (t : Bool) (a l : ℕ) → Gateway
+  by-numbers t a l =
+      cond t (between (portAt (setRead o .ports) a) (portAt (setRead o .ports) l) (tablesIn (setRead o)) (rowsRead o))
+      (between unlistedPort unlistedPort (tablesIn (setRead o)) (rowsRead o))
+
+  module _ (a l : ℕ) where
+    pub both-there : (p q : Port) → (ltb a 16 && ltb l 16) ≡ true → p ≡ portAt (f .set .ports) a → q ≡ portAt (f .set .ports) l
+        → between p q (tablesIn (f .set)) (take (f .used) rows) ≡ gatewayOf (setRead o) (rowsRead o) a l
+    both-there p q t ep eq =
+        (λ i. between (ep i) (eq i) (tablesIn (f .set)) (rows-lent i))
+        ∙ (λ i. between (portAt (read i .set .ports) a) (portAt (read i .set .ports) l) (tablesIn (read i .set)) (rowsRead o))
+        ∙ ap (λ (b : Bool). by-numbers b a l) (sym t)
+
+    pub none-there : (p : Port) → (ltb a 16 && ltb l 16) ≡ false → p ≡ unlistedPort → between p p (tablesIn (f .set)) (take (f .used) rows) ≡ gatewayOf (setRead o) (rowsRead o) a l
+    none-there p t ep = (λ i. between (ep i) (ep i) (tablesIn (read i .set)) (rows-lent i)) ∙ ap (λ (b : Bool). by-numbers b a l) (sym t)
 
 pub batch-is : (g g′ : Gateway) (n m : ℕ) (ins outs w : List ℕ) → g ≡ g′ → n ≡ m → w ≡ batchOf g n ins outs → w ≡ batchOf g′ m ins outs
 batch-is g g′ n m ins outs w eg en e = e ∙ rw (eg, en)

@@ -1,15 +1,18 @@
 -- Many datagrams in one call, through two ports of a gateway file. A record and a slot have 64 octets each; slot i is what record i is answered by.
 use Prim.Native.Nat.{ℕ, zero, suc, _/_, _%_}
 use mathlib.Core.Bool.{Bool, cond, not, _&&_}
-use mathlib.Core.List.{List, [], _∷_, _++_}
+use mathlib.Core.List.{List, _++_}
 use lib.Dec.{eqb, ltb}
-use lib.ListN.{getD, set, take, drop}
+use lib.ListN.{getD, set, take, drop, replicate}
 use Rattle.port.specs.declared.Port.{Port}
-use Rattle.table.specs.declared.Table.{Table}
-use Rattle.file_table.specs.declared.Renumbering.{Renumbering}
-use Rattle.file_table.specs.TableFormat.{noTable, levelsOf}
+use Rattle.table.specs.Table.{Lent}
+use Rattle.table.specs.Renumbering.{LentTable, lentOf, levelsOf}
+use Rattle.table_choose.specs.declared.Tables.{Tables}
+use Rattle.table_choose.specs.Tables.{usedTables, tablesFrom, firstTable}
 use Rattle.file_set.specs.declared.Set.{Set}
-use Rattle.file_set.specs.Set.{noPort}
+use Rattle.file_set.specs.Set.{tablesIn}
+use Rattle.file_read.specs.File.{fileReading, fileRoom}
+use Rattle.route_ports.specs.Ports.{unlistedPort, portAt}
 use Rattle.decision.specs.declared.Decision.{Decision}
 use Rattle.decision.specs.declared.Facts.{Facts}
 use Rattle.forward_rules.specs.Crossing.{Forwarding}
@@ -18,35 +21,32 @@ use Rattle.forward_rules.specs.Forward.{forwardOf, outputOf}
 
 -- 1. The records that decide.
 
--- two ports, and a table with its level pairs
+-- two ports, and a table with its rows and its level pairs
 pub record Gateway : Type 0 where
   pub arriving : Port
   pub leaving : Port
-  pub table : Table
+  pub table : Lent
   pub levels : List (List ℕ)
 
--- the port of a number. Where the file has none of that number, or is refused, it is the port of zeros: that is unsound, and so the number is 2
-abbrev pub portAt : Set → ℕ → Port
-portAt s i = getD (s .ports) i noPort
+abbrev pub gatewayBy : Port → Port → LentTable → Gateway
+gatewayBy a l x = record { arriving = a; leaving = l; table = lentOf x; levels = levelsOf (x .item) }
 
--- no table for the two domains: one without pairs and rows, and for others, so that the number is 16 where a table is asked
-abbrev pub missing : ℕ → ℕ → Renumbering
-missing from to = record { table = record { from = to; to = from; pairs = 0; count = 0; rows = noTable .table .rows }; levels = noTable .levels }
+-- between two ports the first table for their two domains
+abbrev pub between : Port → Port → Tables → List ℕ → Gateway
+between a l ts ns = gatewayBy a l (firstTable (a .domain) (l .domain) (tablesFrom (usedTables ts) ns))
 
-abbrev pub isFor : ℕ → ℕ → Renumbering → Bool
-isFor from to r = eqb (r .table .from) from && eqb (r .table .to) to
+-- from one port of a set to another, by their numbers, with the rows of its tables. Where the set has no place of a number, both are the port that stands for none: that is
+-- unsound, and so the number is 2; a place that is not used, and every place of a refused file, holds the port of zeros, which is unsound too
+abbrev pub gatewayOf : Set → List ℕ → ℕ → ℕ → Gateway
+gatewayOf s ns a l =
+    cond (ltb a 16 && ltb l 16) (between (portAt (s .ports) a) (portAt (s .ports) l) (tablesIn s) ns) (between unlistedPort unlistedPort (tablesIn s) ns)
 
--- the first table for the two domains
-abbrev pub firstFor : ℕ → ℕ → List Renumbering → Renumbering
-firstFor from to [] = missing from to
-firstFor from to (r ∷ rs) = cond (isFor from to r) r (firstFor from to rs)
+-- a file is read with room for 24,576 numbers, as many as the rows of a sound one may have: its set, and its rows
+abbrev pub setRead : List ℕ → Set
+setRead o = fileReading o 24576 .set
 
-abbrev pub gatewayBy : Port → Port → Renumbering → Gateway
-gatewayBy a l r = record { arriving = a; leaving = l; table = r .table; levels = levelsOf r }
-
--- from one port of a set to another, by their numbers
-abbrev pub gatewayOf : Set → ℕ → ℕ → Gateway
-gatewayOf s a l = gatewayBy (portAt s a) (portAt s l) (firstFor (portAt s a .domain) (portAt s l .domain) (s .tables))
+abbrev pub rowsRead : List ℕ → List ℕ
+rowsRead o = take (fileReading o 24576 .used) (fileRoom o (replicate 24576 0))
 
 -- 2. One datagram. Its record: the five facts in octets 0 to 4 (0 or not), the area's length in octet 5, the area from octet 8 on.
 

@@ -1,20 +1,20 @@
 -- Where the file is refused, or has no port of a number that is asked, nothing passes.
+use mathlib.Core.Bool.{true, false, _&&_}
 use mathlib.Core.List.{List}
 use mathlib.Core.Path.{_≡_}
 use Prim.Native.Nat.{ℕ}
+use Rattle.port.specs.Port.{portSound}
 use Rattle.file_set.specs.declared.Set.{Set}
-use Rattle.file_set.specs.Set.{noPort}
 use Rattle.file_read.specs.File.{fileReading}
 use Rattle.forward_rules.specs.Forward.{forwardOf}
-use Rattle.export_batch.specs.Batch.{portAt, gatewayOf, forwardingIn}
+use Rattle.route_ports.specs.Ports.{portAt}
+use Rattle.export_batch.specs.Batch.{gatewayOf, forwardingIn}
 
--- a refused file has no port of any number
+-- a refused file has no sound port of any number
 abbrev pub RefusedFile : Type 0
-RefusedFile = (o : List ℕ) → (fileReading o .verdict ≡ 0 → ⊥) → (i : ℕ) → portAt (fileReading o .set) i ≡ noPort
+RefusedFile = (o : List ℕ) (room : ℕ) → (fileReading o room .verdict ≡ 0 → ⊥) → (i : ℕ) → portSound (portAt (fileReading o room .set .ports) i) ≡ false
 
--- without an arriving or a leaving port no datagram is forwarded
-abbrev pub NoArriving : Type 0
-NoArriving = (s : Set) (a l : ℕ) → portAt s a ≡ noPort → (r : List ℕ) → forwardOf (forwardingIn (gatewayOf s a l) r) .number ≡ 0 → ⊥
-
-abbrev pub NoLeaving : Type 0
-NoLeaving = (s : Set) (a l : ℕ) → portAt s l ≡ noPort → (r : List ℕ) → forwardOf (forwardingIn (gatewayOf s a l) r) .number ≡ 0 → ⊥
+-- without an arriving or a leaving port that is sound no datagram is forwarded
+abbrev pub NoPort : Type 0
+NoPort = (s : Set) (ns : List ℕ) (a l : ℕ) → (portSound (portAt (s .ports) a) && portSound (portAt (s .ports) l)) ≡ false → (r : List ℕ)
+    → forwardOf (forwardingIn (gatewayOf s ns a l) r) .number ≡ 0 → ⊥

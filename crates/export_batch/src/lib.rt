@@ -4,23 +4,29 @@
 // number has 64 octets: number, type, code, pointer and count, and from octet 24 on the leaving area.
 ghost use mathlib.Core.Path.{_≡_};
 ghost use Prim.Native.Nat.{_≤_, _*_};
-ghost use lib.ListN.{length, getD};
-ghost use Rattle.file_read.specs.File.{fileReading};
-ghost use Rattle.file_set.specs.Set.{noPort};
-ghost use Rattle.export_batch.specs.Batch.{missing, firstFor, gatewayOf, slotCount, withHead, slotOf, batchOf};
+ghost use lib.ListN.{length};
+ghost use Rattle.table.specs.Table.{lent};
+ghost use Rattle.export_batch.specs.Batch.{between, setRead, rowsRead, gatewayOf, slotCount, withHead, slotOf, batchOf};
 use decision::Decision;
 use decision::Facts;
 use file_read::read_file;
-use file_set::empty_port;
-use file_set::empty_table;
-use file_set::levels_of;
-use file_table::Renumbering;
+use file_set::MAX_PORTS;
 use forward::forward;
 use port::Port;
+use route_ports::no_port;
+use table::MAX_ROWS;
 use table::Table;
+use table::levels_of;
+use table_choose::MAX_TABLES;
+use table_choose::Tables;
+use table_choose::first_table;
+use table_levels::Levels;
 
 // How many octets a record has, and a slot.
 const SLOT: usize = 64;
+
+// How many numbers the rows of all tables have at most: with so many no sound file is refused for want of room.
+const ROOM: usize = MAX_TABLES * MAX_ROWS * 3;
 
 // Forwards every whole record of `input` that has a slot in `output`, from one port of the file to another, by the first table for their two domains. Answers how many.
 #[no_mangle]
@@ -32,65 +38,56 @@ pub extern "C" fn inglebreek_forward_batch(
     output: &mut [u8],
 ) -> usize
     ensures { λ r. ⌜ r ≡ slotCount (length (now (input .entry))) (length (now (output .entry))) ⌝ }
-    ensures { λ _. ⌜ now (output .exit) ≡ batchOf (gatewayOf (fileReading (now (file .entry)) .set) arriving leaving) (slotCount (length (now (input .entry))) (length (now (output .entry)))) (now (input .entry)) (now (output .entry)) ⌝ }
+    ensures { λ _. ⌜ now (output .exit) ≡ batchOf (gatewayOf (setRead (now (file .entry))) (rowsRead (now (file .entry))) arriving leaving) (slotCount (length (now (input .entry))) (length (now (output .entry)))) (now (input .entry)) (now (output .entry)) ⌝ }
 {
-    let read = read_file(file);
+    let mut rows = [0u16; ROOM];
+    let read = read_file(file, &mut rows);
     let set = read.set;
-    let ports = set.ports;
-    let tables = set.tables;
-    let from = pick_port(ports, arriving);
-    let to = pick_port(ports, leaving);
-    let chosen = choose_table(tables, from.domain, to.domain);
-    let table = chosen.table;
+    let used = read.used;
+    let kept = set.tables;
+    let tables = Tables {
+        count: set.tablecount,
+        items: kept,
+    };
     let n = count_slots(input.len(), output.len());
-    forward_each(from, to, table, levels_of(chosen), n, input, output);
+    if (arriving < MAX_PORTS) & (leaving < MAX_PORTS) {
+        let from = set.ports[arriving];
+        let to = set.ports[leaving];
+        forward_between(from, to, tables, &rows[..used], n, input, output);
+        return n;
+    }
+    let none = no_port();
+    forward_between(none, none, tables, &rows[..used], n, input, output);
     n
 }
 
-// The port of a number; past the last place, the port of zeros, which is unsound.
-fn pick_port(ports: [Port; 16], i: usize) -> Port
-    ensures { λ r. ⌜ r ≡ getD ports i noPort ⌝ }
+// Decides the first n records from one port to another, by the first table for their two domains.
+fn forward_between(
+    from: Port,
+    to: Port,
+    tables: Tables,
+    rows: &[u16],
+    n: usize,
+    input: &[u8],
+    output: &mut [u8],
+)
+    requires { ⌜ (n * 64 ≤ length (now input)) × (n * 64 ≤ length (now output)) ⌝ }
+    ensures { λ _. ⌜ now (output .exit) ≡ batchOf (between from to tables (now (rows .entry))) n (now (input .entry)) (now (output .entry)) ⌝ }
 {
-    if i < 16 {
-        return ports[i];
-    }
-    empty_port()
-}
-
-// A table for other domains: with it a label has no number (16) where one is asked for.
-fn missing_table(from: u32, to: u32) -> Renumbering
-    ensures { λ r. ⌜ r ≡ missing from to ⌝ }
-{
-    let none = empty_table();
-    let empty = none.table;
-    let rows = empty.rows;
-    let levels = none.levels;
-    Renumbering {
-        table: Table {
-            from: to,
-            to: from,
-            pairs: 0,
-            count: 0,
-            rows: rows,
-        },
-        levels: levels,
-    }
-}
-
-// The first table for the two domains.
-fn choose_table(tables: [Renumbering; 8], from: u32, to: u32) -> Renumbering
-    ensures { λ r. ⌜ r ≡ firstFor from to tables ⌝ }
-{
-    let mut i: usize = 0;
-    while i < 8 {
-        let renumbering = tables[i];
-        let table = renumbering.table;
-        if (table.from == from) & (table.to == to) {
-            return renumbering;
-        }
-        i += 1;
-    }
-    missing_table(from, to)
+    let found = first_table(tables, rows, from.domain, to.domain);
+    let item = found.item;
+    let at = found.at;
+    let end = found.end;
+    forward_each(
+        from,
+        to,
+        item.table,
+        &rows[at..end],
+        levels_of(item),
+        n,
+        input,
+        output,
+    );
 }
 
 // How many whole records there are, each with its slot.
@@ -108,13 +105,14 @@ fn forward_each(
     arriving: Port,
     leaving: Port,
     table: Table,
-    levels: [[u8; 2]; 16],
+    rows: &[u16],
+    levels: Levels,
     n: usize,
     input: &[u8],
     output: &mut [u8],
 )
     requires { ⌜ (n * 64 ≤ length (now input)) × (n * 64 ≤ length (now output)) ⌝ }
-    ensures { λ _. ⌜ now (output .exit) ≡ batchOf (record { arriving = arriving; leaving = leaving; table = table; levels = levels }) n (now (input .entry)) (now (output .entry)) ⌝ }
+    ensures { λ _. ⌜ now (output .exit) ≡ batchOf (record { arriving = arriving; leaving = leaving; table = lent table (now (rows .entry)); levels = levels }) n (now (input .entry)) (now (output .entry)) ⌝ }
 {
     let mut at: usize = 0;
     let mut i: usize = 0;
@@ -124,6 +122,7 @@ fn forward_each(
             arriving,
             leaving,
             table,
+            rows,
             levels,
             &input[at..end],
             &mut output[at..end],
@@ -138,12 +137,13 @@ fn forward_one(
     arriving: Port,
     leaving: Port,
     table: Table,
-    levels: [[u8; 2]; 16],
+    rows: &[u16],
+    levels: Levels,
     datagram: &[u8],
     slot: &mut [u8],
 )
     requires { ⌜ (length (now datagram) ≡ 64) × (length (now slot) ≡ 64) ⌝ }
-    ensures { λ _. ⌜ (now (slot .exit) ≡ slotOf (record { arriving = arriving; leaving = leaving; table = table; levels = levels }) (now (datagram .entry)) (now (slot .entry))) × (length (now (slot .exit)) ≡ 64) ⌝ }
+    ensures { λ _. ⌜ (now (slot .exit) ≡ slotOf (record { arriving = arriving; leaving = leaving; table = lent table (now (rows .entry)); levels = levels }) (now (datagram .entry)) (now (slot .entry))) × (length (now (slot .exit)) ≡ 64) ⌝ }
 {
     let facts = Facts {
         error: datagram[0] != 0,
@@ -157,6 +157,7 @@ fn forward_one(
         arriving,
         leaving,
         table,
+        rows,
         levels,
         facts,
         &datagram[8..end],

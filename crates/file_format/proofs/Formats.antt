@@ -2,13 +2,13 @@
 use mathlib.Core.Bool.{Bool, true, false, cond}
 use mathlib.Core.List.{List, [], _∷_, _++_}
 use mathlib.Core.Path.{_≡_, refl, sym, ap, subst, _∙_}
-use Prim.Native.Nat.{ℕ, zero, suc, _+_, _≤_, _<_}
+use Prim.Native.Nat.{ℕ, zero, suc, _+_, _*_, _/_, _%_, _≤_, _<_}
 use native.Mathlib.Omega.{arith}
 use native.Mathlib.Nat.{add-zero}
 use lib.Dec.{eqb}
 use lib.ListN.{length, length-append}
 use borrow.Author.Tests.{eq-eqb, ne-eqb}
-use Rattle.file_format.specs.Format.{Width, one, two, four, size, Format, number, flag, _then_, _such_, fields, many, counted, digits, inTurn, bit, octets, Found, got, bad, after, numberAt, manyAt, readAt, room, Each, Sound}
+use Rattle.file_format.specs.Format.{Width, one, two, four, size, Format, number, flag, marks, _then_, _such_, fields, many, counted, digits, inTurn, bit, sumOf, marksOf, octets, Found, got, bad, after, numberAt, manyAt, readAt, room, Each, Sound}
 use Rattle.file_format.specs.Laws.{Octets, Stands, Printed}
 use Rattle.file_format.proofs.Numbers.{stands-append, stands-left, stands-right, size-some, number-back, NumberRead, number-only}
 
@@ -87,12 +87,65 @@ eqb-bit zero h = refl
 eqb-bit (suc zero) h = refl
 eqb-bit (suc (suc x)) h = absurd (omega arith)
 
+-- Marks.
+
+sum-marks : (m : Bool × (Bool × (Bool × Bool))) → marksOf (sumOf m) ≡ m
+sum-marks m = go (m .0) (m .1 .0) (m .1 .1 .0) (m .1 .1 .1)
+  where
+    go : (a b c d : Bool) → marksOf (sumOf (a, (b, (c, d)))) ≡ (a, (b, (c, d)))
+    go true true true true = refl
+    go true true true false = refl
+    go true true false true = refl
+    go true true false false = refl
+    go true false true true = refl
+    go true false true false = refl
+    go true false false true = refl
+    go true false false false = refl
+    go false true true true = refl
+    go false true true false = refl
+    go false true false true = refl
+    go false true false false = refl
+    go false false true true = refl
+    go false false true false = refl
+    go false false false true = refl
+    go false false false false = refl
+
+pub sum-small : (m : Bool × (Bool × (Bool × Bool))) → sumOf m ≤ 15
+sum-small m = omega (arith, bit-small (m .0), bit-small (m .1 .0), bit-small (m .1 .1 .0), bit-small (m .1 .1 .1))
+
+marks-sum : (x : ℕ) → x ≤ 15 → sumOf (marksOf x) ≡ x
+marks-sum x h =
+    let a = eqb-bit (x % 2) (omega arith) in
+    let b = eqb-bit (x / 2 % 2) (omega arith) in
+    let c = eqb-bit (x / 2 / 2 % 2) (omega arith) in
+    let d = eqb-bit (x / 2 / 2 / 2 % 2) (omega arith) in
+    let p : x % 2 + x / 2 * 2 ≡ x = halves x in
+    let q : x / 2 % 2 + x / 2 / 2 * 2 ≡ x / 2 = halves (x / 2) in
+    let r : x / 2 / 2 % 2 + x / 2 / 2 / 2 * 2 ≡ x / 2 / 2 = halves (x / 2 / 2) in
+    let t : x / 2 / 2 / 2 ≤ 1 = last in
+    let u : x / 2 / 2 / 2 % 2 ≡ x / 2 / 2 / 2 = small (x / 2 / 2 / 2) t in
+    rw (a, b, c, d) (omega (arith, p, q, r, u))
+  where
+    halves : (y : ℕ) → y % 2 + y / 2 * 2 ≡ y
+    halves y = omega arith
+
+    small : (y : ℕ) → y ≤ 1 → y % 2 ≡ y
+    small y h = omega arith
+
+    last : x / 2 / 2 / 2 ≤ 1
+    last =
+        let p : x / 2 ≤ 7 = omega arith in
+        let q : x / 2 / 2 ≤ 3 = omega (arith, p) in
+        omega (arith, q)
+
 -- What was printed is read back.
 pub read-back : {A : Type 0} (f : Format A) (s : List ℕ) (at : ℕ) (a : A) → Sound f a → Stands (octets f a) at s → readAt f s at ≡ got a (at + length (octets f a))
 unfolding octets readAt Sound
 read-back (number w least most) s at x h p = number-back (size w) least most s at x (size-some w) (h .0) (h .1) (h .2) p
 read-back flag s at b h p =
     rw (number-back 1 0 1 s at (bit b) (omega arith) (omega arith) (bit-small b) (omega (arith, bit-small b)) p, bit-eqb b)
+read-back marks s at m h p =
+    rw (number-back 1 0 15 s at (sumOf m) (omega arith) (omega arith) (sum-small m) (omega (arith, sum-small m)) p, sum-marks m)
 read-back (f then g) s at q h p =
     let xs : List ℕ = octets f (q .0) in
     let ys : List ℕ = octets (g (q .0)) (q .1) in
@@ -160,6 +213,14 @@ flag-printed s at b n x m e p =
     let back : bit (eqb x 1) ≡ x = eqb-bit x (p .most-is) in
     rw (← eb, ← en) (record { sound = tt; stands = rw back (p .stands); place = p .place })
 
+marks-printed : (s : List ℕ) (at : ℕ) (v : Bool × (Bool × (Bool × Bool))) (n x m : ℕ) → got (marksOf x) m ≡ got v n → NumberRead 1 0 15 s at x m → Printed marks s at v n
+unfolding octets Sound
+marks-printed s at v n x m e p =
+    let ev : marksOf x ≡ v = cc in
+    let en : m ≡ n = cc in
+    let back : sumOf (marksOf x) ≡ x = marks-sum x (p .most-is) in
+    rw (← ev, ← en) (record { sound = tt; stands = rw back (p .stands); place = p .place })
+
 module _ {A S : Type 0} (f : S → Format A) (next : S → A → S) (s : List ℕ) where
   abbrev ListedBy : S → ℕ → List A → ℕ → ℕ → Type 0
   ListedBy = Listed (λ st a. octets (f st) a) (λ st k. readAt (f st) s k) (λ st a. Sound (f st) a) next s
@@ -190,6 +251,9 @@ only-printed (number w least most) s o at x n e = number-printed w least most s 
 only-printed flag s o at b n e =
     let c = came (numberAt 1 0 1 s at) (λ x k. got (eqb x 1) k) b n e in
     flag-printed s at b n (c .value) (c .place) (c .rest) (number-only 1 0 1 s at (c .value) o (c .place) (c .first))
+only-printed marks s o at v n e =
+    let c = came (numberAt 1 0 15 s at) (λ x k. got (marksOf x) k) v n e in
+    marks-printed s at v n (c .value) (c .place) (c .rest) (number-only 1 0 15 s at (c .value) o (c .place) (c .first))
 only-printed (f then g) s o at q n e =
     let c = came (readAt f s at) (λ a m. after (readAt (g a) s m) (λ b k. got (a, b) k)) q n e in
     let d = came (readAt (g (c .value)) s (c .place)) (λ b k. got (c .value, b) k) q n (c .rest) in

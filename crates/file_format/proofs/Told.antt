@@ -6,7 +6,7 @@ use Prim.Native.Nat.{ℕ, zero}
 use lib.Dec.{eqb}
 use borrow.Author.Tests.{not-true, not-false}
 use native.Mathlib.Omega.{arith}
-use Rattle.file_format.specs.Format.{Width, one, size, Found, got, bad, after, told, Format, number, flag, _then_, _such_, fields, many, counted, numberAt, manyAt, readAt, Reads, Judges}
+use Rattle.file_format.specs.Format.{Width, one, size, Found, got, bad, after, told, Format, number, flag, marks, marksOf, _then_, _such_, fields, many, counted, numberAt, manyAt, readAt, Reads, Judges}
 
 -- what was passed on as bad was bad, at the same place
 passed : {A : Type 0} (n m : ℕ) (ok : Bool) (a : A) → bad n ≡ told ok a m → (ok ≡ false) × (n ≡ m)
@@ -81,6 +81,32 @@ flag-told {s} {ok} {ok₁} {at} {at₁} {x} e q = record { reads = rw (← q) (g
     go : (k : Bool) → cond k (numberAt 1 0 1 s at) (bad at) ≡ told ok₁ x at₁ → cond k (after (numberAt 1 0 1 s at) (λ y n. got (eqb y 1) n)) (bad at) ≡ told ok₁ (eqb x 1) at₁
     go true h = rw h (mapped (λ y. eqb y 1) ok₁ x at₁)
     go false h = bad-told at at₁ ok₁ x (eqb x 1) h
+
+pub marks-told : {s : List ℕ} {ok ok₁ : Bool} {at at₁ x : ℕ} {m : Bool × (Bool × (Bool × Bool))} → Reads (number one 0 15) s ok at ok₁ x at₁ → marksOf x ≡ m → Reads marks s ok at ok₁ m at₁
+unfolding readAt
+marks-told {s} {ok} {ok₁} {at} {at₁} {x} e q = record { reads = rw (← q) (go ok (e .reads)) }
+  where
+    go : (k : Bool) → cond k (numberAt 1 0 15 s at) (bad at) ≡ told ok₁ x at₁ → cond k (after (numberAt 1 0 15 s at) (λ y n. got (marksOf y) n)) (bad at) ≡ told ok₁ (marksOf x) at₁
+    go true h = rw h (mapped marksOf ok₁ x at₁)
+    go false h = bad-told at at₁ ok₁ x (marksOf x) h
+
+-- where a refused reader gives another value in its place, it has read as well
+pub zeroed : {A : Type 0} {f : Format A} {s : List ℕ} {ok k : Bool} {at n : ℕ} {a b : A} (z : A) → Reads f s ok at k a n → b ≡ cond k a z → Reads f s ok at k b n × (b ≡ cond k b z)
+zeroed {A} {f} {s} {ok} {k} {at} {n} {a} {b} z e q = go k (e .reads) q
+  where
+    go : (t : Bool) → cond ok (readAt f s at) (bad at) ≡ told t a n → b ≡ cond t a z → Reads f s ok at t b n × (b ≡ cond t b z)
+    go true h w = (record { reads = h ∙ ap (λ (x : A). got x n) (sym w) }, refl)
+    go false h w = (record { reads = h }, w)
+
+pub refused-zero : {A : Type 0} {f : Format A} {s : List ℕ} {ok k : Bool} {at n : ℕ} {a b : A} (z : A) → Reads f s ok at k a n → not k ≡ true → b ≡ z → Reads f s ok at false b n × (b ≡ cond false b z)
+refused-zero {A} {f} {s} {ok} {k} {at} {n} {a} {b} z e h q = go k h (e .reads)
+  where
+    go : (t : Bool) → not t ≡ true → cond ok (readAt f s at) (bad at) ≡ told t a n → Reads f s ok at false b n × (b ≡ cond false b z)
+    go true h e = absurd (true≢false (sym h))
+    go false h e = (record { reads = e }, q)
+
+pub accepted-same : {A : Type 0} {f : Format A} {s : List ℕ} {ok k : Bool} {at n : ℕ} {a : A} (z : A) → Reads f s ok at k a n → not k ≡ false → Reads f s ok at k a n × (a ≡ cond k a z)
+accepted-same {A} {f} {s} {ok} {k} {at} {n} {a} z e h = (e, rw (not-false k h))
 
 -- A loop reads its elements one by one, each where all was good before it.
 

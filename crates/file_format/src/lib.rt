@@ -16,7 +16,7 @@ pub struct Number {
 
 fn read_number(octets: &[u8], ok: bool, at: usize, width: usize, least: u32, most: u32) -> Number
     requires { ⌜ width ≤ 4 ⌝ }
-    ensures { λ r. ⌜ (cond ok (numberAt width least most (now (octets .entry)) at) (bad at) ≡ told (r .ok) (r .value) (r .at)) × (r .value ≤ most) ⌝ }
+    ensures { λ r. ⌜ (cond ok (numberAt width least most (now (octets .entry)) at) (bad at) ≡ told (r .ok) (r .value) (r .at)) × (r .value ≤ most) × (r .value ≡ cond (r .ok) (r .value) 0) ⌝ }
 {
     if !ok {
         return Number {
@@ -68,31 +68,38 @@ fn read_number(octets: &[u8], ok: bool, at: usize, width: usize, least: u32, mos
 }
 
 pub fn read_octet(octets: &[u8], ok: bool, at: usize, least: u32, most: u32) -> Number
-    ensures { λ r. ⌜ (Reads (number one least most) (now (octets .entry)) ok at (r .ok) (r .value) (r .at)) × (r .value ≤ most) ⌝ }
+    ensures { λ r. ⌜ (Reads (number one least most) (now (octets .entry)) ok at (r .ok) (r .value) (r .at)) × (r .value ≤ most) × (r .value ≡ cond (r .ok) (r .value) 0) ⌝ }
 {
     read_number(octets, ok, at, 1, least, most)
 }
 
 pub fn read_two(octets: &[u8], ok: bool, at: usize, least: u32, most: u32) -> Number
-    ensures { λ r. ⌜ (Reads (number two least most) (now (octets .entry)) ok at (r .ok) (r .value) (r .at)) × (r .value ≤ most) ⌝ }
+    ensures { λ r. ⌜ (Reads (number two least most) (now (octets .entry)) ok at (r .ok) (r .value) (r .at)) × (r .value ≤ most) × (r .value ≡ cond (r .ok) (r .value) 0) ⌝ }
 {
     read_number(octets, ok, at, 2, least, most)
 }
 
 pub fn read_four(octets: &[u8], ok: bool, at: usize, least: u32, most: u32) -> Number
-    ensures { λ r. ⌜ (Reads (number four least most) (now (octets .entry)) ok at (r .ok) (r .value) (r .at)) × (r .value ≤ most) ⌝ }
+    ensures { λ r. ⌜ (Reads (number four least most) (now (octets .entry)) ok at (r .ok) (r .value) (r .at)) × (r .value ≤ most) × (r .value ≡ cond (r .ok) (r .value) 0) ⌝ }
 {
     read_number(octets, ok, at, 4, least, most)
 }
 
+// Whether so many octets from a place on are there.
+pub fn has_room(held: usize, at: usize, size: usize) -> bool
+    ensures { λ r. ⌜ r ≡ leb (at + size) held ⌝ }
+{
+    if held < at {
+        return false;
+    }
+    size <= held - at
+}
+
+// Writes a number where there is room for it, and tells the place after it; else nothing, and the place that was given.
 fn write_number(out: &mut [u8], at: usize, width: usize, value: u32) -> usize
     ensures { λ r. ⌜ Writes at (digits width value) (now (out .entry)) (now (out .exit)) r ⌝ }
 {
-    let n = out.len();
-    if n < at {
-        return at;
-    }
-    if n - at < width {
+    if !has_room(out.len(), at, width) {
         return at;
     }
     let mut rest = value;
@@ -121,6 +128,22 @@ pub fn write_four(out: &mut [u8], at: usize, value: u32) -> usize
     ensures { λ r. ⌜ Writes at (digits 4 value) (now (out .entry)) (now (out .exit)) r ⌝ }
 {
     write_number(&mut out[..], at, 4, value)
+}
+
+// Writes numbers over a list where there is room for all of them, and tells the place after them; else nothing, and the place that was given.
+pub fn write_numbers(numbers: &[u16], out: &mut [u16], at: usize) -> usize
+    ensures { λ r. ⌜ Writes at (now (numbers .entry)) (now (out .entry)) (now (out .exit)) r ⌝ }
+{
+    let n = numbers.len();
+    if !has_room(out.len(), at, n) {
+        return at;
+    }
+    let mut i: usize = 0;
+    while i < n {
+        out[at + i] = numbers[i];
+        i += 1;
+    }
+    at + n
 }
 
 // Where a reader stands.

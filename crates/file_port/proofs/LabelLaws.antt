@@ -1,10 +1,11 @@
 -- A label that is built in place.
-use mathlib.Core.Bool.{Bool, true, false, cond}
+use mathlib.Core.Bool.{Bool, true, false, cond, not, _&&_}
 use mathlib.Core.List.{List, [], _∷_, _++_}
 use mathlib.Core.Path.{_≡_, refl, sym, ap, _∙_}
 use Prim.Native.Nat.{ℕ, zero, suc, _+_, _-_, _*_, _≤_, _<_}
 use native.Mathlib.Omega.{arith}
-use lib.Dec.{leb}
+use lib.Dec.{leb, eqb}
+use borrow.Author.Tests.{le-leb, lt-leb}
 use lib.ListN.{length, set, take, replicate, length-append}
 use lib.Seq.{take-append-seam}
 use Rattle.label.specs.declared.Run.{Run}
@@ -12,13 +13,17 @@ use Rattle.label.specs.declared.Label.{Label}
 use Rattle.label.specs.Runs.{run}
 use Rattle.label.specs.Label.{noRun, used, labelOf}
 use Rattle.label.proofs.Labels.{with-run-of}
-use Rattle.file_format.specs.Format.{digits, bit, octets, many}
+use Rattle.basic.specs.declared.Way.{Way}
+use Rattle.basic.specs.Levels.{isLevel, rankOf, atMost}
+use Rattle.file_format.specs.Format.{digits, bit, sumOf, octets, many, same, Reads}
+use Rattle.file_format.specs.Places.{padded}
+use Rattle.file_format.proofs.Told.{then-told, fields-told, zeroed}
 use Rattle.file_format.proofs.Numbers.{digits-length}
-use Rattle.file_format.proofs.Places.{used-is}
+use Rattle.file_format.proofs.Places.{used-is, padded-more, padded-used}
 use Rattle.file_format.specs.Laws.{flat}
 use Rattle.file_format.proofs.Writing.{flat-turn, flat-length}
 use Rattle.port.specs.declared.Port.{Port}
-use Rattle.file_port.specs.PortFormat.{portFormat}
+use Rattle.file_port.specs.PortFormat.{givenFormat, wayOf, wayFormat, spellingMarks, spellingsFormat, Plain, Later, plainFormat, laterFormat, plainOf, laterOf, plainMade, portMade, firstPort, secondPort, portFormat, noPort}
 use Rattle.file_port.specs.LabelFormat.{runFormat, nextFloor, labelFormat}
 
 -- one run more is stored in the first unused place, and counted
@@ -68,14 +73,91 @@ pub any-domain : (d e : ℕ) (l : Label) → octets (labelFormat d) l ≡ octets
 unfolding octets labelFormat
 any-domain d e l = refl
 
-pub port-octets : (p : Port)
-    → octets portFormat p
+-- the octets of a way do not depend on whether option 130 is switched on
+pub way-octets : (on : Bool) (w : Way) (n : ℕ) → length (w .flags) ≡ 256 → n ≡ cond (leb (w .count) 256) (w .count) 256
+    → octets (wayFormat on) w ≡ digits 1 (w .lowest) ++ (digits 1 (w .highest) ++ (digits 2 n ++ flat (digits 2) (take n (w .flags))))
+unfolding octets wayFormat
+way-octets on w n h e =
+    let u = used-is (w .flags) (w .count) n 256 h e in
+    let a : length (take (w .count) (w .flags)) ≡ n = u .1 in
+    let b : take (w .count) (w .flags) ≡ take n (w .flags) = u .0 in
+    rw (flat-turn (λ st x. digits 2 x) same (digits 2) (λ st x. refl) 0 (take (w .count) (w .flags)), a, b)
+
+pub way-length : (on : Bool) (w : Way) → length (w .flags) ≡ 256 → length (octets (wayFormat on) w) ≡ 4 + cond (leb (w .count) 256) (w .count) 256 * 2
+way-length on w h =
+    let n : ℕ = cond (leb (w .count) 256) (w .count) 256 in
+    let u : length (take (w .count) (w .flags)) ≡ cond (leb (w .count) 256) (w .count) 256 = used-is (w .flags) (w .count) n 256 h refl .1 in
+    let v : take (w .count) (w .flags) ≡ take (cond (leb (w .count) 256) (w .count) 256) (w .flags) = used-is (w .flags) (w .count) n 256 h refl .0 in
+    let f : length (flat (digits 2) (take (w .count) (w .flags))) ≡ length (take (w .count) (w .flags)) * 2 = flat-length (digits 2) 2 (λ x. refl) (take (w .count) (w .flags)) in
+    rw (way-octets on w n h refl, ← v) (omega (arith, f, u))
+
+pub any-way : (a b : Bool) (w : Way) → octets (wayFormat a) w ≡ octets (wayFormat b) w
+unfolding octets wayFormat
+any-way a b w = refl
+
+pub plain-octets : (p : Port)
+    → octets plainFormat (plainOf p)
     ≡ digits 4 (p .domain) ++ (octets (labelFormat (p .domain)) (p .lowest) ++ (octets (labelFormat (p .domain)) (p .highest)
     ++ (digits 1 (bit (p .required)) ++ octets (labelFormat (cond (p .required) 0 (p .domain))) (p .assigned))))
-unfolding octets portFormat
+unfolding octets plainFormat givenFormat
+plain-octets p = refl
+
+pub later-octets : (p : Port)
+    → octets (laterFormat (p .domain) (p .lowest) (p .highest)) (laterOf p)
+    ≡ digits 1 (bit (p .basic .on)) ++ (octets (wayFormat (p .basic .on)) (p .basic .receiving) ++ (octets (wayFormat (p .basic .on)) (p .basic .sending)
+    ++ (digits 1 (sumOf (spellingMarks (p .spellings))) ++ (digits 1 (bit (p .unlabelled)) ++ octets (labelFormat (cond (not (p .unlabelled)) 0 (p .domain))) (p .default)))))
+unfolding octets laterFormat givenFormat spellingsFormat
+later-octets p = refl
+
+pub port-octets : (p : Port) → octets (portFormat 2) p ≡ octets plainFormat (plainOf p) ++ octets (laterFormat (p .domain) (p .lowest) (p .highest)) (laterOf p)
+unfolding octets portFormat secondPort
 port-octets p = refl
 
 -- how many octets a port has
-pub port-length : (p : Port) (a b c : ℕ) → length (octets (labelFormat (p .domain)) (p .lowest)) ≡ a → length (octets (labelFormat (p .domain)) (p .highest)) ≡ b
-    → length (octets (labelFormat (cond (p .required) 0 (p .domain))) (p .assigned)) ≡ c → length (octets portFormat p) ≡ 5 + a + b + c
-port-length p a b c e f g = rw port-octets (simp length-append (omega arith))
+module _ (p : Port) (a b c d r s : ℕ) where
+  pub port-length : length (octets (labelFormat (p .domain)) (p .lowest)) ≡ a → length (octets (labelFormat (p .domain)) (p .highest)) ≡ b
+      → length (octets (labelFormat (cond (p .required) 0 (p .domain))) (p .assigned)) ≡ c → length (octets (labelFormat (cond (not (p .unlabelled)) 0 (p .domain))) (p .default)) ≡ d
+      → length (octets (wayFormat (p .basic .on)) (p .basic .receiving)) ≡ r → length (octets (wayFormat (p .basic .on)) (p .basic .sending)) ≡ s
+      → length (octets (portFormat 2) p) ≡ 5 + a + b + c + 3 + r + s + d
+  port-length ea eb ec ed er es =
+      let x : length (octets plainFormat (plainOf p)) ≡ 5 + a + b + c = rw (plain-octets p) (simp length-append (omega (arith, ea, eb, ec))) in
+      let y : length (octets (laterFormat (p .domain) (p .lowest) (p .highest)) (laterOf p)) ≡ 3 + r + s + d = rw (later-octets p) (simp length-append (omega (arith, er, es, ed))) in
+      rw (port-octets p) (omega (arith, length-append (octets plainFormat (plainOf p)) (octets (laterFormat (p .domain) (p .lowest) (p .highest)) (laterOf p)), x, y))
+
+-- a way that is built in place
+pub way-more : (w : Way) (l h : ℕ) (done : List ℕ) (x i : ℕ) → w ≡ wayOf l h done → length done ≡ i → i < 256
+    → _≡_ {A = Way} (record { lowest = w .lowest; highest = w .highest; count = i + 1; flags = set (w .flags) i x }) (wayOf l h (done ++ (x ∷ [])))
+way-more w l h done x i e n k =
+    let c : length (done ++ (x ∷ [])) ≡ length done + 1 = length-append done (x ∷ []) in
+    let r : set (padded 256 0 done) (length done) x ≡ padded 256 0 (done ++ (x ∷ [])) = padded-more 256 0 done x (omega arith) in
+    rw (e, ← n) (λ j. record { lowest = l; highest = h; count = sym c j; flags = r j })
+
+pub way-used : (w : Way) (l h : ℕ) (done : List ℕ) → w ≡ wayOf l h done → take (w .count) (w .flags) ≡ done
+way-used w l h done e = rw e (padded-used 256 0 done)
+
+pub way-again : (w : Way) (l h : ℕ) (done : List ℕ) → w ≡ wayOf l h done → wayOf l h (take (w .count) (w .flags)) ≡ w
+way-again w l h done e = ap (wayOf l h) (way-used w l h done e) ∙ sym e
+
+-- the rule of a lowest level, as the code asks it
+pub level-alone : (on : Bool) (v : ℕ) → cond on (atMost v v) (eqb v 0) ≡ cond on (isLevel v) (eqb v 0)
+unfolding atMost
+level-alone true v = go (isLevel v)
+  where
+    go : (t : Bool) → (t && (t && leb (rankOf v) (rankOf v))) ≡ t
+    go true = le-leb (rankOf v) (rankOf v) (omega arith)
+    go false = refl
+level-alone false v = refl
+
+-- A port of each version, and zeros where it was refused.
+module _ {s : List ℕ} {ok k k₁ : Bool} {at m n : ℕ} {q : Port} (p : Port) (version : ℕ) (r : Reads plainFormat s ok at k (plainOf p) m) where
+  pub port-first : version < 2 → p ≡ plainMade (plainOf p) → k₁ ≡ k → n ≡ m → q ≡ cond k p noPort → Reads (portFormat version) s ok at k₁ q n × (q ≡ cond k₁ q noPort)
+  unfolding portFormat firstPort
+  port-first h e ek en eq = rw (lt-leb 2 version h, ek, en) (zeroed noPort (fields-told r (sym e)) eq)
+
+module _ {s : List ℕ} {ok k k₁ k₂ : Bool} {at m n n₁ : ℕ} {q z : Port} (p : Port) (version : ℕ) (r : Reads plainFormat s ok at k (plainOf p) m) where
+  pub port-second : 2 ≤ version → Reads (laterFormat (p .domain) (p .lowest) (p .highest)) s k m k₁ (laterOf q) n → plainOf q ≡ plainOf p
+      → k₂ ≡ k₁ → n₁ ≡ n → z ≡ cond k₁ q noPort → Reads (portFormat version) s ok at k₂ z n₁ × (z ≡ cond k₂ z noPort)
+  unfolding portFormat secondPort
+  port-second h l e ek en ez =
+      rw (le-leb 2 version h, ek, en)
+      (zeroed noPort (fields-told (then-told r l) (ap (λ (x : Plain). portMade x (laterOf q)) (sym e))) ez)

@@ -1,40 +1,39 @@
 -- docs/FILE.md, the file's lists. The layout's row: port count (1), the ports, table count (1), the tables; at most 16 and 8.
-use mathlib.Core.List.{List}
-use mathlib.Core.Path.{_≡_, refl}
-use Prim.Native.Nat.{ℕ, _-_}
-use lib.ListN.{length, take, replicate}
-use lib.Seq.{take-append-seam}
+use mathlib.Core.List.{List, map}
+use Prim.Native.Nat.{ℕ}
+use lib.ListN.{length, take}
 use Rattle.port.specs.declared.Port.{Port}
-use Rattle.file_format.specs.Format.{Format, one, _then_, fields, counted}
+use Rattle.table.specs.Table.{rowNumbers}
+use Rattle.table.specs.Renumbering.{noTable}
+use Rattle.table_choose.specs.Tables.{tablesFrom}
+use Rattle.file_format.specs.Format.{Format, one, _then_, counted, alike, same}
+use Rattle.file_format.specs.Laws.{flat}
 use Rattle.file_format.specs.Places.{padded}
-use Rattle.file_port.specs.PortFormat.{portFormat}
-use Rattle.file_table.specs.declared.Renumbering.{Renumbering}
-use Rattle.file_table.specs.TableFormat.{tableFormat, noTable}
+use Rattle.file_port.specs.PortFormat.{portFormat, noPort}
+use Rattle.file_table.specs.TableFormat.{TableFields, tableFormat, headOf, fieldsOf}
 use Rattle.file_set.specs.declared.Set.{Set}
-use Rattle.file_set.specs.Set.{noPort}
 
--- no rule of a record depends on the records before it
-abbrev pub alike : {A : Type 0} → Format A → ℕ → Format A
-alike f st = f
+unfoldable pub portsFormat : (version : ℕ) → Format (List Port)
+portsFormat version = counted (alike (portFormat version)) same one 16 0
 
-abbrev pub same : {A : Type 0} → ℕ → A → ℕ
-same st a = st
+unfoldable pub tablesFormat : (version : ℕ) → Format (List TableFields)
+tablesFormat version = counted (alike (tableFormat version)) same one 8 0
 
-unfoldable pub portsFormat : Format (List Port)
-portsFormat = counted (alike portFormat) same one 16 0
+-- the records of a file: its ports and its tables
+abbrev pub Records : Type 0
+Records = List Port × List TableFields
 
-unfoldable pub tablesFormat : Format (List Renumbering)
-tablesFormat = counted (alike tableFormat) same one 8 0
+unfoldable pub setFormat : (version : ℕ) → Format Records
+setFormat version = portsFormat version then λ ports. tablesFormat version
 
--- the set of these ports and tables; unused places are zero
-abbrev pub setOf : List Port → List Renumbering → Set
-setOf ps ts = record { portcount = length ps; ports = padded 16 noPort ps; tablecount = length ts; tables = padded 8 noTable ts }
+-- the rows of all tables as numbers, one after the other
+abbrev pub rowsOf : List TableFields → List ℕ
+rowsOf ts = flat (λ t. rowNumbers (t .rows)) ts
 
-unfoldable pub setFormat : Format Set
-setFormat =
-    fields
-    (portsFormat
-    then λ ports. tablesFormat)
-    (λ p. setOf (p .0) (p .1))
-    (λ s. (take (s .portcount) (s .ports), take (s .tablecount) (s .tables)))
-    (λ p. rw (take-append-seam (p .0) (replicate (16 - length (p .0)) noPort), take-append-seam (p .1) (replicate (8 - length (p .1)) noTable)))
+-- the set of these records, whose rows stand beside it; unused places are zero
+abbrev pub setOf : Records → Set
+setOf r = record { portcount = length (r .0); ports = padded 16 noPort (r .0); tablecount = length (r .1); tables = padded 8 noTable (map headOf (r .1)) }
+
+-- the records of a set with its rows
+abbrev pub recordsOf : Set → List ℕ → Records
+recordsOf s rows = (take (s .portcount) (s .ports), map fieldsOf (tablesFrom (take (s .tablecount) (s .tables)) rows))

@@ -1,38 +1,48 @@
 -- Document 02, Wish 1: "A file is accepted exactly when its length agrees, then its version is known, then every record is sound; a refusal names the first octet of the first bad
--- field. A sound set has one file, and what the writer wrote the reader gives back. An unknown version is refused by name." Wish 3: "Version 1 files read later port fields as 01 had
--- them; until Wish 8 the writer refuses others by name, after 2."
+-- field. A sound set has one file, and what the writer wrote the reader gives back. An unknown version is refused by name." Wish 8: both versions, rows in lent room.
 use mathlib.Core.Bool.{true}
 use mathlib.Core.List.{List}
 use mathlib.Core.Path.{_≡_}
 use Prim.Native.Nat.{ℕ, _≤_, _<_}
-use lib.ListN.{length, getD}
-use Rattle.file_format.specs.Format.{valueAt}
+use lib.ListN.{length, take, getD}
+use Rattle.file_format.specs.Format.{valueAt, written}
 use Rattle.file_format.specs.Laws.{Octets}
 use Rattle.file_set.specs.declared.Set.{Set}
 use Rattle.file_set.specs.Set.{setSound}
-use Rattle.file_read.specs.File.{accepted, fileRefused, unknown, fileReading, sayable, totalOf, fileOctets}
+use Rattle.file_read.specs.declared.FileRead.{FileRead}
+use Rattle.file_read.specs.File.{fileRefused, unknown, fileReading, fileRoom, sayable, fileOctets}
 
--- what the writer wrote the reader gives back, for every sound set that version 1 can say
+-- the file of a sound set, in each version that can say it, is read back: the set, and its rows at the head of the room
+pub record Back (version : ℕ) (s : Set) (rows room : List ℕ) : Type 0 where
+  pub answer : fileReading (fileOctets version s rows) (length room) ≡ record { verdict = 0; at = 0; used = length rows; set = s }
+  pub room-after : fileRoom (fileOctets version s rows) room ≡ written 0 rows room
+
 abbrev pub GivenBack : Type 0
-GivenBack = (s : Set) → setSound s ≡ true → sayable s ≡ true → fileReading (fileOctets s) ≡ accepted s
+GivenBack =
+    (version : ℕ) → 1 ≤ version → version ≤ 2 → (s : Set) (rows room : List ℕ) → setSound s rows ≡ true → sayable version s rows ≡ true → length rows ≤ length room → Back version s rows room
 
--- what the reader accepts is the one file of such a set, octet for octet: its ports are as document 01 has them
-pub record OneFile (o : List ℕ) (s : Set) : Type 0 where
-  pub file : o ≡ fileOctets s
-  pub sound : setSound s ≡ true
-  pub sayable : sayable s ≡ true
+-- what the reader accepts is the one file, in one of the two versions, of a sound set that the version can say, octet for octet
+pub record OneFile (o : List ℕ) (s : Set) (rows : List ℕ) : Type 0 where
+  pub version : ℕ
+  pub least : 1 ≤ version
+  pub most : version ≤ 2
+  pub file : o ≡ fileOctets version s rows
+  pub sound : setSound s rows ≡ true
+  pub sayable : sayable version s rows ≡ true
 
 abbrev pub Accepted : Type 0
-Accepted = (o : List ℕ) → Octets o → (s : Set) → fileReading o ≡ accepted s → OneFile o s
+Accepted =
+    (o : List ℕ) → Octets o → (room : List ℕ) → fileReading o (length room) .verdict ≡ 0
+    → OneFile o (fileReading o (length room) .set) (take (fileReading o (length room) .used) (fileRoom o room))
+
+-- every refusal leaves the room as it was
+abbrev pub RoomKept : Type 0
+RoomKept = (o room : List ℕ) → (fileReading o (length room) .verdict ≡ 0 → ⊥) → fileRoom o room ≡ room
 
 -- a length that does not agree is refused before all else, at octet 0
 abbrev pub LengthFirst : Type 0
-LengthFirst = (o : List ℕ) → (valueAt o 0 2 ≡ length o → ⊥) → fileReading o ≡ fileRefused 0
+LengthFirst = (o : List ℕ) (room : ℕ) → (valueAt o 0 2 ≡ length o → ⊥) → fileReading o room ≡ fileRefused 0
 
--- where the length agrees, a version that is there and is not 1 is refused by name, whatever stands after it
+-- where the length agrees, a version that is there and is neither 1 nor 2 is refused by name, whatever stands after it
 abbrev pub Named : Type 0
-Named = (o : List ℕ) → valueAt o 0 2 ≡ length o → 2 < length o → (getD o 2 0 ≡ 1 → ⊥) → fileReading o ≡ unknown
-
--- the file of a sound set has at most 26,837 octets, and so keeps to 32 KiB
-abbrev pub Fits : Type 0
-Fits = (s : Set) → setSound s ≡ true → totalOf s ≤ 26837
+Named = (o : List ℕ) (room : ℕ) → valueAt o 0 2 ≡ length o → 2 < length o → (getD o 2 0 ≡ 1 → ⊥) → (getD o 2 0 ≡ 2 → ⊥) → fileReading o room ≡ unknown

@@ -1,76 +1,37 @@
 // The set of records that a house file says: ports and tables, and what makes the set sound (docs/FILE.md).
 ghost use mathlib.Core.Path.{_≡_};
 ghost use mathlib.Core.Bool.{true, cond};
-ghost use mathlib.Core.List.{map};
 ghost use Prim.Native.Nat.{_≤_};
-ghost use lib.Dec.{eqb};
+ghost use lib.Dec.{leb, eqb};
 ghost use lib.ListN.{length, take};
-ghost use Rattle.file_port.specs.Theorems.{typedPort};
+ghost use Rattle.file_port.specs.Theorems.{typedWay, typedPort};
 ghost use Rattle.file_format.specs.Places.{placesFit};
-ghost use Rattle.file_table.specs.TableFormat.{noTable, levelsOf};
-ghost use Rattle.file_table.specs.Theorems.{typedPairs};
-ghost use Rattle.file_set.specs.Set.{noPort, emptySet, zeroPort, zeroTable, usedPort, unusedPort, usedTable, unusedTable, setSound};
-use basic::Basic;
+ghost use Rattle.table.specs.Renumbering.{typedPairs};
+ghost use Rattle.file_set.specs.Set.{emptySet, zeroPort, zeroTable, usedPort, unusedPort, unusedTable, setSound};
 use basic::Way;
-use file_table::LevelPair;
-use file_table::Renumbering;
+use file_port::empty_port;
 use label::Label;
-use option::Spellings;
 use port::Port;
 use port::port_sound;
-use table::Row;
+use table::Renumbering;
 use table::Table;
-use table::table_sound;
+use table::empty_table;
+use table::levels_of;
+use table_choose::MAX_TABLES;
+use table_choose::Tables;
+use table_choose::tables_sound;
+use table_levels::Levels;
+use table_levels::levels_sound;
 
-// The first `portcount` ports and the first `tablecount` tables are used.
+// The most ports of a set.
+pub const MAX_PORTS: usize = 16;
+
+// The first `portcount` ports and the first `tablecount` tables are used. The tables' rows are lent beside it as one list of numbers, three to a row.
 pub struct Set {
     pub portcount: usize,
-    pub ports: [Port; 16],
+    pub ports: [Port; MAX_PORTS],
     pub tablecount: usize,
-    pub tables: [Renumbering; 8],
-}
-
-// The port whose every number is 0.
-pub fn empty_port() -> Port
-    ensures { λ r. ⌜ r ≡ noPort ⌝ }
-{
-    let none = Label::empty(0, 0);
-    Port {
-        domain: 0,
-        lowest: none,
-        highest: none,
-        required: false,
-        assigned: none,
-        basic: Basic::off(),
-        spellings: Spellings {
-            shortest: false,
-            ten: false,
-            numbers: false,
-            pairs: false,
-        },
-        unlabelled: false,
-        default: none,
-    }
-}
-
-// The table whose every number is 0.
-pub fn empty_table() -> Renumbering
-    ensures { λ r. ⌜ r ≡ noTable ⌝ }
-{
-    Renumbering {
-        table: Table {
-            from: 0,
-            to: 0,
-            pairs: 0,
-            count: 0,
-            rows: [Row {
-                low: 0,
-                high: 0,
-                target: 0,
-            }; 64],
-        },
-        levels: [LevelPair { levels: [0u8; 2] }; 16],
-    }
+    pub tables: [Renumbering; MAX_TABLES],
 }
 
 // The set of no records.
@@ -85,27 +46,6 @@ pub fn empty_set() -> Set
         tablecount: 0,
         tables: [table; 8],
     }
-}
-
-// The two levels of a pair.
-fn two_of(pair: LevelPair) -> [u8; 2]
-    ensures { λ r. ⌜ (r ≡ pair .levels) × (length (pair .levels) ≡ 2) ⌝ }
-{
-    pair.levels
-}
-
-// The level pairs as an array of two-number arrays.
-pub fn levels_of(renumbering: Renumbering) -> [[u8; 2]; 16]
-    ensures { λ r. ⌜ (r ≡ levelsOf renumbering) × (typedPairs renumbering ≡ true) ⌝ }
-{
-    let mut levels = [[0u8; 2]; 16];
-    let mut i: usize = 0;
-    while i < 16 {
-        let pair = renumbering.levels[i];
-        levels[i] = two_of(pair);
-        i += 1;
-    }
-    levels
 }
 
 // Whether every number of the port is 0.
@@ -135,7 +75,7 @@ fn port_zero(port: Port) -> bool
         & unset
 }
 
-// A label has its 120 places, and a way its 256: their types say so.
+// A label has its 120 places, and a way its 256 of 16 bits: their types say so.
 fn label_typed(label: Label) -> bool
     ensures { λ r. ⌜ r ≡ eqb (length (label .runs)) 120 ⌝ }
 {
@@ -143,9 +83,22 @@ fn label_typed(label: Label) -> bool
 }
 
 fn way_typed(way: Way) -> bool
-    ensures { λ r. ⌜ r ≡ eqb (length (way .flags)) 256 ⌝ }
+    ensures { λ r. ⌜ r ≡ typedWay way ⌝ }
 {
+    let mut i: usize = 0;
+    while i < 256 {
+        if !is_small(way.flags[i]) {
+            return false;
+        }
+        i += 1;
+    }
     true
+}
+
+fn is_small(x: u16) -> bool
+    ensures { λ r. ⌜ r ≡ leb x 65535 ⌝ }
+{
+    x <= 65535
 }
 
 fn port_typed(port: Port) -> bool
@@ -180,35 +133,27 @@ fn port_fits(port: Port, used: bool) -> bool
     zero & typed
 }
 
-// Whether every number of the table and its level pairs is 0: a table of no pairs and rows is sound where the places of both are zero.
-fn table_zero(table: Table, levels: [[u8; 2]; 16]) -> bool
+// Whether every number of the table and its level pairs is 0.
+fn table_zero(table: Table, levels: Levels) -> bool
     ensures { λ r. ⌜ r ≡ zeroTable table levels ⌝ }
 {
-    let rows = table.rows;
-    let none = Table {
-        from: 1,
-        to: 1,
-        pairs: 0,
-        count: 0,
-        rows: rows,
-    };
-    let places = table_sound(none, levels);
+    let places = levels_sound(levels, 0);
     (table.from == 0) & (table.to == 0) & (table.pairs == 0) & (table.count == 0) & places
 }
 
-// Whether a table suits its place.
+// Whether a table suits its place, but for the soundness of one that is used.
 fn table_fits(renumbering: Renumbering, used: bool) -> bool
-    ensures { λ r. ⌜ r ≡ cond used (usedTable renumbering) (unusedTable renumbering) ⌝ }
+    ensures { λ r. ⌜ r ≡ cond used (typedPairs renumbering) (unusedTable renumbering) ⌝ }
 {
     let table = renumbering.table;
     let levels = levels_of(renumbering);
     if used {
-        return table_sound(table, levels);
+        return true;
     }
     table_zero(table, levels)
 }
 
-fn ports_fit(ports: [Port; 16], n: usize) -> bool
+fn ports_fit(ports: [Port; MAX_PORTS], n: usize) -> bool
     ensures { λ r. ⌜ r ≡ placesFit usedPort unusedPort n ports ⌝ }
 {
     let mut i: usize = 0;
@@ -222,8 +167,8 @@ fn ports_fit(ports: [Port; 16], n: usize) -> bool
     true
 }
 
-fn tables_fit(tables: [Renumbering; 8], n: usize) -> bool
-    ensures { λ r. ⌜ r ≡ placesFit usedTable unusedTable n tables ⌝ }
+fn tables_fit(tables: [Renumbering; MAX_TABLES], n: usize) -> bool
+    ensures { λ r. ⌜ r ≡ placesFit typedPairs unusedTable n tables ⌝ }
 {
     let mut i: usize = 0;
     while i < 8 {
@@ -236,13 +181,18 @@ fn tables_fit(tables: [Renumbering; 8], n: usize) -> bool
     true
 }
 
-// Whether the set is sound.
-pub fn set_sound(set: Set) -> bool
-    ensures { λ r. ⌜ r ≡ setSound set ⌝ }
+// Whether the set is sound with the rows that are lent for it.
+pub fn set_sound(set: Set, rows: &[u16]) -> bool
+    ensures { λ r. ⌜ r ≡ setSound set (now (rows .entry)) ⌝ }
 {
     let held = set.ports;
     let kept = set.tables;
     let ports = ports_fit(held, set.portcount);
-    let tables = tables_fit(kept, set.tablecount);
-    (set.portcount <= 16) & (set.tablecount <= 8) & ports & tables
+    let places = tables_fit(kept, set.tablecount);
+    let all = Tables {
+        count: set.tablecount,
+        items: kept,
+    };
+    let tables = tables_sound(all, rows);
+    (set.portcount <= 16) & ports & places & tables
 }

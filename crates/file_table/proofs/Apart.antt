@@ -5,16 +5,12 @@ use mathlib.Core.Path.{_≡_, refl, sym, ap, _∙_}
 use Prim.Native.Nat.{ℕ, zero, suc, _+_, _-_, _≤_, _<_}
 use native.Mathlib.Omega.{arith}
 use lib.Dec.{leb, ltb, eqb}
-use lib.ListN.{length, take, drop, replicate}
-use lib.Seq.{length-take-le, drop-at, take-at, take-take}
-use borrow.Author.Tests.{le-leb, eq-eqb}
+use lib.ListN.{length, take}
+use lib.Seq.{take-take}
+use borrow.Author.Tests.{le-leb}
 use Rattle.label.proofs.Bools.{never, and-left, and-right}
 use Rattle.table.specs.declared.Row.{Row}
-use Rattle.table.specs.declared.Table.{Table}
-use Rattle.table.specs.Table.{noRow, targetEnd, rising, apart, apartFrom, targetsApart, unusedRows, rowsSound, typed, tableSound}
-use Rattle.table_levels.specs.Levels.{levelsSound}
-use Rattle.file_format.specs.Places.{padded}
-use Rattle.file_format.proofs.Places.{padded-used, padded-length}
+use Rattle.table.specs.Table.{targetEnd, rising, apart, apartFrom, targetsApart}
 use Rattle.file_table.specs.TableFormat.{floorOf}
 
 or-turned : (a b : Bool) → (a || b) ≡ (b || a)
@@ -79,18 +75,3 @@ rising-first k n xs h e = rw (← take-take k n xs h) (rising-take 0 k (take n x
 pub apart-some : (n : ℕ) (xs : List Row) → targetsApart (take n xs) ≡ false → 0 < n
 apart-some zero xs e = absurd (never e)
 apart-some (suc n) xs e = omega arith
-
-pub zero-rows : (n : ℕ) → unusedRows (replicate n noRow) ≡ true
-zero-rows zero = refl
-zero-rows (suc n) = zero-rows n
-
--- rows that rise are the rows of a sound table exactly when their targets are apart
-pub apart-sound : (rows : List Row) (n : ℕ) → n ≤ 64 → length rows ≡ 64 → rising 0 (take n rows) ≡ true
-    → tableSound (record { from = 1; to = 1; pairs = 0; count = n; rows = padded 64 noRow (take n rows) }) (replicate 16 (replicate 2 0)) ≡ targetsApart (take n rows)
-unfolding tableSound levelsSound rowsSound typed
-apart-sound rows n h l e =
-    let k : length (take n rows) ≡ n = length-take-le n rows (omega arith) in
-    let t : take n (padded 64 noRow (take n rows)) ≡ take n rows = take-at (take n rows) (replicate (64 - length (take n rows)) noRow) n k in
-    let d : drop n (padded 64 noRow (take n rows)) ≡ replicate (64 - length (take n rows)) noRow = drop-at (take n rows) (replicate (64 - length (take n rows)) noRow) n k in
-    let p : length (padded 64 noRow (take n rows)) ≡ 64 = padded-length 64 noRow (take n rows) (omega arith) in
-    rw (le-leb n 64 h, t, e, d, zero-rows (64 - length (take n rows)), eq-eqb (length (padded 64 noRow (take n rows))) 64 p) (and-true (targetsApart (take n rows)))

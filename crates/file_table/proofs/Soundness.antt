@@ -1,27 +1,27 @@
--- The format of a table says exactly the sound tables with their level pairs.
-use mathlib.Core.Bool.{Bool, true, false, not, _&&_}
+-- The format of a table says exactly the sound tables, with their level pairs and rows, that its version can say.
+use mathlib.Core.Bool.{Bool, true, false, cond, not, _&&_}
 use mathlib.Core.List.{List, [], _∷_, _++_, map, append-assoc, append-nil}
 use mathlib.Core.Path.{_≡_, refl, sym, ap, subst, _∙_}
-use Prim.Native.Nat.{ℕ, zero, suc, _+_, _-_, _≤_, _<_}
+use Prim.Native.Nat.{ℕ, zero, suc, _+_, _-_, _*_, _≤_, _<_}
 use native.Mathlib.Omega.{arith}
 use lib.Dec.{leb, eqb}
 use lib.ListN.{length, getD, take, drop, replicate, length-drop}
-use lib.Seq.{length-take-le, take-at, drop-at}
+use lib.Seq.{length-take-le, take-at, drop-at, take-all}
 use borrow.Author.Tests.{le-leb, leb-true, eq-eqb, ne-eqb, eqb-true, eqb-false, not-true}
 use Rattle.label.proofs.Bools.{never, and-left, and-right, and-both}
 use Rattle.table.specs.declared.Row.{Row}
-use Rattle.table.specs.declared.Table.{Table}
-use Rattle.table.specs.Table.{row, noRow, usedRows, targetEnd, rising, apart, apartFrom, targetsApart, unusedRows, rowsSound, typed, tableSound}
-use Rattle.table_levels.specs.Levels.{levelsRise, unusedPairs, levelsSound, levelNumbers}
+use Rattle.table.specs.Table.{Lent, row, rowsFrom, rowNumbers, targetEnd, rising, apart, apartFrom, targetsApart, rowsSound, typed, tableSound}
+use Rattle.table.specs.Renumbering.{levelsOf, twoEach, typedPairs, LentTable, lentOf, lentSound}
+use Rattle.table.proofs.Lent.{numbers-length, numbers-rows, rows-numbers}
+use Rattle.table.proofs.Sound as table
+use Rattle.table_levels.specs.Levels.{pair, noPair, levelsRise, unusedPairs, levelsSound, levelNumbers}
 use Rattle.file_format.specs.Format.{Sound, Each}
-use Rattle.file_format.specs.Places.{padded, Filled}
+use Rattle.file_format.specs.Places.{padded}
 use Rattle.file_format.proofs.Places.{padded-again, padded-length, padded-used}
-use Rattle.file_table.specs.declared.LevelPair.{LevelPair}
-use Rattle.file_table.specs.declared.Renumbering.{Renumbering}
-use Rattle.file_table.specs.TableFormat.{pair, pairFormat, nextLeast, floorOf, rowFormat, withRow, noPair, renumberingOf, tableFormat, levelsOf}
-use Rattle.file_table.specs.Theorems.{twoEach, typedPairs, renumberingSound, TablesSaid}
-use Rattle.file_table.proofs.Apart.{apart-last, floor-last, zero-rows}
-use Rattle.file_table.proofs.Rows.{renumbering-again}
+use Rattle.table_levels.specs.declared.LevelPair.{LevelPair}
+use Rattle.file_table.specs.TableFormat.{mostPairs, mostRows, pairFormat, nextLeast, floorOf, rowFormat, withRow, TableFields, tableFields, tableFormat, lentFields, fieldsOf, tableSayable}
+use Rattle.file_table.specs.Theorems.{Says, SaidTable, TablesSaid}
+use Rattle.file_table.proofs.Apart.{apart-last, floor-last}
 
 -- Level pairs.
 
@@ -120,17 +120,6 @@ each-rows before (r ∷ rs) h t =
 
 -- Places that are not in use.
 
-pub unused-rows : (rs : List Row) → unusedRows rs ≡ true → rs ≡ replicate (length rs) noRow
-unused-rows [] e = refl
-unused-rows (r ∷ rs) e =
-    let e1 = and-right (eqb (r .low) 0) _ e in
-    let e2 = and-right (eqb (r .high) 0) _ e1 in
-    let a : r .low ≡ 0 = eqb-true _ _ (and-left (eqb (r .low) 0) _ e) in
-    let b : r .high ≡ 0 = eqb-true _ _ (and-left (eqb (r .high) 0) _ e1) in
-    let c : r .target ≡ 0 = eqb-true _ _ (and-left (eqb (r .target) 0) _ e2) in
-    let t = unused-rows rs (and-right (eqb (r .target) 0) _ e2) in
-    λ i. record { low = a i; high = b i; target = c i } ∷ t i
-
 pub unused-pairs : (ps : List LevelPair) → unusedPairs (map two ps) ≡ true → twoEach ps ≡ true → ps ≡ replicate (length ps) noPair
 unused-pairs [] e t = refl
 unused-pairs (p ∷ ps) e t =
@@ -176,148 +165,161 @@ map-drop (suc n) (p ∷ ps) = map-drop n ps
 
 -- Tables.
 
--- the parts of a sound table
-record Parts (r : Renumbering) : Type 0 where
-  from : r .table .from ≡ 0 → ⊥
-  to : r .table .to ≡ 0 → ⊥
-  from-fits : r .table .from ≤ 4294967295
-  to-fits : r .table .to ≤ 4294967295
-  pairs-held : r .table .pairs ≤ 16
-  rows-held : r .table .count ≤ 64
-  rise : levelsRise 0 0 (map two (take (r .table .pairs) (r .levels))) ≡ true
-  numbers : levelNumbers (map two (take (r .table .pairs) (r .levels))) ≡ true
-  levels-rest : unusedPairs (map two (drop (r .table .pairs) (r .levels))) ≡ true
-  rows : rising 0 (usedRows (r .table)) ≡ true
-  rows-rest : unusedRows (drop (r .table .count) (r .table .rows)) ≡ true
-  rows-apart : targetsApart (usedRows (r .table)) ≡ true
-  row-places : length (r .table .rows) ≡ 64
-  pair-places : length (r .levels) ≡ 16
-  each : twoEach (r .levels) ≡ true
-
-parts : (r : Renumbering) → renumberingSound r ≡ true → Parts r
-unfolding renumberingSound tableSound typedPairs typed levelsSound rowsSound
-parts r e =
-    let t = r .table in
-    let s = and-left (tableSound t (levelsOf r)) _ e in
-    let p = and-right (tableSound t (levelsOf r)) _ e in
-    let s1 = and-right (not (eqb (t .from) 0)) _ s in
-    let s2 = and-right (not (eqb (t .to) 0)) _ s1 in
-    let s3 = and-right (leb (t .pairs) 16) _ s2 in
-    let s4 = and-right (leb (t .count) 64) _ s3 in
-    let s5 = and-right (levelsSound (levelsOf r) (t .pairs)) _ s4 in
-    let l = and-left (levelsSound (levelsOf r) (t .pairs)) _ s4 in
-    let w = and-left (rowsSound t) _ s5 in
-    let y = and-right (rowsSound t) _ s5 in
-    let y1 = and-right (leb (t .from) 4294967295) _ y in
-    let y2 = and-right (leb (t .to) 4294967295) _ y1 in
-    let w1 = and-right (rising 0 (usedRows t)) _ w in
-    record {
-      from = eqb-false _ _ (not-true _ (and-left (not (eqb (t .from) 0)) _ s));
-      to = eqb-false _ _ (not-true _ (and-left (not (eqb (t .to) 0)) _ s1));
-      from-fits = leb-true _ _ (and-left (leb (t .from) 4294967295) _ y);
-      to-fits = leb-true _ _ (and-left (leb (t .to) 4294967295) _ y1);
-      pairs-held = leb-true _ _ (and-left (leb (t .pairs) 16) _ s2);
-      rows-held = leb-true _ _ (and-left (leb (t .count) 64) _ s3);
-      rise = rw (map-take (t .pairs) (r .levels)) at (and-left (levelsRise 0 0 (take (t .pairs) (levelsOf r))) _ l);
-      numbers = rw (map-take (t .pairs) (r .levels)) at (and-right (eqb (length (t .rows)) 64) _ y2);
-      levels-rest = rw (map-drop (t .pairs) (r .levels)) at (and-right (levelsRise 0 0 (take (t .pairs) (levelsOf r))) _ l);
-      rows = and-left (rising 0 (usedRows t)) _ w;
-      rows-rest = and-left (unusedRows (drop (t .count) (t .rows))) _ w1;
-      rows-apart = and-right (unusedRows (drop (t .count) (t .rows))) _ w1;
-      row-places = eqb-true _ _ (and-left (eqb (length (t .rows)) 64) _ y2);
-      pair-places = eqb-true _ _ (and-left (eqb (length (r .levels)) 16) _ p);
-      each = and-right (eqb (length (r .levels)) 16) _ p;
-    }
-
-pub renumbering-places : (r : Renumbering) → renumberingSound r ≡ true → (length (r .levels) ≡ 16) × (length (r .table .rows) ≡ 64)
-renumbering-places r e = let p = parts r e in (p .pair-places, p .row-places)
-
-filled-rows : (r : Renumbering) → Parts r → Filled 64 noRow (r .table .count) (r .table .rows)
-filled-rows r p =
-    record {
-      places = padded-again 64 (r .table .count) noRow (r .table .rows) (p .row-places) (p .rows-held)
-          (unused-rows (drop (r .table .count) (r .table .rows)) (p .rows-rest) ∙ ap (λ (k : ℕ). replicate k noRow) (length-drop (r .table .count) (r .table .rows)));
-      size = length-take-le (r .table .count) (r .table .rows) (omega (arith, p .rows-held, p .row-places));
-      limit = p .rows-held;
-    }
-
-filled-pairs : (r : Renumbering) → Parts r → Filled 16 noPair (r .table .pairs) (r .levels)
-filled-pairs r p =
-    record {
-      places = padded-again 16 (r .table .pairs) noPair (r .levels) (p .pair-places) (p .pairs-held)
-          (unused-pairs (drop (r .table .pairs) (r .levels)) (p .levels-rest) (two-drop (r .table .pairs) (r .levels) (p .each))
-          ∙ ap (λ (k : ℕ). replicate k noPair) (length-drop (r .table .pairs) (r .levels)));
-      size = length-take-le (r .table .pairs) (r .levels) (omega (arith, p .pairs-held, p .pair-places));
-      limit = p .pairs-held;
-    }
-
-table-says : (r : Renumbering) → renumberingSound r ≡ true → Sound tableFormat r
-unfolding Sound tableFormat
-table-says r e =
-    let p = parts r e in
-    let t = r .table in
-    let a = filled-pairs r p in
-    let b = filled-rows r p in
-    let f : 1 ≤ t .from = some (t .from) (p .from) in
-    let g : 1 ≤ t .to = some (t .to) (p .to) in (
-      (
-        (f, p .from-fits, omega (arith, p .from-fits)),
-        (
-          (g, p .to-fits, omega (arith, p .to-fits)),
-          (
-            (pairs-each 0 0 (take (t .pairs) (r .levels)) (p .rise) (p .numbers) (two-take (t .pairs) (r .levels) (p .each)), omega (arith, a .size, a .limit), omega (arith, a .size, a .limit)),
-            (rows-each [] (usedRows t) (p .rows) (p .rows-apart), omega (arith, b .size, b .limit), omega (arith, b .size, b .limit)),
-          ),
-        ),
-      ),
-      renumbering-again (t .from) (t .to) a b,
-    )
+pairs-most : (version : ℕ) → mostPairs version ≤ 256
+pairs-most version = go (leb 2 version)
   where
-    some : (d : ℕ) → (d ≡ 0 → ⊥) → 1 ≤ d
-    some zero h = absurd (h refl)
-    some (suc d) h = omega arith
+    go : (b : Bool) → cond b 256 16 ≤ 256
+    go true = omega arith
+    go false = omega arith
+
+rows-most : (version : ℕ) → mostRows version ≤ 1024
+rows-most version = go (leb 2 version)
+  where
+    go : (b : Bool) → cond b 1024 64 ≤ 1024
+    go true = omega arith
+    go false = omega arith
+
+some : (d : ℕ) → (d ≡ 0 → ⊥) → 1 ≤ d
+some zero h = absurd (h refl)
+some (suc d) h = omega arith
+
+from-fits : (t : Lent) (ls : List (List ℕ)) → tableSound t ls ≡ true → t .from ≤ 4294967295
+unfolding tableSound typed
+from-fits t ls e =
+    let e1 = and-right (not (eqb (t .from) 0)) _ e in
+    let e2 = and-right (not (eqb (t .to) 0)) _ e1 in
+    let e3 = and-right (leb (t .pairs) 256) _ e2 in
+    let e4 = and-right (leb (t .count) 1024) _ e3 in
+    let e5 = and-right (eqb (length (t .rows)) (t .count * 3)) _ e4 in
+    let e6 = and-right (levelsSound ls (t .pairs)) _ e5 in
+    leb-true _ _ (and-left (leb (t .from) 4294967295) _ (and-right (rowsSound t) _ e6))
+
+module _ (version : ℕ) (x : LentTable) (ty : typedPairs (x .item) ≡ true) (e : lentSound x ≡ true) (sa : tableSayable version x ≡ true) where
+  p : table.Sound (lentOf x) (levelsOf (x .item))
+  p = table.sound (lentOf x) (levelsOf (x .item)) e
+
+  r : table.Rows (lentOf x)
+  r = table.sound-rows (lentOf x) (p .rows)
+
+  places : length (x .item .levels) ≡ 256
+  unfolding typedPairs
+  places = eqb-true _ _ (and-left (eqb (length (x .item .levels)) 256) _ ty)
+
+  twos : twoEach (x .item .levels) ≡ true
+  unfolding typedPairs
+  twos = and-right (eqb (length (x .item .levels)) 256) _ ty
+
+  few-pairs : x .item .table .pairs ≤ mostPairs version
+  unfolding tableSayable
+  few-pairs = leb-true _ _ (and-left (leb (x .item .table .pairs) (mostPairs version)) _ sa)
+
+  few-rows : x .item .table .count ≤ mostRows version
+  unfolding tableSayable
+  few-rows = leb-true _ _ (and-right (leb (x .item .table .pairs) (mostPairs version)) _ sa)
+
+  pairs-there : length (take (x .item .table .pairs) (x .item .levels)) ≡ x .item .table .pairs
+  pairs-there = length-take-le (x .item .table .pairs) (x .item .levels) (omega (arith, p .pairs-held, places))
+
+  all-rows : take 1024 (rowsFrom (x .rows)) ≡ rowsFrom (x .rows)
+  all-rows = take-all 1024 (rowsFrom (x .rows)) (omega (arith, p .counted, p .rows-held))
+
+  rows-length : length (take 1024 (rowsFrom (x .rows))) ≡ x .item .table .count
+  rows-length = ap length all-rows ∙ p .counted
+
+  levels-again : padded 256 noPair (take (x .item .table .pairs) (x .item .levels)) ≡ x .item .levels
+  levels-again =
+      padded-again 256 (x .item .table .pairs) noPair (x .item .levels) places (p .pairs-held)
+      (unused-pairs (drop (x .item .table .pairs) (x .item .levels)) (rw (map-drop (x .item .table .pairs) (x .item .levels)) at (p .levels-rest)) (two-drop (x .item .table .pairs) (x .item .levels) twos)
+      ∙ ap (λ (k : ℕ). replicate k noPair) (length-drop (x .item .table .pairs) (x .item .levels)))
+
+  rows-again : rowNumbers (take 1024 (rowsFrom (x .rows))) ≡ x .rows
+  rows-again = ap rowNumbers all-rows ∙ rows-numbers (x .rows) (x .item .table .count) (p .lent)
+
+  table-says : Says version x
+  unfolding Sound tableFormat
+  table-says =
+      let rise : levelsRise 0 0 (map two (take (x .item .table .pairs) (x .item .levels))) ≡ true = rw (map-take (x .item .table .pairs) (x .item .levels)) at (p .levels) in
+      let numbers : levelNumbers (map two (take (x .item .table .pairs) (x .item .levels))) ≡ true = rw (map-take (x .item .table .pairs) (x .item .levels)) at (p .level-numbers) in
+      let a = pairs-each 0 0 (take (x .item .table .pairs) (x .item .levels)) rise numbers (two-take (x .item .table .pairs) (x .item .levels) twos) in
+      let ri : rising 0 (take 1024 (rowsFrom (x .rows))) ≡ true = rw all-rows (r .rise) in
+      let ra : targetsApart (take 1024 (rowsFrom (x .rows))) ≡ true = rw all-rows (r .apart) in
+      let b = rows-each [] (take 1024 (rowsFrom (x .rows))) ri ra in
+      let f : 1 ≤ x .item .table .from = some (x .item .table .from) (p .from) in
+      let g : 1 ≤ x .item .table .to = some (x .item .table .to) (p .to) in
+      let ff : x .item .table .from ≤ 4294967295 = from-fits (lentOf x) (levelsOf (x .item)) e in
+      let np : length (take (x .item .table .pairs) (x .item .levels)) ≤ mostPairs version = omega (arith, pairs-there, few-pairs) in
+      let nr : length (take 1024 (rowsFrom (x .rows))) ≤ mostRows version = omega (arith, rows-length, few-rows) in
+      record {
+        format = (
+          (
+            (f, ff, omega (arith, ff)),
+            (
+              (g, p .to-fits, omega (arith, p .to-fits)),
+              ((a, np, omega (arith, np, pairs-most version)), (b, nr, omega (arith, nr, rows-most version))),
+            ),
+          ),
+          refl,
+        );
+        again =
+            λ i. record {
+              item = record { table = record { from = x .item .table .from; to = x .item .table .to; pairs = pairs-there i; count = rows-length i }; levels = levels-again i };
+              rows = rows-again i;
+            };
+      }
 
 -- a table that is put together from sound parts
-renumbering-sound : (from to : ℕ) (ps : List LevelPair) (rs : List Row) → 1 ≤ from → from ≤ 4294967295 → 1 ≤ to → to ≤ 4294967295 → length ps ≤ 16 → length rs ≤ 64
-    → PairsSaid 0 0 ps → rising 0 rs ≡ true → targetsApart rs ≡ true → renumberingSound (renumberingOf from to ps rs) ≡ true
-unfolding renumberingSound tableSound typedPairs typed levelsSound rowsSound
-renumbering-sound from to ps rs a b c d n m p r t =
-    let us : List LevelPair = replicate (16 - length ps) noPair in
-    let vs : List Row = replicate (64 - length rs) noRow in
-    let kt : take (length ps) (map two (padded 16 noPair ps)) ≡ map two ps = map-take (length ps) (padded 16 noPair ps) ∙ ap (map two) (take-at ps us (length ps) refl) in
-    let kd : drop (length ps) (map two (padded 16 noPair ps)) ≡ map two (replicate (16 - length ps) noPair) = map-drop (length ps) (padded 16 noPair ps) ∙ ap (map two) (drop-at ps us (length ps) refl) in
-    let rt : take (length rs) (padded 64 noRow rs) ≡ rs = take-at rs vs (length rs) refl in
-    let rd : drop (length rs) (padded 64 noRow rs) ≡ replicate (64 - length rs) noRow = drop-at rs vs (length rs) refl in
-    rw (
-      ne-eqb from 0 (λ z. omega arith),
-      ne-eqb to 0 (λ z. omega arith),
-      le-leb (length ps) 16 n,
-      le-leb (length rs) 64 m,
-      kt,
-      kd,
-      rt,
-      rd,
-      p .rise,
-      p .numbers,
-      zero-pairs (16 - length ps),
-      r,
-      t,
-      zero-rows (64 - length rs),
-      le-leb from 4294967295 b,
-      le-leb to 4294967295 d,
-      eq-eqb (length (padded 64 noRow rs)) 64 (padded-length 64 noRow rs m),
-      eq-eqb (length (padded 16 noPair ps)) 16 (padded-length 16 noPair ps n),
-      two-both ps us (p .each) (two-zeros (16 - length ps)),
-    )
+module _ (t : TableFields) (a : 1 ≤ t .from) (b : t .from ≤ 4294967295) (c : 1 ≤ t .to) (d : t .to ≤ 4294967295) (n : length (t .pairs) ≤ 256) (m : length (t .rows) ≤ 1024)
+    (p : PairsSaid 0 0 (t .pairs)) (r : rising 0 (t .rows) ≡ true) (q : targetsApart (t .rows) ≡ true) where
+  fields-sound : lentSound (lentFields t) ≡ true
+  unfolding tableSound typed levelsSound rowsSound
+  fields-sound =
+      let us : List LevelPair = replicate (256 - length (t .pairs)) noPair in
+      let kt : take (length (t .pairs)) (map two (padded 256 noPair (t .pairs))) ≡ map two (t .pairs) = map-take (length (t .pairs)) (padded 256 noPair (t .pairs)) ∙ ap (map two) (take-at (t .pairs) us (length (t .pairs)) refl) in
+      let kd : drop (length (t .pairs)) (map two (padded 256 noPair (t .pairs))) ≡ map two (replicate (256 - length (t .pairs)) noPair) =
+      map-drop (length (t .pairs)) (padded 256 noPair (t .pairs)) ∙ ap (map two) (drop-at (t .pairs) us (length (t .pairs)) refl) in
+      rw (
+        ne-eqb (t .from) 0 (λ z. omega arith),
+        ne-eqb (t .to) 0 (λ z. omega arith),
+        le-leb (length (t .pairs)) 256 n,
+        le-leb (length (t .rows)) 1024 m,
+        numbers-length (t .rows),
+        eq-eqb (length (t .rows) * 3) (length (t .rows) * 3) refl,
+        kt,
+        kd,
+        p .rise,
+        p .numbers,
+        zero-pairs (256 - length (t .pairs)),
+        numbers-rows (t .rows),
+        r,
+        q,
+        le-leb (t .from) 4294967295 b,
+        le-leb (t .to) 4294967295 d,
+      )
 
-table-said : (r : Renumbering) → Sound tableFormat r → renumberingSound r ≡ true
-unfolding Sound tableFormat
-table-said r h =
-    let t = r .table in
-    let k = each-rows [] (usedRows t) (h .0 .1 .1 .1 .0) refl in
-    subst (λ (x : Renumbering). renumberingSound x ≡ true) (h .1)
-    (renumbering-sound (t .from) (t .to) (take (t .pairs) (r .levels)) (usedRows t) (h .0 .0 .0) (h .0 .0 .1) (h .0 .1 .0 .0) (h .0 .1 .0 .1) (h .0 .1 .1 .0 .1) (h .0 .1 .1 .1 .1)
-    (each-pairs 0 0 (take (t .pairs) (r .levels)) (h .0 .1 .1 .0 .0)) (k .0) (k .1))
+  fields-typed : typedPairs (lentFields t .item) ≡ true
+  unfolding typedPairs
+  fields-typed =
+      rw (eq-eqb (length (padded 256 noPair (t .pairs))) 256 (padded-length 256 noPair (t .pairs) n)) (two-both (t .pairs) (replicate (256 - length (t .pairs)) noPair) (p .each) (two-zeros (256 - length (t .pairs))))
+
+  fields-again : fieldsOf (lentFields t) ≡ t
+  fields-again =
+      let u : take (length (t .pairs)) (padded 256 noPair (t .pairs)) ≡ t .pairs = padded-used 256 noPair (t .pairs) in
+      let v : take 1024 (rowsFrom (rowNumbers (t .rows))) ≡ t .rows = ap (take 1024) (numbers-rows (t .rows)) ∙ take-all 1024 (t .rows) m in
+      λ i. tableFields (t .from) (t .to) (u i) (v i)
+
+table-said : (version : ℕ) (t : TableFields) → Sound (tableFormat version) t → SaidTable version t
+unfolding Sound tableFormat tableSayable
+table-said version t h =
+    let k = each-rows [] (t .rows) (h .0 .1 .1 .1 .0) refl in
+    let ps = each-pairs 0 0 (t .pairs) (h .0 .1 .1 .0 .0) in
+    let n : length (t .pairs) ≤ 256 = omega (arith, h .0 .1 .1 .0 .1, pairs-most version) in
+    let m : length (t .rows) ≤ 1024 = omega (arith, h .0 .1 .1 .1 .1, rows-most version) in
+    record {
+      sound = fields-sound t (h .0 .0 .0) (h .0 .0 .1) (h .0 .1 .0 .0) (h .0 .1 .0 .1) n m ps (k .0) (k .1);
+      typed = fields-typed t (h .0 .0 .0) (h .0 .0 .1) (h .0 .1 .0 .0) (h .0 .1 .0 .1) n m ps (k .0) (k .1);
+      sayable = rw (le-leb (length (t .pairs)) (mostPairs version) (h .0 .1 .1 .0 .1), le-leb (length (t .rows)) (mostRows version) (h .0 .1 .1 .1 .1));
+      again = fields-again t (h .0 .0 .0) (h .0 .0 .1) (h .0 .1 .0 .0) (h .0 .1 .0 .1) n m ps (k .0) (k .1);
+    }
 
 pub tables-said : TablesSaid
 tables-said = record { says = table-says; said = table-said }

@@ -7,7 +7,7 @@ use lib.ListN.{length, take, getD}
 use Rattle.table.specs.declared.Row.{Row}
 use Rattle.table.specs.Table.{row, rising, targetsApart}
 use Rattle.file_format.specs.Format.{Format, two, number, _then_, fields, many, Reads, digits}
-use Rattle.file_table.specs.declared.LevelPair.{LevelPair}
+use Rattle.table_levels.specs.declared.LevelPair.{LevelPair}
 use Rattle.file_table.specs.TableFormat.{rowFormat, withRow}
 
 -- a row, without a look at the rows before it but for its floor

@@ -1,22 +1,29 @@
--- docs/FILE.md, "A table", version 1. The layout's row: from (4), to (4), pair count (2), then each pair (1 + 1), row count (2), then low (2), high (2) and target low (2) of
--- each row.
-use mathlib.Core.Bool.{Bool, true, _&&_}
-use mathlib.Core.List.{List, [], _∷_, _++_, map}
+-- docs/FILE.md, "A table". The layout's row: from (4), to (4), pair count (2), then each pair (1 + 1), row count (2), then low (2), high (2) and target low (2) of
+-- each row. Version 1: at most 16 pairs and 64 rows; version 2: 256 and 1,024.
+use mathlib.Core.Bool.{Bool, true, cond, _&&_}
+use mathlib.Core.List.{List, [], _∷_, _++_}
 use mathlib.Core.Path.{_≡_, refl}
 use Prim.Native.Nat.{ℕ, _+_, _-_}
-use lib.Dec.{eqb}
-use lib.ListN.{length, take, getD, replicate}
-use lib.Seq.{take-append-seam}
+use lib.Dec.{leb}
+use lib.ListN.{length, take, getD}
+use Rattle.table_levels.specs.declared.LevelPair.{LevelPair}
+use Rattle.table_levels.specs.Levels.{pair, noPair}
 use Rattle.table.specs.declared.Row.{Row}
-use Rattle.table.specs.declared.Table.{Table}
-use Rattle.table.specs.Table.{row, noRow, apartFrom, tableSound, unusedRows}
-use Rattle.file_format.specs.Format.{Format, one, two, four, number, _then_, _such_, fields, counted}
+use Rattle.table.specs.declared.Renumbering.{Renumbering}
+use Rattle.table.specs.Table.{row, rowsFrom, rowNumbers, apartFrom}
+use Rattle.table.specs.Renumbering.{LentTable}
+use Rattle.file_format.specs.Format.{Format, bad, valueOr, readAt, one, two, four, number, _then_, _such_, fields, counted}
 use Rattle.file_format.specs.Places.{padded}
-use Rattle.file_table.specs.declared.LevelPair.{LevelPair}
-use Rattle.file_table.specs.declared.Renumbering.{Renumbering}
 
-abbrev pub pair : ℕ → ℕ → LevelPair
-pair a b = record { levels = a ∷ b ∷ [] }
+-- 1. The limits of a version.
+
+abbrev pub mostPairs : (version : ℕ) → ℕ
+mostPairs version = cond (leb 2 version) 256 16
+
+abbrev pub mostRows : (version : ℕ) → ℕ
+mostRows version = cond (leb 2 version) 1024 64
+
+-- 2. The fields.
 
 -- a pair's first, second: above the first, second of the pair before it; a state holds the least that each may be
 unfoldable pub pairFormat : ℕ × ℕ → Format LevelPair
@@ -51,31 +58,49 @@ rowFormat before =
 abbrev pub withRow : List Row → Row → List Row
 withRow before r = before ++ (r ∷ [])
 
-abbrev pub noPair : LevelPair
-noPair = pair 0 0
+-- a table as a file says it
+pub record TableFields : Type 0 where
+  pub from : ℕ
+  pub to : ℕ
+  pub pairs : List LevelPair
+  pub rows : List Row
 
--- a table with these level pairs and rows; unused places are zero
-abbrev pub renumberingOf : ℕ → ℕ → List LevelPair → List Row → Renumbering
-renumberingOf from to pairs rows =
-    record {
-      table = record { from = from; to = to; pairs = length pairs; count = length rows; rows = padded 64 noRow rows };
-      levels = padded 16 noPair pairs;
-    }
+abbrev pub tableFields : ℕ → ℕ → List LevelPair → List Row → TableFields
+tableFields from to pairs rows = record { from = from; to = to; pairs = pairs; rows = rows }
 
-unfoldable pub tableFormat : Format Renumbering
-tableFormat =
+unfoldable pub tableFormat : (version : ℕ) → Format TableFields
+tableFormat version =
     fields
     (number four 1 4294967295
     then λ from. number four 1 4294967295
-    then λ to. counted pairFormat nextLeast two 16 (0, 0)
-    then λ pairs. counted rowFormat withRow two 64 [])
-    (λ p. renumberingOf (p .0) (p .1 .0) (p .1 .1 .0) (p .1 .1 .1))
-    (λ r. (r .table .from, (r .table .to, (take (r .table .pairs) (r .levels), take (r .table .count) (r .table .rows)))))
-    (λ p. rw (take-append-seam (p .1 .1 .0) (replicate (16 - length (p .1 .1 .0)) noPair), take-append-seam (p .1 .1 .1) (replicate (64 - length (p .1 .1 .1)) noRow)))
+    then λ to. counted pairFormat nextLeast two (mostPairs version) (0, 0)
+    then λ pairs. counted rowFormat withRow two (mostRows version) [])
+    (λ p. tableFields (p .0) (p .1 .0) (p .1 .1 .0) (p .1 .1 .1))
+    (λ t. (t .from, (t .to, (t .pairs, t .rows))))
+    (λ p. refl)
 
-abbrev pub noTable : Renumbering
-noTable = renumberingOf 0 0 [] []
+-- 3. The table of these fields, with its rows as numbers, and back. Unused places of level pairs are zero.
 
--- the level pairs as arrays of two numbers, as the gateway takes them beside the table
-abbrev pub levelsOf : Renumbering → List (List ℕ)
-levelsOf r = map (λ p. p .levels) (r .levels)
+abbrev pub headOf : TableFields → Renumbering
+headOf t =
+    record {
+      table = record { from = t .from; to = t .to; pairs = length (t .pairs); count = length (t .rows) };
+      levels = padded 256 noPair (t .pairs);
+    }
+
+abbrev pub lentFields : TableFields → LentTable
+lentFields t = record { item = headOf t; rows = rowNumbers (t .rows) }
+
+abbrev pub fieldsOf : LentTable → TableFields
+fieldsOf x = tableFields (x .item .table .from) (x .item .table .to) (take (x .item .table .pairs) (x .item .levels)) (take 1024 (rowsFrom (x .rows)))
+
+abbrev pub noFields : TableFields
+noFields = tableFields 0 0 [] []
+
+-- what a reader finds at a place, in a file of this version; nothing where it is refused
+abbrev pub foundTable : (version : ℕ) → List ℕ → Bool → ℕ → TableFields
+foundTable version s ok at = valueOr noFields (cond ok (readAt (tableFormat version) s at) (bad at))
+
+-- a file of this version can say the table
+unfoldable pub tableSayable : (version : ℕ) → LentTable → Bool
+tableSayable version x = leb (x .item .table .pairs) (mostPairs version) && leb (x .item .table .count) (mostRows version)

@@ -1,28 +1,23 @@
--- The house file: a table has octets, and is read back, exactly when it is sound as document 01 says it.
+-- The house file: a table has octets in a file of a version, and is read back, exactly when it is sound with the rows that are lent for it and keeps to the version's limits.
 use mathlib.Core.Bool.{Bool, true, _&&_}
-use mathlib.Core.List.{List, [], _∷_}
 use mathlib.Core.Path.{_≡_}
 use Prim.Native.Nat.{ℕ}
-use lib.Dec.{eqb}
-use lib.ListN.{length}
-use Rattle.table.specs.Table.{tableSound}
+use Rattle.table.specs.Renumbering.{LentTable, lentSound, typedPairs}
 use Rattle.file_format.specs.Format.{Sound}
-use Rattle.file_table.specs.declared.LevelPair.{LevelPair}
-use Rattle.file_table.specs.declared.Renumbering.{Renumbering}
-use Rattle.file_table.specs.TableFormat.{tableFormat, levelsOf}
+use Rattle.file_table.specs.TableFormat.{TableFields, tableFormat, lentFields, fieldsOf, tableSayable}
 
--- what the types say of level pairs: 16 places of two numbers
-abbrev pub twoEach : List LevelPair → Bool
-twoEach [] = true
-twoEach (p ∷ ps) = eqb (length (p .levels)) 2 && twoEach ps
+-- what is said of a table that is sound and typed
+pub record Says (version : ℕ) (x : LentTable) : Type 0 where
+  pub format : Sound (tableFormat version) (fieldsOf x)
+  pub again : lentFields (fieldsOf x) ≡ x
 
-unfoldable pub typedPairs : Renumbering → Bool
-typedPairs r = eqb (length (r .levels)) 16 && twoEach (r .levels)
-
--- a table that is sound with its level pairs
-unfoldable pub renumberingSound : Renumbering → Bool
-renumberingSound r = tableSound (r .table) (levelsOf r) && typedPairs r
+-- what fields that a format says come to
+pub record SaidTable (version : ℕ) (t : TableFields) : Type 0 where
+  pub sound : lentSound (lentFields t) ≡ true
+  pub typed : typedPairs (lentFields t .item) ≡ true
+  pub sayable : tableSayable version (lentFields t) ≡ true
+  pub again : fieldsOf (lentFields t) ≡ t
 
 pub record TablesSaid : Type 0 where
-  pub says : (r : Renumbering) → renumberingSound r ≡ true → Sound tableFormat r
-  pub said : (r : Renumbering) → Sound tableFormat r → renumberingSound r ≡ true
+  pub says : (version : ℕ) (x : LentTable) → typedPairs (x .item) ≡ true → lentSound x ≡ true → tableSayable version x ≡ true → Says version x
+  pub said : (version : ℕ) (t : TableFields) → Sound (tableFormat version) t → SaidTable version t

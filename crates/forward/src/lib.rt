@@ -22,7 +22,9 @@ use option_read::read_keys;
 use port::Port;
 use port_usual::is_usual;
 use port_usual::looks_usual;
+use table::FEW_ROWS;
 use table::Table;
+use table_levels::Levels;
 ghost use mathlib.Core.Path.{_≡_};
 ghost use mathlib.Core.Bool.{true};
 ghost use Prim.Native.Nat.{_≤_};
@@ -33,6 +35,7 @@ ghost use Rattle.area.specs.declared.Place.the-variants.{At};
 ghost use Rattle.port_usual.specs.Usual.{usualPort};
 ghost use Rattle.arrive.specs.Verdict.{Arrives};
 ghost use Rattle.arrive.specs.Stages.{ArrivesAt, heldBetween};
+ghost use Rattle.table.specs.Table.{lent};
 ghost use Rattle.forward_rules.specs.Forward.{forwardingOf, forwardOf, outputOf};
 ghost use Rattle.forward_leave.specs.Departure.{heldBy};
 
@@ -42,20 +45,21 @@ pub fn forward(
     arriving: Port,
     leaving: Port,
     table: Table,
-    levels: [[u8; 2]; 16],
+    rows: &[u16],
+    levels: Levels,
     facts: Facts,
     area: &[u8],
     out: &mut [u8],
 ) -> Decision
-    ensures { λ r. ⌜ r ≡ forwardOf (forwardingOf arriving leaving table levels facts (now (area .entry)) (length (now (out .entry)))) ⌝ }
-    ensures { λ _. ⌜ now (out .exit) ≡ outputOf (forwardingOf arriving leaving table levels facts (now (area .entry)) (length (now (out .entry)))) (now (out .entry)) ⌝ }
+    ensures { λ r. ⌜ r ≡ forwardOf (forwardingOf arriving leaving (lent table (now (rows .entry))) levels facts (now (area .entry)) (length (now (out .entry)))) ⌝ }
+    ensures { λ _. ⌜ now (out .exit) ≡ outputOf (forwardingOf arriving leaving (lent table (now (rows .entry))) levels facts (now (area .entry)) (length (now (out .entry)))) (now (out .entry)) ⌝ }
 {
     if looks_usual(arriving) && looks_usual(leaving) {
-        if is_usual(arriving) && is_usual(leaving) {
-            return forward_usual(arriving, leaving, table, levels, facts, area, out);
+        if is_usual(arriving) && is_usual(leaving) && (table.count <= FEW_ROWS) {
+            return forward_usual(arriving, leaving, table, rows, levels, facts, area, out);
         }
     }
-    forward_any(arriving, leaving, table, levels, facts, area, out)
+    forward_any(arriving, leaving, table, rows, levels, facts, area, out)
 }
 
 // The same between two usual ports: neither reads option 130, so 19 to 21 are not asked, and the first look at a range is the last.
@@ -63,14 +67,15 @@ fn forward_usual(
     arriving: Port,
     leaving: Port,
     table: Table,
-    levels: [[u8; 2]; 16],
+    rows: &[u16],
+    levels: Levels,
     facts: Facts,
     area: &[u8],
     out: &mut [u8],
 ) -> Decision
-    requires { ⌜ (usualPort arriving ≡ true) × (usualPort leaving ≡ true) ⌝ }
-    ensures { λ r. ⌜ r ≡ forwardOf (forwardingOf arriving leaving table levels facts (now (area .entry)) (length (now (out .entry)))) ⌝ }
-    ensures { λ _. ⌜ now (out .exit) ≡ outputOf (forwardingOf arriving leaving table levels facts (now (area .entry)) (length (now (out .entry)))) (now (out .entry)) ⌝ }
+    requires { ⌜ (usualPort arriving ≡ true) × (usualPort leaving ≡ true) × (table .count ≤ 64) ⌝ }
+    ensures { λ r. ⌜ r ≡ forwardOf (forwardingOf arriving leaving (lent table (now (rows .entry))) levels facts (now (area .entry)) (length (now (out .entry)))) ⌝ }
+    ensures { λ _. ⌜ now (out .exit) ≡ outputOf (forwardingOf arriving leaving (lent table (now (rows .entry))) levels facts (now (area .entry)) (length (now (out .entry)))) (now (out .entry)) ⌝ }
 {
     let mut own = [0u32; 120];
     let mut far = [0u32; 184];
@@ -81,6 +86,7 @@ fn forward_usual(
         arriving.domain,
         leaving.domain,
         table,
+        rows,
         levels,
         &own,
         &mut far,

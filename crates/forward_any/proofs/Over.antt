@@ -3,7 +3,7 @@ use mathlib.Core.Path.{_≡_, sym, _∙_, ap}
 use mathlib.Core.Bool.{Bool, true, false, cond, _&&_}
 use mathlib.Core.List.{List}
 use mathlib.Core.Option.{none}
-use Prim.Native.Nat.{ℕ, _≤_, min}
+use Prim.Native.Nat.{ℕ, _+_, _≤_, min}
 use native.Mathlib.Omega.{arith}
 use lib.Dec.{eqb}
 use lib.ListN.{length, take, drop, length-take}
@@ -70,7 +70,7 @@ module _ (x : Crossing) (w : wellFormed (x .label) ≡ true) (same : x .domain �
       }
 
 -- With other domains a sound table carries them.
-module _ (x : Crossing) (apart : stays x ≡ false) (w : wellFormed (x .label) ≡ true) (far keys : List ℕ) (room : 184 ≤ length far) (c : Carried)
+module _ (x : Crossing) (apart : stays x ≡ false) (w : wellFormed (x .label) ≡ true) (far keys : List ℕ) (room : tableSound (x .table) (x .levels) ≡ true → 120 + x .table .count ≤ length far) (c : Carried)
     (is : c ≡ carryOf (used (x .label)) (x .label .level) (x .table) (x .levels) (length far)) where
   abbrev image : List Run
   image = imageRuns (x .label) (x .table)
@@ -89,10 +89,10 @@ module _ (x : Crossing) (apart : stays x ≡ false) (w : wellFormed (x .label) �
 
   module _ (t : tableSound (x .table) (x .levels) ≡ true) where
     checked : c ≡ carriedTo (partner x) whole image
-    checked = is ∙ carry-checked (used (x .label)) (x .label .level) (x .table) (x .levels) (length far) t (label-runs (x .label) w) room
+    checked = is ∙ carry-checked (used (x .label)) (x .label .level) (x .table) (x .levels) (length far) t (label-runs (x .label) w) (room t)
 
     two : eqb (c .number) 2 ≡ false
-    two = ap (λ (d : Carried). eqb (d .number) 2) is ∙ carry-two (used (x .label)) (x .label .level) (x .table) (x .levels) (length far) (label-runs (x .label) w) room ∙ rw t
+    two = ap (λ (d : Carried). eqb (d .number) 2) is ∙ carry-two (used (x .label)) (x .label .level) (x .table) (x .levels) (length far) (label-runs (x .label) w) (room t) ∙ rw t
 
     zero : eqb (c .number) 0 ≡ (known (partner x) && whole)
     zero = ap (λ (d : Carried). eqb (d .number) 0) checked ∙ carried-number (partner x) whole image

@@ -84,7 +84,8 @@ pub record Ran (f : Forwarding) (own own′ far far′ out out′ : List ℕ) (a
   pub room : f .room ≡ length out
   pub own-room : 120 ≤ length own
   pub own-kept : 120 ≤ length own′
-  pub far-room : 184 ≤ length far
+  pub far-room : 120 ≤ length far
+  pub far-rows : tableSound (f .table) (f .levels) ≡ true → 120 + f .table .count ≤ length far
   pub arrives : Arrives (f .arriving) (f .area) 9 own own′ a
   pub ready : r ≡ recordedBy a (f .room) (portSound (f .leaving))
   pub sent : u ≡ sentBy r (f .arriving .basic .on) (f .leaving .basic .on) (f .leaving .basic .sending) (basicRead (octetsAt (basicIn (walkOf true (f .area))) (f .area)))
@@ -451,18 +452,18 @@ module _ (f : Forwarding) (own own′ far far′ out out′ : List ℕ) (a r u c
 
             by-table : (b : Bool) → tableSound (f .table) (f .levels) ≡ b → Answers
             by-table false t =
-                refused-over (silent 2) (carried .2 ∙ unsound-verdict x d (arrived-held .formed) far far′ (s .far-room) (carried .0) (carried .1) t) (λ z. omega arith)
+                refused-over (silent 2) (carried .2 ∙ unsound-verdict x d (arrived-held .formed) far far′ (s .far-rows) (carried .0) (carried .1) t) (λ z. omega arith)
                 (forward-record f sized long (rw (p, q, d, t)))
             by-table true t = by-numbers (hasNumbers x) refl
               where
                 by-numbers : (b : Bool) → hasNumbers x ≡ b → Answers
                 by-numbers false n =
-                    refused-over (barred 16 9) (carried .2 ∙ numberless-verdict x d (arrived-held .formed) far far′ (s .far-room) (carried .0) (carried .1) t n) (λ z. omega arith)
+                    refused-over (barred 16 9) (carried .2 ∙ numberless-verdict x d (arrived-held .formed) far far′ (s .far-rows) (carried .0) (carried .1) t n) (λ z. omega arith)
                     (forward-number f sized long (rw (p, q, d, t)) e (rw (d, n)))
                 by-numbers true n =
                     passed-over (rw (p, q, d, t)) e
-                    (carried-over x d (arrived-held .formed) far far′ (s .far-room) (carried .0) (carried .1) t n (carried .3))
-                    (carried .2 ∙ carried-verdict x d (arrived-held .formed) far far′ (s .far-room) (carried .0) (carried .1) t n)
+                    (carried-over x d (arrived-held .formed) far far′ (s .far-rows) (carried .0) (carried .1) t n (carried .3))
+                    (carried .2 ∙ carried-verdict x d (arrived-held .formed) far far′ (s .far-rows) (carried .0) (carried .1) t n)
 
           by-domain : (b : Bool) → sameDomain f ≡ b → Answers
           by-domain true d = same-passed d

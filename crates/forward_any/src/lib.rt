@@ -12,9 +12,12 @@ use forward_write::kept_by;
 use forward_write::write_area;
 use port::Port;
 use port::port_sound;
+use renumber_keys::MOST_RUNS;
 use table::Table;
+use table_levels::Levels;
 ghost use mathlib.Core.Path.{_≡_};
 ghost use lib.ListN.{length};
+ghost use Rattle.table.specs.Table.{lent};
 ghost use Rattle.forward_rules.specs.Forward.{forwardingOf, forwardOf, outputOf};
 
 // Decides whether a datagram is forwarded from the arriving to the leaving port, whatever they are, and writes its leaving area.
@@ -22,16 +25,17 @@ pub fn forward_any(
     arriving: Port,
     leaving: Port,
     table: Table,
-    levels: [[u8; 2]; 16],
+    rows: &[u16],
+    levels: Levels,
     facts: Facts,
     area: &[u8],
     out: &mut [u8],
 ) -> Decision
-    ensures { λ r. ⌜ r ≡ forwardOf (forwardingOf arriving leaving table levels facts (now (area .entry)) (length (now (out .entry)))) ⌝ }
-    ensures { λ _. ⌜ now (out .exit) ≡ outputOf (forwardingOf arriving leaving table levels facts (now (area .entry)) (length (now (out .entry)))) (now (out .entry)) ⌝ }
+    ensures { λ r. ⌜ r ≡ forwardOf (forwardingOf arriving leaving (lent table (now (rows .entry))) levels facts (now (area .entry)) (length (now (out .entry)))) ⌝ }
+    ensures { λ _. ⌜ now (out .exit) ≡ outputOf (forwardingOf arriving leaving (lent table (now (rows .entry))) levels facts (now (area .entry)) (length (now (out .entry)))) (now (out .entry)) ⌝ }
 {
     let mut own = [0u32; 120];
-    let mut far = [0u32; 184];
+    let mut far = [0u32; MOST_RUNS];
     // before anything is written, so that the port is not copied for a later look
     let sound = port_sound(leaving);
     let arrived = arrive(arriving, area, 9, &mut own);
@@ -48,6 +52,7 @@ pub fn forward_any(
         arriving.domain,
         leaving.domain,
         table,
+        rows,
         levels,
         &own,
         &mut far,

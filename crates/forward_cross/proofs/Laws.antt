@@ -7,12 +7,12 @@ use lib.ListN.{length, take}
 use borrow.Author.Tests.{eq-eqb, ne-eqb}
 use Rattle.lists.specs.Lists.{copied}
 use Rattle.label_keys.specs.Keys.{keyRuns}
-use Rattle.table.specs.declared.Table.{Table}
+use Rattle.table.specs.Table.{Lent}
 use Rattle.renumber_keys.specs.Carry.{imageOf, carriedKeys, carryOf}
 use Rattle.decision.specs.declared.Verdict.{Verdict}
 use Rattle.forward_cross.specs.Crossed.{tabledBy, numberedBy, crossedBy, crossedKeys}
 
-module _ (r : Verdict) (domain leaving : ℕ) (table : Table) (levels : List (List ℕ)) (own far : List ℕ) where
+module _ (r : Verdict) (domain leaving : ℕ) (table : Lent) (levels : List (List ℕ)) (own far : List ℕ) where
   pub crossed-same : domain ≡ leaving
       → (crossedBy r domain leaving table levels own (length far) ≡ r) × (crossedKeys r domain leaving table levels own far ≡ copied own far)
   unfolding crossedBy crossedKeys

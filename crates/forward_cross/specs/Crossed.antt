@@ -6,15 +6,14 @@ use Prim.Native.Nat.{ℕ}
 use lib.Dec.{leb, eqb}
 use lib.ListN.{length, take}
 use Rattle.label_keys.specs.Keys.{keyRuns}
-use Rattle.table.specs.declared.Table.{Table}
-use Rattle.table.specs.Table.{tableSound}
+use Rattle.table.specs.Table.{Lent, tableSound}
 use Rattle.renumber_keys.specs.declared.Carried.{Carried}
 use Rattle.renumber_keys.specs.Carry.{imageOf, carriedKeys, carryOf}
 use Rattle.decision.specs.declared.Verdict.{Verdict}
 use Rattle.decision.specs.Verdict.{stopped, going}
 
 -- 2 of the table, before 3 to 21
-unfoldable pub tabledBy : Verdict → Table → List (List ℕ) → Verdict
+unfoldable pub tabledBy : Verdict → Lent → List (List ℕ) → Verdict
 tabledBy r table levels = cond (leb (r .number) 2 || tableSound table levels) r (stopped 2 0 0 0)
 
 -- 2 of the table, then 16; `from` and `to` say whether the table's domains are the two ports'
@@ -24,7 +23,7 @@ numberedBy c from to =
     (cond (from && (to && eqb (c .number) 0)) (going (c .level) (c .count)) (stopped 16 3 9 0))
 
 -- with equal domains the verdict stays; with others the table is looked at, and carries the keys where no check applies
-unfoldable pub crossedBy : Verdict → ℕ → ℕ → Table → List (List ℕ) → List ℕ → ℕ → Verdict
+unfoldable pub crossedBy : Verdict → ℕ → ℕ → Lent → List (List ℕ) → List ℕ → ℕ → Verdict
 crossedBy r domain leaving table levels own room =
     cond (eqb domain leaving) r
     (cond (eqb (r .number) 0)
@@ -32,7 +31,7 @@ crossedBy r domain leaving table levels own room =
     (tabledBy r table levels))
 
 -- the far keys then: with equal domains as many of the own as there is room for
-unfoldable pub crossedKeys : Verdict → ℕ → ℕ → Table → List (List ℕ) → List ℕ → List ℕ → List ℕ
+unfoldable pub crossedKeys : Verdict → ℕ → ℕ → Lent → List (List ℕ) → List ℕ → List ℕ → List ℕ
 crossedKeys r domain leaving table levels own far =
     cond (eqb domain leaving) (copied own far)
     (cond (eqb (r .number) 0)

@@ -14,9 +14,8 @@ use Rattle.option_form.specs.Spelled.{lacking, lengthOf}
 use Rattle.port.specs.declared.Port.{Port}
 use Rattle.port.specs.Port.{portSound, lowestOut, highestOut}
 use Rattle.decision.specs.declared.Facts.{Facts}
-use Rattle.table.specs.declared.Table.{Table}
 use Rattle.table_levels.specs.declared.Partner.{Partner}
-use Rattle.table.specs.Table.{usedRows, tableSound}
+use Rattle.table.specs.Table.{Lent, usedRows, tableSound}
 use Rattle.table_levels.specs.Levels.{partnerOf, known, levelOr0}
 use Rattle.table.specs.Numbers.{numbered}
 use Rattle.renumber.specs.Renumber.{imageRuns}
@@ -28,7 +27,7 @@ use Rattle.arrive.specs.Checks.{silent, barred, when, arrivingBasic, basicPasse
 pub record Forwarding : Type 0 where
   pub arriving : Port
   pub leaving : Port
-  pub table : Table
+  pub table : Lent
   pub levels : List (List ℕ)
   pub facts : Facts
   pub area : List ℕ
@@ -56,7 +55,7 @@ pub record Crossing : Type 0 where
   pub label : Label
   pub domain : ℕ
   pub leaving : Port
-  pub table : Table
+  pub table : Lent
   pub levels : List (List ℕ)
 
 abbrev pub crossing : Forwarding → Crossing

@@ -6,7 +6,7 @@ use lib.ListN.{length}
 use Rattle.option_form.specs.Spelled.{lengthOf}
 use Rattle.area_leaving.specs.Kept.{keptOf, roundUp, leavingOf}
 use Rattle.port.specs.declared.Port.{Port}
-use Rattle.table.specs.declared.Table.{Table}
+use Rattle.table.specs.Table.{Lent}
 use Rattle.decision.specs.declared.Facts.{Facts}
 use Rattle.decision.specs.declared.Decision.{Decision}
 use Rattle.decision.specs.Decision.{Refusal, silenced, decided}
@@ -14,7 +14,7 @@ use Rattle.arrive.specs.Checks.{firstOf, optionChecks, rangeCheck}
 use Rattle.forward_rules.specs.Crossing.{Forwarding, sizes, records, leavingBasicCheck, numberCheck, leavingCheck, spellingCheck, crossing, leavingLabel, leavingOption}
 
 -- the inputs of a forwarding
-abbrev pub forwardingOf : Port → Port → Table → List (List ℕ) → Facts → List ℕ → ℕ → Forwarding
+abbrev pub forwardingOf : Port → Port → Lent → List (List ℕ) → Facts → List ℕ → ℕ → Forwarding
 forwardingOf a l t ls facts area room =
     record { arriving = a; leaving = l; table = t; levels = ls; facts = facts; area = area; room = room }
 

@@ -17,10 +17,9 @@ use Rattle.label.proofs.Bools.{and-right, or-cases, or-true-right, same-yes, le
 use Rattle.label.proofs.Runs.{one-form}
 use Rattle.label.proofs.Labels.{formed, well-formed, formed-of, used-of, used-length, of-used, member-is, leq-says, leq-said, leq-at-most}
 use Rattle.label.proofs.Theorems as label-theorems
-use Rattle.table.specs.declared.Table.{Table}
 use Rattle.table_levels.specs.declared.Partner.{Partner}
 use Rattle.table_levels.specs.declared.Partner.the-variants.{Level, Missing}
-use Rattle.table.specs.Table.{usedRows, tableSound}
+use Rattle.table.specs.Table.{Lent, usedRows, tableSound}
 use Rattle.table_levels.specs.Levels.{partnerOf}
 use Rattle.table.specs.Numbers.{sends, numbered, inImage}
 use Rattle.table.proofs.Sound.{sound, Rows, sound-rows}
@@ -34,7 +33,7 @@ use Rattle.renumber_keys.proofs.Pass.{numbered-yes, numbered-all, image-hits, s
 use Rattle.renumber.proofs.Answers.{renumbered-fitted, carried-outside, carried-fitted}
 
 -- What led to an answer that is no refusal.
-pub record Led (l : Label) (t : Table) (ls : List (List ℕ)) (m : Label) : Type 0 where
+pub record Led (l : Label) (t : Lent) (ls : List (List ℕ)) (m : Label) : Type 0 where
   pub sound : tableSound t ls ≡ true
   pub formed : wellFormed l ≡ true
   pub domain : l .domain ≡ t .from
@@ -58,7 +57,7 @@ when-led Missing b f m e = absurd (not-done 16 m (λ z. omega arith) e)
 when-led (Level v) true f m e = (v, refl, refl, e)
 when-led (Level v) false f m e = absurd (not-done 16 m (λ z. omega arith) e)
 
-pub led : (l : Label) (t : Table) (ls : List (List ℕ)) (m : Label) → renumberedOf l t ls ≡ renumberedAs m → Led l t ls m
+pub led : (l : Label) (t : Lent) (ls : List (List ℕ)) (m : Label) → renumberedOf l t ls ≡ renumberedAs m → Led l t ls m
 unfolding renumberedOf
 led l t ls m e = go (tableSound t ls) (wellFormed l) (eqb (l .domain) (t .from)) refl refl refl e
   where
@@ -85,7 +84,7 @@ led l t ls m e = go (tableSound t ls) (wellFormed l) (eqb (l .domain) (t .from))
 
 -- The set of the numbers.
 
-module _ (l : Label) (t : Table) (ls : List (List ℕ)) (s : tableSound t ls ≡ true) (w : wellFormed l ≡ true) where
+module _ (l : Label) (t : Lent) (ls : List (List ℕ)) (s : tableSound t ls ≡ true) (w : wellFormed l ≡ true) where
   rises : Rows t
   rises = sound-rows t (sound t ls s .rows)
 
@@ -122,7 +121,7 @@ module _ (l : Label) (t : Table) (ls : List (List ℕ)) (s : tableSound t ls ≡
   far-numbered : (m : Label) → Far l t ls m → numbered (usedRows t) (used l) ≡ true
   far-numbered m f = numbered-yes (usedRows t) (used l) (λ c h. f .whole c (member-is l w c ∙ h))
 
-right : (l : Label) (t : Table) (ls : List (List ℕ)) (m : Label) → renumberedOf l t ls ≡ renumberedAs m → Far l t ls m
+right : (l : Label) (t : Lent) (ls : List (List ℕ)) (m : Label) → renumberedOf l t ls ≡ renumberedAs m → Far l t ls m
 right l t ls m e =
     let k = led l t ls m e in
     let s = sound t ls (k .sound) in
@@ -143,7 +142,7 @@ right l t ls m e =
           (c .0, member-is l w (c .0) ∙ c .1, c .2);
     }
 
-only : (l : Label) (t : Table) (ls : List (List ℕ)) (m n : Label) → Far l t ls m → Far l t ls n → m ≡ n
+only : (l : Label) (t : Lent) (ls : List (List ℕ)) (m n : Label) → Far l t ls m → Far l t ls n → m ≡ n
 only l t ls m n f g =
     let v : m .level ≡ n .level = same-level (f .level) (g .level) in
     label-theorems.one-form m n (f .formed) (g .formed) (f .domain ∙ sym (g .domain)) v
@@ -154,7 +153,7 @@ only l t ls m n f g =
     same-level : {p : Partner} {a b : ℕ} → p ≡ Level a → p ≡ Level b → a ≡ b
     same-level x y = cc
 
-found : (l : Label) (t : Table) (ls : List (List ℕ)) (m : Label) → tableSound t ls ≡ true → wellFormed l ≡ true → l .domain ≡ t .from → Far l t ls m → renumberedOf l t ls ≡ renumberedAs m
+found : (l : Label) (t : Lent) (ls : List (List ℕ)) (m : Label) → tableSound t ls ≡ true → wellFormed l ≡ true → l .domain ≡ t .from → Far l t ls m → renumberedOf l t ls ≡ renumberedAs m
 found l t ls m s w d f =
     let u = far-runs l t ls s w m f in
     let g = formed m (f .formed) in
@@ -184,7 +183,7 @@ held-label lo hi m wl wh wm p q =
     (shuffle (leb (lo .level) (m .level)) (leb (m .level) (hi .level)) (subset (used lo) (used m)) (subset (used m) (used hi))))
 
 -- the same with the runs of the far set
-held-image : (l : Label) (t : Table) (ls : List (List ℕ)) (lowest highest m : Label) → wellFormed lowest ≡ true → wellFormed highest ≡ true → lowest .domain ≡ t .to → highest .domain ≡ t .to
+held-image : (l : Label) (t : Lent) (ls : List (List ℕ)) (lowest highest m : Label) → wellFormed lowest ≡ true → wellFormed highest ≡ true → lowest .domain ≡ t .to → highest .domain ≡ t .to
     → renumberedOf l t ls ≡ renumberedAs m → setInRange lowest highest (m .level) (imageRuns l t) ≡ inRange lowest highest m
 held-image l t ls lo hi m wl wh p q e =
     let k = led l t ls m e in
@@ -226,7 +225,7 @@ carrying l t ls lo hi m w s d wl wh p q e =
 
 -- Order and joins.
 
-levels-order : (a b : Label) (t : Table) (ls : List (List ℕ)) (m n : Label) → Led a t ls m → Led b t ls n → Ordered (a .level) (m .level) (b .level) (n .level)
+levels-order : (a b : Label) (t : Lent) (ls : List (List ℕ)) (m n : Label) → Led a t ls m → Led b t ls n → Ordered (a .level) (m .level) (b .level) (n .level)
 levels-order a b t ls m n k j =
     partners-order 0 0 (take (t .pairs) ls) (a .level) (m .level) (b .level) (n .level) (sound t ls (k .sound) .levels) (k .level) (j .level)
 

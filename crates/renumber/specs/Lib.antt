@@ -1,2 +1,3 @@
 pub mod Renumber
+pub mod Stages
 pub mod Theorems

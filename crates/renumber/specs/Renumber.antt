@@ -8,10 +8,9 @@ use Rattle.label.specs.declared.Run.{Run}
 use Rattle.label.specs.declared.Label.{Label}
 use Rattle.label.specs.Label.{used, labelOf, zeroLabel, wellFormed}
 use Rattle.label_keys.specs.Range.{setInRange}
-use Rattle.table.specs.declared.Table.{Table}
 use Rattle.table_levels.specs.declared.Partner.{Partner}
 use Rattle.table_levels.specs.declared.Partner.the-variants.{Level, Missing}
-use Rattle.table.specs.Table.{usedRows, tableSound}
+use Rattle.table.specs.Table.{Lent, usedRows, tableSound}
 use Rattle.table_levels.specs.Levels.{partnerOf}
 use Rattle.table.specs.Numbers.{numbered}
 use Rattle.renumber_keys.specs.Carry.{imageOf}
@@ -25,7 +24,7 @@ abbrev pub renumberedAs : Label → Renumbered
 renumberedAs l = record { number = 0; label = l }
 
 -- the numbers of a label's categories, the whole set
-abbrev pub imageRuns : Label → Table → List Run
+abbrev pub imageRuns : Label → Lent → List Run
 imageRuns l t = imageOf t (used l)
 
 -- 18 over 120 runs, else the label of the far domain and level
@@ -38,7 +37,7 @@ whenNumbered Missing all answer = notRenumbered 16
 whenNumbered (Level v) all answer = cond all (answer v) (notRenumbered 16)
 
 -- renumbering asked alone: 2 for an unsound table or an ill-formed label, then 16 (also for a foreign domain), then 18
-unfoldable pub renumberedOf : Label → Table → List (List ℕ) → Renumbered
+unfoldable pub renumberedOf : Label → Lent → List (List ℕ) → Renumbered
 renumberedOf l t ls =
     cond (tableSound t ls && wellFormed l)
     (cond (eqb (l .domain) (t .from))
@@ -48,7 +47,7 @@ renumberedOf l t ls =
 
 -- forward's renumbering of a well-formed label by a sound table from its domain, toward a range of the far domain: 16, then 17, then 18.
 -- "An over-large renumbered set is 18 unless 17 applies": the whole set is held against the range
-unfoldable pub carriedOf : Label → Table → List (List ℕ) → Label → Label → Renumbered
+unfoldable pub carriedOf : Label → Lent → List (List ℕ) → Label → Label → Renumbered
 carriedOf l t ls lowest highest =
     whenNumbered (partnerOf (take (t .pairs) ls) (l .level)) (numbered (usedRows t) (used l))
     (λ v. cond (setInRange lowest highest v (imageRuns l t)) (fitted (t .to) v (imageRuns l t)) (notRenumbered 17))

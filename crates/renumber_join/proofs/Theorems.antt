@@ -16,7 +16,7 @@ use Rattle.label.proofs.Bools.{and-right, or-cases, or-true-right, same-yes, le
 use Rattle.label.proofs.Runs.{covers-top}
 use Rattle.label.proofs.Labels.{formed, well-formed, formed-of, used-of, used-length, of-used, member-is, leq-says, leq-said}
 use Rattle.label.proofs.Theorems as label-theorems
-use Rattle.table.specs.declared.Table.{Table}
+use Rattle.table.specs.Table.{Lent}
 use Rattle.table_levels.specs.declared.Partner.the-variants.{Level}
 use Rattle.table_levels.specs.Levels.{levelsRise, partnerOf}
 use Rattle.table.proofs.Sound.{sound}
@@ -133,7 +133,7 @@ least-above = record { first = above-first; second = above-second; least = least
 
 -- Renumbering keeps joins.
 
-joined-first : (a b j : Label) (t : Table) (ls : List (List ℕ)) (m n k : Label)
+joined-first : (a b j : Label) (t : Lent) (ls : List (List ℕ)) (m n k : Label)
     → far.renumberedOf a t ls ≡ far.renumberedAs m
     → far.renumberedOf b t ls ≡ far.renumberedAs n
     → joinedOf a b ≡ joinedAs j
@@ -161,7 +161,7 @@ higher-partner ps u v p q e h k =
     rw (x, y) h)
     (less-or u v)
 
-renumbered-first : (a b j : Label) (t : Table) (ls : List (List ℕ)) (m n k : Label)
+renumbered-first : (a b j : Label) (t : Lent) (ls : List (List ℕ)) (m n k : Label)
     → far.renumberedOf a t ls ≡ far.renumberedAs m
     → far.renumberedOf b t ls ≡ far.renumberedAs n
     → joinedOf a b ≡ joinedAs j

@@ -5,7 +5,7 @@ use mathlib.Core.Path.{_≡_}
 use Prim.Native.Nat.{ℕ}
 use Rattle.label.specs.declared.Label.{Label}
 use Rattle.label.specs.Label.{wellFormed, leq}
-use Rattle.table.specs.declared.Table.{Table}
+use Rattle.table.specs.Table.{Lent}
 use Rattle.renumber.specs.Renumber as far
 use Rattle.renumber.specs.Theorems.{Join, KeepsOrder}
 use Rattle.renumber_join.specs.Join.{joinedAs, joinedOf}
@@ -26,13 +26,13 @@ pub record LeastAbove : Type 0 where
 -- are a and b renumbered, j is a and b joined; first k is j renumbered, then k is m and n joined
 pub record Keeping : Type 0 where
   pub order : KeepsOrder
-  pub joinedFirst : (a b j : Label) (t : Table) (ls : List (List ℕ)) (m n k : Label)
+  pub joinedFirst : (a b j : Label) (t : Lent) (ls : List (List ℕ)) (m n k : Label)
       → far.renumberedOf a t ls ≡ far.renumberedAs m
       → far.renumberedOf b t ls ≡ far.renumberedAs n
       → joinedOf a b ≡ joinedAs j
       → far.renumberedOf j t ls ≡ far.renumberedAs k
       → joinedOf m n ≡ joinedAs k
-  pub renumberedFirst : (a b j : Label) (t : Table) (ls : List (List ℕ)) (m n k : Label)
+  pub renumberedFirst : (a b j : Label) (t : Lent) (ls : List (List ℕ)) (m n k : Label)
       → far.renumberedOf a t ls ≡ far.renumberedAs m
       → far.renumberedOf b t ls ≡ far.renumberedAs n
       → joinedOf a b ≡ joinedAs j

@@ -7,7 +7,7 @@ use native.Mathlib.Omega.{arith}
 use lib.Dec.{leb, eqb}
 use lib.ListN.{length, take, drop, getD, length-map, length-append, length-drop, take-append-drop}
 use lib.Seq.{length-take-le, take-at, take-all}
-use borrow.Author.Tests.{le-leb, leb-true, eq-eqb, ne-eqb}
+use borrow.Author.Tests.{le-leb, lt-leb, leb-true, eq-eqb, ne-eqb}
 use Rattle.label.specs.declared.Run.{Run}
 use Rattle.label.specs.declared.Label.{Label}
 use Rattle.label.specs.Runs.{spaced}
@@ -17,19 +17,19 @@ use Rattle.label.proofs.Bools.{never, and-left, and-right}
 use Rattle.label.proofs.Labels.{formed, used-length}
 use Rattle.label_keys.proofs.Keys.{keys-runs}
 use Rattle.table.specs.declared.Row.{Row}
-use Rattle.table.specs.declared.Table.{Table}
 use Rattle.table_levels.specs.declared.Partner.{Partner}
 use Rattle.table_levels.specs.declared.Partner.the-variants.{Level, Missing}
-use Rattle.table.specs.Table.{noRow, usedRows, tableSound, rising, targetsApart}
-use Rattle.table_levels.specs.Levels.{partnerOf, known, levelOr0}
+use Rattle.table.specs.Table.{Lent, noRow, usedRows, bareSound, tableSound, rising, targetsApart}
+use Rattle.table_levels.specs.Levels.{levelsSound, pairsSound, partnerOf, partnerNumber, partnerFrom, known, levelOr0}
+use Rattle.table_levels.proofs.Partners.{lead-partner}
 use Rattle.table.specs.Numbers.{numbered, inImage}
 use Rattle.table.specs.Order.{rowOrder, rowAt, inOrder}
-use Rattle.table.proofs.Order.{order-turn, order-length}
+use Rattle.table.proofs.Order.{order-turn, order-length, sound-bare}
 use Rattle.table.proofs.Sound.{sound, sound-rows}
 use Rattle.renumber_keys.specs.declared.Carried.{Carried}
 use Rattle.renumber_keys.specs.Sets.{runsOf}
 use Rattle.renumber_keys.specs.Carry.{imageOf, labelRuns, notCarried, carriedTo, carriedKeys, carryOf}
-use Rattle.renumber_keys.specs.Stages.{joinFrom, joinAll, joinOnto, rowPieces, pieces, Cut, partsOf, Inside, Joined}
+use Rattle.renumber_keys.specs.Stages.{joinFrom, joinAll, joinOnto, rowPieces, pieces, Cut, partsOf, Inside, Joined, carriedBy}
 use Rattle.label_ranges.specs.Ranges.{stretched}
 use Rattle.renumber_keys.proofs.Sets.{set-spaced}
 use Rattle.renumber_keys.proofs.Pass.{numbered-yes}
@@ -52,26 +52,44 @@ label-runs l w =
     simp (le-leb (length (used l)) 120 (omega (arith, used-length l f, f .held)), f .runs)
 
 -- What is answered.
-module _ (rs : List Run) (v : ℕ) (t : Table) (ls : List (List ℕ)) (room : ℕ) where
-  pub carry-checked : tableSound t ls ≡ true → labelRuns rs ≡ true → 184 ≤ room
+module _ (rs : List Run) (v : ℕ) (t : Lent) (ls : List (List ℕ)) (room : ℕ) where
+  pub carry-checked : tableSound t ls ≡ true → labelRuns rs ≡ true → 120 + t .count ≤ room
       → carryOf rs v t ls room ≡ carriedTo (partnerOf (take (t .pairs) ls) v) (numbered (usedRows t) rs) (imageOf t rs)
   unfolding carryOf
-  carry-checked s f h = simp (s, f, le-leb 184 room h)
+  carry-checked s f h = simp (s, f, le-leb (120 + t .count) room h)
 
   pub carry-unsound : tableSound t ls ≡ false → carryOf rs v t ls room ≡ notCarried 2
   unfolding carryOf
   carry-unsound s = simp s
 
-  -- the three tests, as they are made
-  module _ (a b : Bool) (p : a ≡ tableSound t ls) (q : b ≡ labelRuns rs) where
-    pub carry-refused : ((a && b) && leb 184 room) ≡ false → notCarried 2 ≡ carryOf rs v t ls room
-    unfolding carryOf
-    carry-refused e = sym (rw (← p, ← q, ← and-assoc a b (leb 184 room), e))
+  -- what was found of the level pairs says as much
+  pub carried-by : (sound : Bool) (to : ℕ) → sound ≡ pairsSound ls (t .pairs) → (sound ≡ true → to ≡ partnerNumber (partnerOf (take (t .pairs) ls) v)) → carriedBy sound to rs t room ≡ carryOf rs v t ls room
+  unfolding carryOf carriedBy
+  carried-by true to p q =
+      let e : tableSound t ls ≡ bareSound t = sound-bare t ls ∙ rw (← p) in
+      let f : partnerFrom to ≡ partnerOf (take (t .pairs) ls) v = ap partnerFrom (q refl) ∙ lead-partner (take (t .pairs) ls) v (and-right (levelsSound ls (t .pairs)) _ (sym p)) in
+      rw (e, f)
+  carried-by false to p q = let e : tableSound t ls ≡ false = sound-bare t ls ∙ rw (← p) in rw e
 
-    pub carry-passed : ((a && b) && leb 184 room) ≡ true → (tableSound t ls ≡ true) × (labelRuns rs ≡ true) × (184 ≤ room)
-    carry-passed e =
-        let h = and-left (a && b) _ e in
-        (sym p ∙ and-left a _ h, sym q ∙ and-right a _ h, leb-true _ _ (and-right (a && b) _ e))
+module _ (sound : Bool) (to : ℕ) (rs : List Run) (t : Lent) (room : ℕ) where
+  pub by-checked : sound ≡ true → bareSound t ≡ true → labelRuns rs ≡ true → 120 + t .count ≤ room → carriedBy sound to rs t room ≡ carriedTo (partnerFrom to) (numbered (usedRows t) rs) (imageOf t rs)
+  unfolding carriedBy
+  by-checked e s f h = simp (e, s, f, le-leb (120 + t .count) room h)
+
+  pub by-short : room < 120 + t .count → notCarried 2 ≡ carriedBy sound to rs t room
+  unfolding carriedBy
+  by-short h = sym (simp (lt-leb (120 + t .count) room h, and-false))
+
+  -- the first three tests, as they are made
+  module _ (a b : Bool) (p : a ≡ bareSound t) (q : b ≡ labelRuns rs) where
+    pub by-refused : ((sound && a) && b) ≡ false → notCarried 2 ≡ carriedBy sound to rs t room
+    unfolding carriedBy
+    by-refused e = sym (rw (← p, ← q, ← and-assoc (sound && a) b (leb (120 + t .count) room), e))
+
+    pub by-passed : ((sound && a) && b) ≡ true → (sound ≡ true) × (bareSound t ≡ true) × (labelRuns rs ≡ true)
+    by-passed e =
+        let h = and-left (sound && a) _ e in
+        (and-left sound _ h, sym p ∙ and-right sound _ h, sym q ∙ and-right (sound && a) _ e)
 
 module _ (p : Partner) (whole : Bool) (image : List Run) where
   pub carried-yes : (known p && whole) ≡ true → carriedTo p whole image ≡ record { number = 0; level = levelOr0 p; count = length image }
@@ -111,7 +129,7 @@ module _ (p : Partner) (whole : Bool) (image : List Run) where
       go false = refl
 
 -- 2 tells of the table alone, where the runs are a label's and the list is long enough
-pub carry-two : (rs : List Run) (v : ℕ) (t : Table) (ls : List (List ℕ)) (room : ℕ) → labelRuns rs ≡ true → 184 ≤ room
+pub carry-two : (rs : List Run) (v : ℕ) (t : Lent) (ls : List (List ℕ)) (room : ℕ) → labelRuns rs ≡ true → 120 + t .count ≤ room
     → eqb (carryOf rs v t ls room .number) 2 ≡ not (tableSound t ls)
 carry-two rs v t ls room f h = go (tableSound t ls) refl
   where
@@ -151,7 +169,7 @@ module _ (c : Carried) (image : List Run) (far : List ℕ) where
       go false = refl
 
 -- The numbers of a set.
-pub image-spaced : (t : Table) (rs : List Run) → spaced 0 (imageOf t rs) ≡ true
+pub image-spaced : (t : Lent) (rs : List Run) → spaced 0 (imageOf t rs) ≡ true
 image-spaced t rs = set-spaced (inImage (usedRows t) rs)
 
 join-few : (k : ℕ) (ks : List ℕ) → length (joinFrom k ks) ≤ length ks + 1
@@ -180,7 +198,7 @@ none-image rows few e a = sym (gathered-runs rows [] few e a refl) ∙ ap (λ (z
 
 -- The pieces of the rows in the order of their targets, joined: what both passes have written.
 pub record Gathered (rows : List Row) (runs : List Run) (was : List ℕ) (count : ℕ) (keys : List ℕ) : Type 0 where
-  pub held : count ≤ 184
+  pub held : count ≤ 120 + length rows
   pub joined : take count keys ≡ joinOnto [] (pieces (inOrder rows) runs)
   pub rest : drop count keys ≡ drop count was
 
@@ -190,7 +208,7 @@ parts-pieces : (rows : List Row) (runs : List Run) (start cut : List ℕ)
 parts-pieces rows runs start cut each [] there = refl
 parts-pieces rows runs start cut each (x ∷ ks) there = rw (each (x % 65536) (there 0 (omega arith)), parts-pieces rows runs start cut each ks (λ k h. there (suc k) (omega arith)))
 
-module _ (rows : List Row) (runs : List Run) (cut start : List ℕ) (few : length rows ≤ 64) (e : rising 0 rows ≡ true) (c : Cut rows runs true cut start) (m : ℕ) (order : List ℕ) (along : take m order ≡ rowOrder rows) where
+module _ (rows : List Row) (runs : List Run) (cut start : List ℕ) (few : length rows ≤ 1024) (e : rising 0 rows ≡ true) (c : Cut rows runs true cut start) (m : ℕ) (order : List ℕ) (along : take m order ≡ rowOrder rows) where
   place : (k : ℕ) → k < length (rowOrder rows) → getD (rowOrder rows) k 0 % 65536 < length rows
   place k l =
       order-turn rows (length rows) (rowOrder rows) k (omega arith) e (take-all (length rows) (rowOrder rows) (omega (arith, order-length rows))) refl (omega (arith, order-length rows)) .place
@@ -198,11 +216,11 @@ module _ (rows : List Row) (runs : List Run) (cut start : List ℕ) (few : lengt
   pub parts-are : partsOf (take m order) start cut ≡ pieces (inOrder rows) runs
   parts-are = rw along (parts-pieces rows runs start cut (c .each refl) (rowOrder rows) place)
 
-  pub parts-inside : length start ≡ 65 → Inside (take m order) start cut
+  pub parts-inside : length rows < length start → Inside (take m order) start cut
   parts-inside h = rw along (λ k l. (omega (arith, place k l), c .inside refl (getD (rowOrder rows) k 0 % 65536) (place k l)))
 
   module _ (s : spaced 0 runs ≡ true) (n : length runs ≤ 120) where
-    pub parts-few : length (partsOf (take m order) start cut) ≤ 184
+    pub parts-few : length (partsOf (take m order) start cut) ≤ 120 + length rows
     parts-few = omega (arith, ap length parts-are, order-few rows runs (omega arith) e s)
 
     pub gathered-of : (was : List ℕ) (count : ℕ) (keys : List ℕ) → Joined (partsOf (take m order) start cut) was count keys → Gathered rows runs was count keys
@@ -221,7 +239,7 @@ module _ (rows : List Row) (runs : List Run) (few : length rows ≤ 65536) (e : 
   there-back [] = refl
   there-back (k ∷ ks) = let z : k / 65536 * 65536 + k % 65536 ≡ k = omega arith in λ i. z i ∷ there-back ks i
 
-  module _ (was : List ℕ) (count : ℕ) (keys : List ℕ) (g : Gathered rows runs was count keys) (room : 184 ≤ length keys) where
+  module _ (was : List ℕ) (count : ℕ) (keys : List ℕ) (g : Gathered rows runs was count keys) (room : 120 + length rows ≤ length keys) where
     gathered-keys : take count keys ≡ map runKey (runsOf (inImage rows runs))
     gathered-keys = g .joined ∙ sym (there-back (joinOnto [] (pieces (inOrder rows) runs))) ∙ ap (map runKey) (gathered-runs rows runs few e a s)
 
@@ -234,10 +252,9 @@ module _ (rows : List Row) (runs : List Run) (few : length rows ≤ 65536) (e : 
         ∙ ap (λ (z : List ℕ). z ++ drop count keys) gathered-keys
         ∙ ap (λ (z : List ℕ). map runKey (runsOf (inImage rows runs)) ++ z) (g .rest ∙ ap (λ (z : ℕ). drop z was) gathered-count)
 
-pub image-few : (t : Table) (ls : List (List ℕ)) (rs : List Run) → tableSound t ls ≡ true → labelRuns rs ≡ true → length (imageOf t rs) ≤ 184
+pub image-few : (t : Lent) (ls : List (List ℕ)) (rs : List Run) → tableSound t ls ≡ true → labelRuns rs ≡ true → length (imageOf t rs) ≤ 120 + t .count
 image-few t ls rs s f =
     let g = sound t ls s in
     let k = sound-rows t (g .rows) in
     let r = runs-label rs f in
-    let n : length (usedRows t) ≡ t .count = length-take-le (t .count) (t .rows) (omega (arith, g .places, g .rows-held)) in
-    omega (arith, g .rows-held, r .few, image-bound (usedRows t) rs (omega (arith, g .rows-held)) (k .rise) (k .apart) (r .gaps))
+    omega (arith, g .counted, g .rows-held, r .few, image-bound (usedRows t) rs (omega (arith, g .counted, g .rows-held)) (k .rise) (k .apart) (r .gaps))

@@ -7,7 +7,7 @@ use native.Mathlib.Omega.{arith}
 use native.Mathlib.Decide.{decLe}
 use borrow.Author.Needs.{needs}
 use borrow.Author.Tests.{le-leb}
-use mir.Syntax.{w8, w64}
+use mir.Syntax.{w16, w64}
 use mir.Val.{Fits}
 use lib.ListN.{length, take, drop, getD, set, length-set}
 use lib.Seq.{getD-set-same, getD-set-other, take-set-le, drop-append-le, length-take-le}
@@ -159,7 +159,7 @@ module _ (rows : List Row) (runs : List Run) (cut start : List ℕ) (w i j f : �
       → Cutting rows runs (set cut w p) (set start (j + 1) (w + 1)) (w + 1) i (j + 1) (r .high + 1)
   turn-parted p y h o l m s t = rw y (parted-piece h o l m s t)
 
--- The numbers of a turn: at most 120 runs and 64 rows, lists of 184 and 65 places.
+-- The numbers of a turn: at most 120 runs and 1,024 rows, and a list with a place for each piece.
 pub next-up : (i n : ℕ) → i < n → i + 1 ≤ n
 next-up i n h = omega arith
 
@@ -178,34 +178,37 @@ few-run w i j h = omega arith
 pub few-part : (w i j : ℕ) → w ≤ i + j → w + 1 ≤ i + (j + 1)
 few-part w i j h = omega arith
 
-pub row-under : (j m : ℕ) → m ≤ 64 → j < m → j ≤ 184
+pub row-under : (j m : ℕ) → m ≤ 1024 → j < m → j ≤ 1144
 row-under j m a h = omega arith
 
-pub run-under : (i n : ℕ) → i ≤ n → n ≤ 120 → i ≤ 184
+pub run-under : (i n : ℕ) → i ≤ n → n ≤ 120 → i ≤ 1144
 run-under i n h a = omega arith
 
-pub piece-under : (w i n j m : ℕ) → w ≤ i + j → n ≤ 120 → m ≤ 64 → i ≤ n → j ≤ m → w ≤ 184
+pub piece-under : (w i n j m : ℕ) → w ≤ i + j → n ≤ 120 → m ≤ 1024 → i ≤ n → j ≤ m → w ≤ 1144
 piece-under w i n j m h a b p q = omega arith
 
-pub cut-place : (w i n j m room : ℕ) → w ≤ i + j → room ≡ 184 → n ≤ 120 → m ≤ 64 → j < m → i < n → w < room
-cut-place w i n j m room h e a b p q = omega arith
+pub cut-place : (w i n j m held room : ℕ) → w ≤ i + j → room ≡ held → 120 + m ≤ held → n ≤ 120 → j < m → i < n → w < room
+cut-place w i n j m held room h e l a p q = omega arith
 
-pub start-place : (j m room : ℕ) → m ≤ 64 → room ≡ 65 → j < m → j + 1 < room
-start-place j m room a e p = omega arith
+pub start-place : (j m held room : ℕ) → room ≡ held → m < held → j < m → j + 1 < room
+start-place j m held room e l p = omega arith
 
 pub set-sized : (xs : List ℕ) (i x n : ℕ) → length xs ≡ n → length (set xs i x) ≡ n
 set-sized xs i x n e = length-set xs i x ∙ e
 
 -- so they fit their types
-module _ (a : ℕ) (h : a ≤ 184) where
+module _ (a : ℕ) (h : a ≤ 1144) where
   pub next-fits : Fits w64 (a + 1)
   next-fits = search needs
+
+  pub two-fits : Fits w64 ((a + 1) * 2)
+  two-fits = search needs
 
   pub four-fits : Fits w64 (a * 4)
   four-fits = search needs
 
-  pub octet-fits : Fits w8 a
-  octet-fits = search needs
+  pub place-fits : Fits w16 a
+  place-fits = search needs
 
-  pub next-octet-fits : Fits w8 (a + 1)
-  next-octet-fits = search needs
+  pub next-place-fits : Fits w16 (a + 1)
+  next-place-fits = search needs

@@ -2,22 +2,21 @@
 -- lent lists. The range of the far domain and the table's own domains are the caller's to look at.
 use mathlib.Core.Bool.{Bool, cond, _&&_}
 use mathlib.Core.List.{List, _++_, map}
-use Prim.Native.Nat.{ℕ}
+use Prim.Native.Nat.{ℕ, _+_}
 use lib.Dec.{leb, eqb}
 use lib.ListN.{length, take, drop}
 use Rattle.label.specs.declared.Run.{Run}
 use Rattle.label.specs.Runs.{spaced}
 use Rattle.label_keys.specs.Keys.{runKey}
-use Rattle.table.specs.declared.Table.{Table}
 use Rattle.table_levels.specs.declared.Partner.{Partner}
-use Rattle.table.specs.Table.{usedRows, tableSound}
+use Rattle.table.specs.Table.{Lent, usedRows, tableSound}
 use Rattle.table_levels.specs.Levels.{partnerOf, known, levelOr0}
 use Rattle.table.specs.Numbers.{numbered, inImage}
 use Rattle.renumber_keys.specs.declared.Carried.{Carried}
 use Rattle.renumber_keys.specs.Sets.{runsOf}
 
 -- the numbers of the runs' categories, the whole set: it may have more runs than a label holds
-abbrev pub imageOf : Table → List Run → List Run
+abbrev pub imageOf : Lent → List Run → List Run
 imageOf t rs = runsOf (inImage (usedRows t) rs)
 
 -- the runs of a well-formed label: no more than it holds, and spaced
@@ -36,9 +35,9 @@ carriedTo p whole image = cond (known p && whole) (record { number = 0; level = 
 unfoldable pub carriedKeys : Carried → List Run → List ℕ → List ℕ
 carriedKeys c image far = cond (eqb (c .number) 0) (map runKey image ++ drop (length image) far) far
 
--- 2 for an unsound table, runs that no well-formed label has, or a list of under 184 places: 120 runs cut by 64 rows fill no more; then 16
-unfoldable pub carryOf : List Run → ℕ → Table → List (List ℕ) → ℕ → Carried
+-- 2 for an unsound table, runs that no well-formed label has, or a list of under 120 places and one for each row: 120 runs cut by the rows fill no more; then 16
+unfoldable pub carryOf : List Run → ℕ → Lent → List (List ℕ) → ℕ → Carried
 carryOf rs v t ls room =
-    cond (tableSound t ls && (labelRuns rs && leb 184 room))
+    cond (tableSound t ls && (labelRuns rs && leb (120 + t .count) room))
     (carriedTo (partnerOf (take (t .pairs) ls) v) (numbered (usedRows t) rs) (imageOf t rs))
     (notCarried 2)

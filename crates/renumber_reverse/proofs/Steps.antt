@@ -1,45 +1,35 @@
 -- Laws of the loops that turn rows and level pairs round: the row that a turn reads, and what one more write does.
 use mathlib.Core.Path.{_≡_, refl, sym, _∙_, ap}
-use mathlib.Core.Bool.{true}
 use mathlib.Core.List.{List, [], _∷_, _++_, map, map-append, append-assoc, append-nil}
 use Prim.Native.Nat.{ℕ, zero, suc, _+_, _-_, _*_, _%_, _≤_, _<_}
 use native.Mathlib.Omega.{arith}
 use native.Mathlib.Numerals.{add-one}
 use lib.ListN.{length, take, drop, getD, set, replicate, length-map, length-append, length-drop, length-replicate, length-set, drop-of-length-le}
-use lib.Seq.{set-at, length-take-le, getD-take, take-all}
+use lib.Seq.{set-at, length-take-le, take-all}
 use Rattle.label.proofs.Steps.{next}
 use Rattle.table.specs.declared.Row.{Row}
-use Rattle.table.specs.declared.Table.{Table}
-use Rattle.table.specs.Table.{noRow, usedRows}
+use Rattle.table.specs.Table.{noRow, rowNumbers}
 use Rattle.table.specs.Order.{rowAt, rowOrder, inOrder}
 use Rattle.table.proofs.Order.{Turn, order-turn, order-length}
-use Rattle.renumber_reverse.specs.Reverse.{turnedRow, turnedRows, turnedPair, turnedLevels, reverseTable, rowNumbers}
+use Rattle.renumber_reverse.specs.Reverse.{turnedRow, turnedPair, turnedLevels}
 use Rattle.renumber_reverse.specs.Stages.{InOrder}
 use Rattle.renumber_reverse.proofs.Rows.{Fine, fine, is-fine, test-at, order-fine}
+use Rattle.table.proofs.Lent.{numbers-length}
 
 -- The row that a turn reads.
-module _ (t : Table) (order : List ℕ) (o : InOrder t order) (n : length (t .rows) ≡ 64) where
-  sized : length (usedRows t) ≡ t .count
-  sized = length-take-le (t .count) (t .rows) (omega (arith, o .held))
+module _ (rs : List Row) (n : ℕ) (order : List ℕ) (o : InOrder rs n order) where
+  pub order-sized : length (inOrder rs) ≡ n
+  order-sized = length-map (rowOrder rs) (rowAt rs) ∙ order-length rs ∙ o .counted
 
-  pub order-sized : length (inOrder (usedRows t)) ≡ t .count
-  order-sized = length-map (rowOrder (usedRows t)) (rowAt (usedRows t)) ∙ order-length (usedRows t) ∙ sized
+  module _ (i : ℕ) (h : i < n) where
+    here : Turn rs i (getD order i 0)
+    here = order-turn rs n order i (omega (arith, o .counted, o .held)) (o .rise) (o .along) (sym (o .counted)) h
 
-  module _ (i : ℕ) (h : i < t .count) where
-    here : Turn (usedRows t) i (getD order i 0)
-    here = order-turn (usedRows t) (t .count) order i (omega (arith, sized, o .held)) (o .rise) (o .along) (sym sized) h
+    pub row-next : drop i (inOrder rs) ≡ getD rs (getD order i 0 % 65536) noRow ∷ drop (i + 1) (inOrder rs)
+    row-next = here .next
 
-    pub row-place : getD order i 0 % 65536 < 64
-    row-place = omega (arith, here .place, sized, o .held)
-
-    read : rowAt (usedRows t) (getD order i 0) ≡ getD (t .rows) (getD order i 0 % 65536) noRow
-    read = getD-take (t .count) (t .rows) (getD order i 0 % 65536) noRow (omega (arith, here .place, sized))
-
-    pub row-next : drop i (inOrder (usedRows t)) ≡ getD (t .rows) (getD order i 0 % 65536) noRow ∷ drop (i + 1) (inOrder (usedRows t))
-    row-next = here .next ∙ ap (λ (z : Row). z ∷ drop (i + 1) (inOrder (usedRows t))) read
-
-    pub row-fine : Fine (getD (t .rows) (getD order i 0 % 65536) noRow)
-    row-fine = is-fine _ (test-at fine (inOrder (usedRows t)) i _ _ (order-fine (usedRows t) (omega (arith, sized, o .held)) (o .rise)) row-next)
+    pub row-fine : Fine (getD rs (getD order i 0 % 65536) noRow)
+    row-fine = is-fine _ (test-at fine (inOrder rs) i _ _ (order-fine rs (omega (arith, o .counted, o .held)) (o .rise)) row-next)
 
 -- One element more.
 take-next : {A : Type 0} (xs : List A) (i : ℕ) (x : A) (ts : List A) → drop i xs ≡ x ∷ ts → take (suc i) xs ≡ take i xs ++ (x ∷ [])
@@ -64,39 +54,10 @@ map-next {A} {B} f xs zs i x ts d e h =
     let t : map f (take (i + 1) xs) ≡ map f (take i xs) ++ (f x ∷ []) = rw (add-one i, take-next xs i x ts e) (map-append f (take i xs) (x ∷ [])) in
     put-one (map f (take i xs)) zs i (f x) d n h ∙ sym (ap (λ (l : List B). l ++ drop (i + 1) zs) t)
 
--- A table takes one row more.
-abbrev pub partTable : Table → ℕ → Table
-partTable t i =
-    record { from = t .to; to = t .from; pairs = t .pairs; count = t .count; rows = map turnedRow (take i (inOrder (usedRows t))) ++ drop i (replicate 64 noRow) }
-
-drop-same : (n m : ℕ) → drop n (replicate m noRow) ≡ replicate (m - n) noRow
-drop-same zero m = let e : m - 0 ≡ m = omega arith in rw e
-drop-same (suc n) zero = let e : 0 - suc n ≡ 0 = omega arith in rw e
-drop-same (suc n) (suc m) = let e : suc m - suc n ≡ m - n = omega arith in rw e (drop-same n m)
-
-pub table-next : (t out : Table) (i : ℕ) (r x : Row) (ts : List Row) → out ≡ partTable t i → drop i (inOrder (usedRows t)) ≡ r ∷ ts → x ≡ turnedRow r → i < 64
-    → _≡_ {A = Table} (record { from = out .from; to = out .to; pairs = out .pairs; count = out .count; rows = set (out .rows) i x }) (partTable t (i + 1))
-table-next t out i r x ts e n q h =
-    let l : i < length (replicate 64 noRow) = rw (length-replicate 64 noRow) h in
-    let g : set (out .rows) i x ≡ partTable t (i + 1) .rows =
-    (λ j. set (e j .rows) i (q j)) ∙ map-next turnedRow (inOrder (usedRows t)) (replicate 64 noRow) i r ts noRow n l in
-    λ j. record { from = e j .from; to = e j .to; pairs = e j .pairs; count = e j .count; rows = g j }
-
-pub table-whole : (t : Table) (i : ℕ) → length (inOrder (usedRows t)) ≡ i → t .count ≡ i → partTable t i ≡ reverseTable t
-unfolding reverseTable
-table-whole t i n m =
-    let a : take i (inOrder (usedRows t)) ≡ inOrder (usedRows t) = take-all i (inOrder (usedRows t)) (omega arith) in
-    let b : drop i (replicate 64 noRow) ≡ replicate (64 - t .count) noRow = drop-same i 64 ∙ ap (λ (k : ℕ). replicate (64 - k) noRow) (sym m) in
-    λ j. record { from = t .to; to = t .from; pairs = t .pairs; count = t .count; rows = map turnedRow (a j) ++ b j }
-
 -- A lent list takes one row more.
 numbers-snoc : (rs : List Row) (r : Row) → rowNumbers (rs ++ (r ∷ [])) ≡ rowNumbers rs ++ (r .low ∷ r .high ∷ r .target ∷ [])
 numbers-snoc [] r = refl
 numbers-snoc (s ∷ rs) r = rw (numbers-snoc rs r)
-
-numbers-length : (rs : List Row) → length (rowNumbers rs) ≡ length rs * 3
-numbers-length [] = refl
-numbers-length (r ∷ rs) = omega (arith, numbers-length rs)
 
 put-three : (ys zs : List ℕ) (n a b c : ℕ) → length ys ≡ n → n + 3 ≤ length zs
     → set (set (set (ys ++ drop n zs) n a) (n + 1) b) (n + 2) c ≡ (ys ++ (a ∷ b ∷ c ∷ [])) ++ drop (n + 3) zs
@@ -144,20 +105,20 @@ rows-whole xs was i n = ap (λ (z : List Row). rowNumbers (map turnedRow z) ++ d
 
 -- Level pairs.
 abbrev pub noPairs : List (List ℕ)
-noPairs = replicate 16 (0 ∷ 0 ∷ [])
+noPairs = replicate 256 (0 ∷ 0 ∷ [])
 
 abbrev pub partLevels : List (List ℕ) → ℕ → List (List ℕ)
 partLevels ls i = turnedLevels (take i ls) ++ drop i noPairs
 
-pub levels-next : (ls out : List (List ℕ)) (i : ℕ) → out ≡ partLevels ls i → i < length ls → i < 16 → set out i (turnedPair (getD ls i [])) ≡ partLevels ls (i + 1)
+pub levels-next : (ls out : List (List ℕ)) (i : ℕ) → out ≡ partLevels ls i → i < length ls → i < 256 → set out i (turnedPair (getD ls i [])) ≡ partLevels ls (i + 1)
 levels-next ls out i e h k =
-    let l : i < length noPairs = rw (length-replicate {A = List ℕ} 16 (0 ∷ 0 ∷ [])) k in
+    let l : i < length noPairs = rw (length-replicate {A = List ℕ} 256 (0 ∷ 0 ∷ [])) k in
     ap (λ (z : List (List ℕ)). set z i (turnedPair (getD ls i []))) e
     ∙ map-next turnedPair ls noPairs i (getD ls i []) (drop (i + 1) ls) [] (next [] ls i h) l
 
-pub levels-whole : (ls out : List (List ℕ)) (i : ℕ) → out ≡ partLevels ls i → length ls ≡ 16 → i ≡ 16 → out ≡ turnedLevels ls
+pub levels-whole : (ls out : List (List ℕ)) (i : ℕ) → out ≡ partLevels ls i → length ls ≡ 256 → i ≡ 256 → out ≡ turnedLevels ls
 levels-whole ls out i e n q =
     let a : take i ls ≡ ls = take-all i ls (omega arith) in
-    let l : length noPairs ≤ i = rw (length-replicate {A = List ℕ} 16 (0 ∷ 0 ∷ [])) (omega arith) in
+    let l : length noPairs ≤ i = rw (length-replicate {A = List ℕ} 256 (0 ∷ 0 ∷ [])) (omega arith) in
     let b : drop i noPairs ≡ [] = drop-of-length-le noPairs {i = i} l in
     e ∙ (λ j. turnedLevels (a j) ++ b j) ∙ append-nil (turnedLevels ls)

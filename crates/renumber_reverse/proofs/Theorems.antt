@@ -7,9 +7,8 @@ use lib.ListN.{length, take}
 use borrow.Author.Tests.{le-leb, lt-leb}
 use Rattle.label.specs.declared.Label.{Label}
 use Rattle.table.specs.declared.Row.{Row}
-use Rattle.table.specs.declared.Table.{Table}
 use Rattle.table_levels.specs.declared.Partner.the-variants.{Level}
-use Rattle.table.specs.Table.{usedRows, tableSound}
+use Rattle.table.specs.Table.{Lent, usedRows, tableSound}
 use Rattle.table_levels.specs.Levels.{partnerOf}
 use Rattle.table.specs.Numbers.{sends}
 use Rattle.table.proofs.Sound.{sound, sound-rows}
@@ -17,13 +16,13 @@ use Rattle.table.proofs.Numbers.{has-number, number-has, one-category}
 use Rattle.renumber.specs.Renumber.{renumberedAs, renumberedOf}
 use Rattle.renumber.specs.Theorems.{Far}
 use Rattle.renumber.proofs.Theorems.{Led, led, renumbering}
-use Rattle.renumber_reverse.specs.Reverse.{turnedRows, turnedLevels, reverseTable, reversedOf, reverseHead, withRows}
+use Rattle.renumber_reverse.specs.Reverse.{turnedRows, turnedLevels, reverseTable, reversedOf, withRows}
 use Rattle.renumber_reverse.specs.Theorems.{TurnedRound, Reversing, ReverseRefused}
 use Rattle.renumber_reverse.proofs.Rows.{sends-turned}
 use Rattle.renumber_reverse.proofs.Levels.{take-turned, partner-back, levels-twice}
 use Rattle.renumber_reverse.proofs.Tables.{used-few, back-used, back-sound, back-twice}
 
-turned-round : (t : Table) (ls : List (List ℕ)) → tableSound t ls ≡ true → TurnedRound t ls
+turned-round : (t : Lent) (ls : List (List ℕ)) → tableSound t ls ≡ true → TurnedRound t ls
 turned-round t ls s =
     let p = sound t ls s in
     let r = sound-rows t (p .rows) in
@@ -33,7 +32,7 @@ turned-round t ls s =
     }
 
 -- the first label is the far one's label in the domain that it came from
-far-back : (l : Label) (t : Table) (ls : List (List ℕ)) (m : Label) → Led l t ls m → Far l t ls m → Far m (reverseTable t) (turnedLevels ls) l
+far-back : (l : Label) (t : Lent) (ls : List (List ℕ)) (m : Label) → Led l t ls m → Far l t ls m → Far m (reverseTable t) (turnedLevels ls) l
 unfolding reverseTable
 far-back l t ls m k f =
     let s = k .sound in
@@ -53,11 +52,11 @@ far-back l t ls m k f =
           (d .0, f .to c (d .0) h (d .1), turn .categories c (d .0) ∙ d .1);
     }
 
-home : (t : Table) (d : ℕ) → d ≡ t .to → d ≡ reverseTable t .from
+home : (t : Lent) (d : ℕ) → d ≡ t .to → d ≡ reverseTable t .from
 unfolding reverseTable
 home t d h = h
 
-out-and-back : (l : Label) (t : Table) (ls : List (List ℕ)) (m : Label) → renumberedOf l t ls ≡ renumberedAs m → renumberedOf m (reverseTable t) (turnedLevels ls) ≡ renumberedAs l
+out-and-back : (l : Label) (t : Lent) (ls : List (List ℕ)) (m : Label) → renumberedOf l t ls ≡ renumberedAs m → renumberedOf m (reverseTable t) (turnedLevels ls) ≡ renumberedAs l
 out-and-back l t ls m e =
     let k = led l t ls m e in
     let f = renumbering .right l t ls m e in
@@ -67,10 +66,10 @@ pub reversing : Reversing
 reversing = record { sound = back-sound; twice = back-twice; pairs = levels-twice; turned = turned-round; back = out-and-back }
 
 pub reverse-refused : ReverseRefused
-unfolding reversedOf reverseHead withRows
+unfolding reversedOf withRows
 reverse-refused =
     record {
-      unsound = λ t ls was e. (rw e, rw e, rw e);
+      unsound = λ t ls was e. (rw e, rw e);
       short = λ t ls was e h. let k = lt-leb (t .count) (length was / 3) h in (rw (e, k), rw (e, k));
-      given = λ t ls was e. (rw e, λ h. rw (e, le-leb (t .count) (length was / 3) h));
+      given = λ t ls was e h. rw (e, le-leb (t .count) (length was / 3) h);
     }

@@ -19,8 +19,7 @@ use Rattle.forward_rules.specs.Crossing.{Forwarding, sizes, records, sameDomain
 use Rattle.forward_rules.specs.Forward.{optionOctets, forwardChecks, leavingCount, forwardOf, outputOf}
 use Rattle.forward_rules.specs.Forward.{forwardingOf}
 use Rattle.decision.specs.declared.Facts.{Facts}
-use Rattle.file_table.specs.declared.Renumbering.{Renumbering}
-use Rattle.file_table.specs.TableFormat.{levelsOf}
+use Rattle.table.specs.Renumbering.{LentTable, lentOf, levelsOf}
 use Rattle.route.specs.declared.Route.{Route}
 use Rattle.route.specs.declared.Chosen.{Chosen}
 use Rattle.route.specs.declared.Chosen.the-variants.{NoRoute, By}
@@ -29,7 +28,7 @@ use Rattle.route.proofs.Longest.{chosen-leads}
 use Rattle.route_ports.specs.Ports.{portAt, portsSound, domainsOf}
 use Rattle.route_ports.proofs.Laws.{sound-at}
 use Rattle.table_choose.specs.declared.Tables.{Tables}
-use Rattle.table_choose.specs.Tables.{usedTables, allTablesSound, tablesSound, noTableFrom}
+use Rattle.table_choose.specs.Tables.{usedTables, tablesFrom, leftOver, allTablesSound, tablesSound, noTableFrom}
 use Rattle.table_choose.specs.Theorems.{NoneFor}
 use Rattle.table_choose.proofs.Theorems.{first-table}
 use Rattle.route_decide.specs.Routing.{Routing, arrivingListed, boxSound, chosen, arrivingPort, leavingPort, tableBetween, between, pairBy, chosenPair, setCheck, leavingBasicBy, noRoute, routeCheck, routingChecks, routingOf, routedOutput}
@@ -39,20 +38,20 @@ use Rattle.route_decide.proofs.Lists.{skip, cut, refuses, writes-nothin
 module _ (b : Routing) (e : boxSound b ≡ true) where
   ports-of : portsSound (b .ports) ≡ true
   unfolding boxSound
-  ports-of = and-left (portsSound (b .ports)) (tablesSound (b .tables) && (arrivingListed b && routesSound (domainsOf (b .ports)) (b .routes))) e
+  ports-of = and-left (portsSound (b .ports)) (tablesSound (b .tables) (b .rows) && (arrivingListed b && routesSound (domainsOf (b .ports)) (b .routes))) e
 
-  rest-of : (tablesSound (b .tables) && (arrivingListed b && routesSound (domainsOf (b .ports)) (b .routes))) ≡ true
+  rest-of : (tablesSound (b .tables) (b .rows) && (arrivingListed b && routesSound (domainsOf (b .ports)) (b .routes))) ≡ true
   unfolding boxSound
-  rest-of = and-right (portsSound (b .ports)) (tablesSound (b .tables) && (arrivingListed b && routesSound (domainsOf (b .ports)) (b .routes))) e
+  rest-of = and-right (portsSound (b .ports)) (tablesSound (b .tables) (b .rows) && (arrivingListed b && routesSound (domainsOf (b .ports)) (b .routes))) e
 
-  tables-of : allTablesSound (usedTables (b .tables)) ≡ true
+  tables-of : allTablesSound (tablesFrom (usedTables (b .tables)) (b .rows)) ≡ true
   unfolding tablesSound
   tables-of =
-      and-right (leb (b .tables .count) 8) (allTablesSound (usedTables (b .tables)))
-      (and-left (tablesSound (b .tables)) (arrivingListed b && routesSound (domainsOf (b .ports)) (b .routes)) rest-of)
+      and-left (allTablesSound (tablesFrom (usedTables (b .tables)) (b .rows))) (eqb (length (leftOver (usedTables (b .tables)) (b .rows))) 0)
+      (and-right (leb (b .tables .count) 8) _ (and-left (tablesSound (b .tables) (b .rows)) (arrivingListed b && routesSound (domainsOf (b .ports)) (b .routes)) rest-of))
 
   last-of : (arrivingListed b && routesSound (domainsOf (b .ports)) (b .routes)) ≡ true
-  last-of = and-right (tablesSound (b .tables)) (arrivingListed b && routesSound (domainsOf (b .ports)) (b .routes)) rest-of
+  last-of = and-right (tablesSound (b .tables) (b .rows)) (arrivingListed b && routesSound (domainsOf (b .ports)) (b .routes)) rest-of
 
   pub routes-of : routesSound (domainsOf (b .ports)) (b .routes) ≡ true
   routes-of = and-right (arrivingListed b) (routesSound (domainsOf (b .ports)) (b .routes)) last-of
@@ -71,7 +70,7 @@ module _ (b : Routing) (e : boxSound b ≡ true) where
   pub records-none : (r : Route) → chosen b ≡ By r → records (pairBy b r) ≡ none
   unfolding records
   records-none r c =
-      let t = first-table .sound (arrivingPort b .domain) (portAt (b .ports) (r .port) .domain) (usedTables (b .tables)) tables-of in
+      let t = first-table .sound (arrivingPort b .domain) (portAt (b .ports) (r .port) .domain) (tablesFrom (usedTables (b .tables)) (b .rows)) tables-of in
       rw (arriving-sound, leaving-sound r c, t, or-true (sameDomain (pairBy b r)))
     where
       or-true : (x : Bool) → (x || true) ≡ true
@@ -192,17 +191,17 @@ module _ (b : Routing) (e : boxSound b ≡ false) where
   untouched-of out = writes-nothing (firstOf (routingChecks b)) (sizes (chosenPair b) ∷ []) (silent 2) first-unsound (optionOctets (leavingOption (crossing (chosenPair b)))) (keptOf (b .area)) out
 
 -- a table from another domain has no number for any label
-pub tableless-of : (b : Routing) → (arrivingPort b .domain ≡ leavingPort b .domain → ⊥) → NoneFor (arrivingPort b .domain) (leavingPort b .domain) (usedTables (b .tables))
+pub tableless-of : (b : Routing) → (arrivingPort b .domain ≡ leavingPort b .domain → ⊥) → NoneFor (arrivingPort b .domain) (leavingPort b .domain) (tablesFrom (usedTables (b .tables)) (b .rows))
     → numberCheck (crossing (chosenPair b)) ≡ some (barred 16 9)
 unfolding numberCheck
 tableless-of b differ missing =
-    let t : tableBetween (b .tables) (arrivingPort b) (leavingPort b) ≡ noTableFrom (arrivingPort b .domain) = first-table .missing (arrivingPort b .domain) (leavingPort b .domain) (usedTables (b .tables)) missing in
-    let f : eqb (tableBetween (b .tables) (arrivingPort b) (leavingPort b) .table .from) (arrivingPort b .domain) ≡ false
-    = ap (λ (x : Renumbering). eqb (x .table .from) (arrivingPort b .domain)) t ∙ ne-eqb (noTableFrom (arrivingPort b .domain) .table .from) (arrivingPort b .domain) (first-table .other (arrivingPort b .domain)) in
+    let t : tableBetween (b .tables) (b .rows) (arrivingPort b) (leavingPort b) ≡ noTableFrom (arrivingPort b .domain) = first-table .missing (arrivingPort b .domain) (leavingPort b .domain) (tablesFrom (usedTables (b .tables)) (b .rows)) missing in
+    let f : eqb (tableBetween (b .tables) (b .rows) (arrivingPort b) (leavingPort b) .item .table .from) (arrivingPort b .domain) ≡ false
+    = ap (λ (x : LentTable). eqb (x .item .table .from) (arrivingPort b .domain)) t ∙ ne-eqb (noTableFrom (arrivingPort b .domain) .item .table .from) (arrivingPort b .domain) (first-table .other (arrivingPort b .domain)) in
     rw (ne-eqb (arrivingPort b .domain) (leavingPort b .domain) differ, f)
 
--- what the table chosen, and its level pairs as they are handed on, make of the forwarding
-pub by-first : {a l : Port} (ts : Tables) (facts : Facts) (area : List ℕ) (room : ℕ) {item : Renumbering} {ls : List (List ℕ)} → item ≡ tableBetween ts a l → ls ≡ levelsOf item
-    → forwardingOf a l (item .table) ls facts area room ≡ between a l ts facts area room
-by-first {a} {l} ts facts area room {item} {ls} e f =
-    ap (λ (x : List (List ℕ)). forwardingOf a l (item .table) x facts area room) f ∙ ap (λ (x : Renumbering). forwardingOf a l (x .table) (levelsOf x) facts area room) e
+-- what the table chosen with its rows, and its level pairs as they are handed on, make of the forwarding
+pub by-first : {a l : Port} (ts : Tables) (ns : List ℕ) (facts : Facts) (area : List ℕ) (room : ℕ) {x : LentTable} {ls : List (List ℕ)} → x ≡ tableBetween ts ns a l → ls ≡ levelsOf (x .item)
+    → forwardingOf a l (lentOf x) ls facts area room ≡ between a l ts ns facts area room
+by-first {a} {l} ts ns facts area room {x} {ls} e f =
+    ap (λ (z : List (List ℕ)). forwardingOf a l (lentOf x) z facts area room) f ∙ ap (λ (z : LentTable). forwardingOf a l (lentOf z) (levelsOf (z .item)) facts area room) e

@@ -30,18 +30,18 @@ use Rattle.route_decide.specs.Stages.{routingFor, knownSound, wayBy, way
 use Rattle.route_decide.proofs.Lists.{skip, cut}
 use Rattle.route_decide.proofs.Decides.{arriving-sound, routed-of, output-of, unrouted-of, unwritten-of, unsound-of, untouched-of}
 
-module _ (ps : List Port) (ts : Tables) (rs : List ℕ) (i destination : ℕ) (facts : Facts) (area : List ℕ) (room : ℕ) where
+module _ (ps : List Port) (ts : Tables) (ns rs : List ℕ) (i destination : ℕ) (facts : Facts) (area : List ℕ) (room : ℕ) where
   abbrev b : Routing
-  b = routingFor ps ts rs i destination facts area room
+  b = routingFor ps ts ns rs i destination facts area room
 
   -- what is known of the ports is enough to tell whether the set is sound
-  known-set : knownSound (surveyOf ps) ts rs i ≡ boxSound b
+  known-set : knownSound (surveyOf ps) ts ns rs i ≡ boxSound b
   unfolding knownSound boxSound
   known-set = go (portsSound ps) refl
     where
       go : (t : Bool) → portsSound ps ≡ t
-          → (surveyOf ps .sound && (tablesSound ts && (ltb i (surveyOf ps .count) && (leb (surveyOf ps .count) 64 && routesSound (take (surveyOf ps .count) (surveyOf ps .domains)) rs))))
-          ≡ (portsSound ps && (tablesSound ts && (ltb i (length ps) && routesSound (domainsOf ps) rs)))
+          → (surveyOf ps .sound && (tablesSound ts ns && (ltb i (surveyOf ps .count) && (leb (surveyOf ps .count) 64 && routesSound (take (surveyOf ps .count) (surveyOf ps .domains)) rs))))
+          ≡ (portsSound ps && (tablesSound ts ns && (ltb i (length ps) && routesSound (domainsOf ps) rs)))
       go false e = rw (survey-sound ps, e)
       go true e =
           let f : leb (length ps) 64 ≡ true = le-leb (length ps) 64 (few-enough ps e) in
@@ -64,7 +64,7 @@ module _ (ps : List Port) (ts : Tables) (rs : List ℕ) (i destination : ℕ) (f
   nowhere = record { sound = false; routed = false; leaving = 0 }
 
   abbrev Goes : Course → List ℕ → Type 0
-  Goes w out = (goneBy w (portAt ps i) (portAt ps (w .leaving)) ts facts area room ≡ routingOf b) × (goneOut w (portAt ps i) (portAt ps (w .leaving)) ts facts area room out ≡ routedOutput b out)
+  Goes w out = (goneBy w (portAt ps i) (portAt ps (w .leaving)) ts ns facts area room ≡ routingOf b) × (goneOut w (portAt ps i) (portAt ps (w .leaving)) ts ns facts area room out ≡ routedOutput b out)
 
   by-choice : boxSound b ≡ true → (c : Chosen) → chosen b ≡ c → (out : List ℕ) → Goes (wayBy c) out
   unfolding goneBy goneOut
@@ -76,18 +76,18 @@ module _ (ps : List Port) (ts : Tables) (rs : List ℕ) (i destination : ℕ) (f
   by-set true e out = by-choice e (chosen b) refl out
   by-set false e out = (unsound-answer ∙ sym (unsound-of b e), sym (untouched-of b e out))
 
-  found-way : (s : Survey) (w : Course) → s ≡ surveyOf ps → w ≡ wayOf s ts rs i destination → w ≡ cond (boxSound b) (wayBy (chosen b)) nowhere
+  found-way : (s : Survey) (w : Course) → s ≡ surveyOf ps → w ≡ wayOf s ts ns rs i destination → w ≡ cond (boxSound b) (wayBy (chosen b)) nowhere
   unfolding wayOf chosen
   found-way s w es ew =
       ew
-      ∙ ap (λ (x : Survey). cond (knownSound x ts rs i) (wayBy (longest destination (routesOf rs))) nowhere) es
+      ∙ ap (λ (x : Survey). cond (knownSound x ts ns rs i) (wayBy (longest destination (routesOf rs))) nowhere) es
       ∙ ap (λ (t : Bool). cond t (wayBy (longest destination (routesOf rs))) nowhere) known-set
 
-  pub gone : (s : Survey) (w : Course) (a l : Port) (d : Decision) (out zs : List ℕ) → s ≡ surveyOf ps → w ≡ wayOf s ts rs i destination → a ≡ portAt ps i → l ≡ portAt ps (w .leaving)
-      → (d ≡ goneBy w a l ts facts area room) × (zs ≡ goneOut w a l ts facts area room out) → (d ≡ routingOf b) × (zs ≡ routedOutput b out)
+  pub gone : (s : Survey) (w : Course) (a l : Port) (d : Decision) (out zs : List ℕ) → s ≡ surveyOf ps → w ≡ wayOf s ts ns rs i destination → a ≡ portAt ps i → l ≡ portAt ps (w .leaving)
+      → (d ≡ goneBy w a l ts ns facts area room) × (zs ≡ goneOut w a l ts ns facts area room out) → (d ≡ routingOf b) × (zs ≡ routedOutput b out)
   gone s w a l d out zs es ew ea el g =
       let k = found-way s w es ew in
       let h = subst (λ (v : Course). Goes v out) (sym k) (by-set (boxSound b) refl out) in (
-        g .0 ∙ ap (λ (p : Port). goneBy w p l ts facts area room) ea ∙ ap (λ (p : Port). goneBy w (portAt ps i) p ts facts area room) el ∙ h .0,
-        g .1 ∙ ap (λ (p : Port). goneOut w p l ts facts area room out) ea ∙ ap (λ (p : Port). goneOut w (portAt ps i) p ts facts area room out) el ∙ h .1,
+        g .0 ∙ ap (λ (p : Port). goneBy w p l ts ns facts area room) ea ∙ ap (λ (p : Port). goneBy w (portAt ps i) p ts ns facts area room) el ∙ h .0,
+        g .1 ∙ ap (λ (p : Port). goneOut w p l ts ns facts area room out) ea ∙ ap (λ (p : Port). goneOut w (portAt ps i) p ts ns facts area room out) el ∙ h .1,
       )

@@ -13,20 +13,20 @@ use Rattle.decision.specs.Decision.{Refusal, silenced, decided}
 use Rattle.arrive.specs.Checks.{silent, barred, when, firstOf, optionChecks, rangeCheck}
 use Rattle.forward_rules.specs.Crossing.{Forwarding, sizes, leavingBasicCheck, numberCheck, leavingCheck, spellingCheck, crossing, leavingLabel, leavingOption}
 use Rattle.forward_rules.specs.Forward.{optionOctets, leavingCount, written}
-use Rattle.file_table.specs.declared.Renumbering.{Renumbering}
-use Rattle.file_table.specs.TableFormat.{levelsOf}
+use Rattle.table.specs.Renumbering.{LentTable, lentOf, levelsOf}
 use Rattle.route.specs.declared.Route.{Route}
 use Rattle.route.specs.declared.Chosen.{Chosen}
 use Rattle.route.specs.declared.Chosen.the-variants.{NoRoute, By}
 use Rattle.route.specs.Route.{routesOf, longest, routesSound}
 use Rattle.route_ports.specs.Ports.{unlistedPort, portAt, portsSound, domainsOf}
 use Rattle.table_choose.specs.declared.Tables.{Tables}
-use Rattle.table_choose.specs.Tables.{usedTables, tablesSound, firstTable}
+use Rattle.table_choose.specs.Tables.{usedTables, tablesFrom, tablesSound, firstTable}
 
--- The set: ports, tables and routes; and a datagram: the number of the port that it arrives at, its destination, and what the two-port decision asks of it.
+-- The set: ports, tables with the numbers of their rows, and routes; and a datagram: the number of the port that it arrives at, its destination, and what the two-port decision asks of it.
 pub record Routing : Type 0 where
   pub ports : List Port
   pub tables : Tables
+  pub rows : List ℕ
   pub routes : List ℕ
   pub arriving : ℕ
   pub destination : ℕ
@@ -40,7 +40,7 @@ arrivingListed b = ltb (b .arriving) (length (b .ports))
 
 -- at most 64 ports and 8 tables, each sound, read or not; the arriving port is listed; the routes are sound for these ports
 unfoldable pub boxSound : Routing → Bool
-boxSound b = portsSound (b .ports) && (tablesSound (b .tables) && (arrivingListed b && routesSound (domainsOf (b .ports)) (b .routes)))
+boxSound b = portsSound (b .ports) && (tablesSound (b .tables) (b .rows) && (arrivingListed b && routesSound (domainsOf (b .ports)) (b .routes)))
 
 -- the route that decides
 unfoldable pub chosen : Routing → Chosen
@@ -58,17 +58,17 @@ abbrev pub leavingPort : Routing → Port
 leavingPort b = portBy (b .ports) (chosen b)
 
 -- "the first table for that pair of domains"
-abbrev pub tableBetween : Tables → Port → Port → Renumbering
-tableBetween ts a l = firstTable (a .domain) (l .domain) (usedTables ts)
+abbrev pub tableBetween : Tables → List ℕ → Port → Port → LentTable
+tableBetween ts ns a l = firstTable (a .domain) (l .domain) (tablesFrom (usedTables ts) ns)
 
 -- a forwarding from one port to another
-abbrev pub between : Port → Port → Tables → Facts → List ℕ → ℕ → Forwarding
-between a l ts facts area room =
+abbrev pub between : Port → Port → Tables → List ℕ → Facts → List ℕ → ℕ → Forwarding
+between a l ts ns facts area room =
     record {
       arriving = a;
       leaving = l;
-      table = tableBetween ts a l .table;
-      levels = levelsOf (tableBetween ts a l);
+      table = lentOf (tableBetween ts ns a l);
+      levels = levelsOf (tableBetween ts ns a l .item);
       facts = facts;
       area = area;
       room = room;
@@ -76,11 +76,11 @@ between a l ts facts area room =
 
 -- the forwarding to a route's port
 abbrev pub pairBy : Routing → Route → Forwarding
-pairBy b r = between (arrivingPort b) (portAt (b .ports) (r .port)) (b .tables) (b .facts) (b .area) (b .room)
+pairBy b r = between (arrivingPort b) (portAt (b .ports) (r .port)) (b .tables) (b .rows) (b .facts) (b .area) (b .room)
 
 -- "the two-port decision for the chosen pair": what it is asked of
 abbrev pub chosenPair : Routing → Forwarding
-chosenPair b = between (arrivingPort b) (leavingPort b) (b .tables) (b .facts) (b .area) (b .room)
+chosenPair b = between (arrivingPort b) (leavingPort b) (b .tables) (b .rows) (b .facts) (b .area) (b .room)
 
 -- 2: the set is unsound
 unfoldable pub setCheck : Routing → Option Refusal

@@ -27,22 +27,22 @@ use Rattle.route_decide.specs.declared.Course.{Course}
 use Rattle.route_decide.specs.Routing.{Routing, noRoute, between}
 
 -- the inputs of a decision
-abbrev pub routingFor : List Port → Tables → List ℕ → ℕ → ℕ → Facts → List ℕ → ℕ → Routing
-routingFor ps ts rs arriving destination facts area room =
-    record { ports = ps; tables = ts; routes = rs; arriving = arriving; destination = destination; facts = facts; area = area; room = room }
+abbrev pub routingFor : List Port → Tables → List ℕ → List ℕ → ℕ → ℕ → Facts → List ℕ → ℕ → Routing
+routingFor ps ts ns rs arriving destination facts area room =
+    record { ports = ps; tables = ts; rows = ns; routes = rs; arriving = arriving; destination = destination; facts = facts; area = area; room = room }
 
 -- soundness of the set, of what is known of the ports
-unfoldable pub knownSound : Survey → Tables → List ℕ → ℕ → Bool
-knownSound s ts rs arriving =
-    s .sound && (tablesSound ts && (ltb arriving (s .count) && (leb (s .count) 64 && routesSound (take (s .count) (s .domains)) rs)))
+unfoldable pub knownSound : Survey → Tables → List ℕ → List ℕ → ℕ → Bool
+knownSound s ts ns rs arriving =
+    s .sound && (tablesSound ts ns && (ltb arriving (s .count) && (leb (s .count) 64 && routesSound (take (s .count) (s .domains)) rs)))
 
 -- where the datagram goes: nowhere by an unsound set, by no route, or to a port
 abbrev pub wayBy : Chosen → Course
 wayBy NoRoute = record { sound = true; routed = false; leaving = 0 }
 wayBy (By r) = record { sound = true; routed = true; leaving = r .port }
 
-unfoldable pub wayOf : Survey → Tables → List ℕ → ℕ → ℕ → Course
-wayOf s ts rs arriving destination = cond (knownSound s ts rs arriving) (wayBy (longest destination (routesOf rs))) (record { sound = false; routed = false; leaving = 0 })
+unfoldable pub wayOf : Survey → Tables → List ℕ → List ℕ → ℕ → ℕ → Course
+wayOf s ts ns rs arriving destination = cond (knownSound s ts ns rs arriving) (wayBy (longest destination (routesOf rs))) (record { sound = false; routed = false; leaving = 0 })
 
 -- without a route: 1, 2 of the arriving port, 3 to 14 of it, and then 22
 abbrev pub unroutedChecks : Port → List ℕ → ℕ → List (Option Refusal)
@@ -56,9 +56,9 @@ unfoldable pub unroutedBy : Verdict → ℕ → Verdict
 unroutedBy r room = cond (eqb (r .number) 1) r (cond (ltb room 40) (stopped 1 0 0 0) (cond (eqb (r .number) 0) (stopped 22 3 0 0) r))
 
 -- the decision by the way found, and what the output holds then
-unfoldable pub goneBy : Course → Port → Port → Tables → Facts → List ℕ → ℕ → Decision
-goneBy w a l ts facts area room =
-    cond (w .sound) (cond (w .routed) (forwardOf (between a l ts facts area room)) (unroutedOf a facts area room)) (unroutedOf unlistedPort facts area room)
+unfoldable pub goneBy : Course → Port → Port → Tables → List ℕ → Facts → List ℕ → ℕ → Decision
+goneBy w a l ts ns facts area room =
+    cond (w .sound) (cond (w .routed) (forwardOf (between a l ts ns facts area room)) (unroutedOf a facts area room)) (unroutedOf unlistedPort facts area room)
 
-unfoldable pub goneOut : Course → Port → Port → Tables → Facts → List ℕ → ℕ → List ℕ → List ℕ
-goneOut w a l ts facts area room out = cond (w .sound) (cond (w .routed) (outputOf (between a l ts facts area room) out) out) out
+unfoldable pub goneOut : Course → Port → Port → Tables → List ℕ → Facts → List ℕ → ℕ → List ℕ → List ℕ
+goneOut w a l ts ns facts area room out = cond (w .sound) (cond (w .routed) (outputOf (between a l ts ns facts area room) out) out) out

@@ -11,7 +11,7 @@ use Rattle.forward_rules.specs.Crossing.{sizes, numberCheck, crossing}
 use Rattle.forward_rules.specs.Forward.{forwardOf, outputOf}
 use Rattle.route.specs.declared.Route.{Route}
 use Rattle.route.specs.declared.Chosen.the-variants.{NoRoute, By}
-use Rattle.table_choose.specs.Tables.{usedTables}
+use Rattle.table_choose.specs.Tables.{usedTables, tablesFrom}
 use Rattle.table_choose.specs.Theorems.{NoneFor}
 use Rattle.route_decide.specs.Routing.{Routing, boxSound, chosen, arrivingPort, leavingPort, pairBy, chosenPair, noRoute, routingOf, routedOutput}
 
@@ -30,4 +30,4 @@ pub record Routes : Type 0 where
   pub untouched : (b : Routing) (out : List ℕ) → boxSound b ≡ false → routedOutput b out ≡ out
   -- differing domains and no table for the pair: 16, where 16 is tested
   pub tableless : (b : Routing) → (arrivingPort b .domain ≡ leavingPort b .domain → ⊥)
-      → NoneFor (arrivingPort b .domain) (leavingPort b .domain) (usedTables (b .tables)) → numberCheck (crossing (chosenPair b)) ≡ some (barred 16 9)
+      → NoneFor (arrivingPort b .domain) (leavingPort b .domain) (tablesFrom (usedTables (b .tables)) (b .rows)) → numberCheck (crossing (chosenPair b)) ≡ some (barred 16 9)

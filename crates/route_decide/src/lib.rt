@@ -6,16 +6,17 @@ use decision::Facts;
 use decision::Verdict;
 use decision::conclude;
 use decision::stop;
-use file_set::levels_of;
 use forward::forward;
 use port::Port;
 use route::Chosen;
 use route::choose_route;
 use route::routes_sound;
+use route_ports::MAX_PORTS;
 use route_ports::Survey;
 use route_ports::no_port;
 use route_ports::pick_port;
 use route_ports::survey_ports;
+use table::levels_of;
 use table_choose::Tables;
 use table_choose::first_table;
 use table_choose::tables_sound;
@@ -32,11 +33,12 @@ struct Course {
     leaving: usize,
 }
 
-// Decides what becomes of a datagram that arrives at a port of the list, by its destination, and writes its leaving area. Routes are lent as numbers, four a
-// route: prefix, prefix length, port number, domain.
+// Decides what becomes of a datagram that arrives at a port of the list, by its destination, and writes its leaving area. The rows of all
+// tables are lent as one list of numbers, three a row; routes as numbers, four a route: prefix, prefix length, port number, domain.
 pub fn decide(
     ports: &[Port],
     tables: Tables,
+    rows: &[u16],
     routes: &[u32],
     arriving: usize,
     destination: u32,
@@ -44,26 +46,27 @@ pub fn decide(
     area: &[u8],
     out: &mut [u8],
 ) -> Decision
-    ensures { λ r. ⌜ (r ≡ routingOf (routingFor (now (ports .entry)) tables (now (routes .entry)) arriving destination facts (now (area .entry)) (length (now (out .entry))))) × (now (out .exit) ≡ routedOutput (routingFor (now (ports .entry)) tables (now (routes .entry)) arriving destination facts (now (area .entry)) (length (now (out .entry)))) (now (out .entry))) ⌝ }
+    ensures { λ r. ⌜ (r ≡ routingOf (routingFor (now (ports .entry)) tables (now (rows .entry)) (now (routes .entry)) arriving destination facts (now (area .entry)) (length (now (out .entry))))) × (now (out .exit) ≡ routedOutput (routingFor (now (ports .entry)) tables (now (rows .entry)) (now (routes .entry)) arriving destination facts (now (area .entry)) (length (now (out .entry)))) (now (out .entry))) ⌝ }
 {
     let known = survey_ports(ports);
-    let way = find_way(known, tables, routes, arriving, destination);
+    let way = find_way(known, tables, rows, routes, arriving, destination);
     let a = pick_port(ports, arriving);
     let l = pick_port(ports, way.leaving);
-    go_way(way, a, l, tables, facts, area, out)
+    go_way(way, a, l, tables, rows, facts, area, out)
 }
 
 // Checks the set, and chooses the route.
 fn find_way(
     known: Survey,
     tables: Tables,
+    rows: &[u16],
     routes: &[u32],
     arriving: usize,
     destination: u32,
 ) -> Course
-    ensures { λ r. ⌜ (r ≡ wayOf known tables (now (routes .entry)) arriving destination) × (r .leaving ≤ 4294967295) ⌝ }
+    ensures { λ r. ⌜ (r ≡ wayOf known tables (now (rows .entry)) (now (routes .entry)) arriving destination) × (r .leaving ≤ 4294967295) ⌝ }
 {
-    if !set_sound(known, tables, routes, arriving) {
+    if !set_sound(known, tables, rows, routes, arriving) {
         return Course {
             sound: false,
             routed: false,
@@ -91,20 +94,20 @@ fn widen(port: u32) -> usize
 }
 
 // Whether the set is sound.
-fn set_sound(known: Survey, tables: Tables, routes: &[u32], arriving: usize) -> bool
-    ensures { λ r. ⌜ r ≡ knownSound known tables (now (routes .entry)) arriving ⌝ }
+fn set_sound(known: Survey, tables: Tables, rows: &[u16], routes: &[u32], arriving: usize) -> bool
+    ensures { λ r. ⌜ r ≡ knownSound known tables (now (rows .entry)) (now (routes .entry)) arriving ⌝ }
 {
     if !known.sound {
         return false;
     }
-    if !tables_sound(tables) {
+    if !tables_sound(tables, rows) {
         return false;
     }
     let n = known.count;
     if n <= arriving {
         return false;
     }
-    if 64 < n {
+    if MAX_PORTS < n {
         return false;
     }
     let domains = known.domains;
@@ -117,11 +120,12 @@ fn go_way(
     a: Port,
     l: Port,
     tables: Tables,
+    rows: &[u16],
     facts: Facts,
     area: &[u8],
     out: &mut [u8],
 ) -> Decision
-    ensures { λ r. ⌜ (r ≡ goneBy way a l tables facts (now (area .entry)) (length (now (out .entry)))) × (now (out .exit) ≡ goneOut way a l tables facts (now (area .entry)) (length (now (out .entry))) (now (out .entry))) ⌝ }
+    ensures { λ r. ⌜ (r ≡ goneBy way a l tables (now (rows .entry)) facts (now (area .entry)) (length (now (out .entry)))) × (now (out .exit) ≡ goneOut way a l tables (now (rows .entry)) facts (now (area .entry)) (length (now (out .entry))) (now (out .entry))) ⌝ }
 {
     if !way.sound {
         return refuse_unrouted(no_port(), facts, area, out.len());
@@ -129,8 +133,20 @@ fn go_way(
     if !way.routed {
         return refuse_unrouted(a, facts, area, out.len());
     }
-    let item = first_table(tables, a.domain, l.domain);
-    forward(a, l, item.table, levels_of(item), facts, area, out)
+    let found = first_table(tables, rows, a.domain, l.domain);
+    let item = found.item;
+    let at = found.at;
+    let end = found.end;
+    forward(
+        a,
+        l,
+        item.table,
+        &rows[at..end],
+        levels_of(item),
+        facts,
+        area,
+        out,
+    )
 }
 
 // Without a route: the checks of the arriving port, and then 22.

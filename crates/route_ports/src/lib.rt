@@ -9,11 +9,14 @@ ghost use Rattle.port.specs.Port.{portSound};
 ghost use Rattle.route_ports.specs.Ports.{unlistedPort, portAt, surveyOf};
 ghost use Rattle.route_ports.specs.Stages.{startOf, notedBy};
 
+// The most ports of a box.
+pub const MAX_PORTS: usize = 64;
+
 // What is to be known of all ports: whether they are sound and at most 64, how many there are, and the domain of each.
 pub struct Survey {
     pub sound: bool,
     pub count: usize,
-    pub domains: [u32; 64],
+    pub domains: [u32; MAX_PORTS],
 }
 
 // What stands for a port that is not in the list: it is not sound.
@@ -56,7 +59,7 @@ fn start() -> Survey
     Survey {
         sound: true,
         count: 0,
-        domains: [0u32; 64],
+        domains: [0u32; MAX_PORTS],
     }
 }
 
@@ -66,7 +69,7 @@ fn note_port(s: Survey, p: Port) -> Survey
 {
     let n = s.count;
     let mut next = s;
-    if 64 <= n {
+    if MAX_PORTS <= n {
         next.sound = false;
         return next;
     }

@@ -1,1 +1,3 @@
 pub mod Sample
+pub mod Choice
+pub mod Theorems

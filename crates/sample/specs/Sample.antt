@@ -7,7 +7,7 @@ use lib.Dec.{eqb}
 use Rattle.decision.specs.declared.Decision.{Decision}
 use Rattle.decision.specs.Decision.{noFact}
 use Rattle.port.specs.declared.Port.{Port}
-use Rattle.table.specs.declared.Table.{Table}
+use Rattle.table.specs.Table.{Lent}
 use Rattle.forward_rules.specs.Crossing.{Forwarding}
 use Rattle.forward_rules.specs.Forward.{forwardingOf}
 use Rattle.forward_rules.specs.Forward.{forwardOf, outputOf}
@@ -21,5 +21,5 @@ decisionLine d area = cond (eqb (d .number) 0) (forwardLine (d .count) area) (dr
 unfoldable pub forwardingLine : Forwarding → List ℕ
 forwardingLine f = decisionLine (forwardOf f) (outputOf f (replicate 40 0))
 
-abbrev pub areaLine : Port → Port → Table → List (List ℕ) → List ℕ → List ℕ
+abbrev pub areaLine : Port → Port → Lent → List (List ℕ) → List ℕ → List ℕ
 areaLine arriving leaving table levels area = forwardingLine (forwardingOf arriving leaving table levels noFact area 40)

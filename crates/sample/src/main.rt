@@ -1,16 +1,21 @@
 // The sample program (document 01, "The sample program"; document 02, wish 1): records of an options area from standard input, each forwarded or dropped in
 // one line by the first two ports and the first table of the file `gateway.bin`.
+ghost use mathlib.Core.Path.{_≡_};
 ghost use Prim.Native.Nat.{_+_, _≤_};
 ghost use lib.ListN.{length};
 ghost use Rattle.text.specs.Theorems.{Whole};
+ghost use Rattle.table.specs.Table.{lent};
+ghost use Rattle.table_choose.specs.Tables.{lentFound};
 ghost use Rattle.sample.specs.Sample.{areaLine};
+ghost use Rattle.sample.specs.Choice.{nothing, sampleFrom, chosenOf, chosenBy};
 use decision::Facts;
+use file_read::ACCEPTED;
 use file_read::FileRead;
 use file_read::read_file;
 use file_set::Set;
-use file_set::levels_of;
 use forward::forward;
 use port::Port;
+use route_ports::no_port;
 use stream::Place;
 use stream::begin;
 use stream::feed;
@@ -18,8 +23,16 @@ use stream::flush;
 use stream::go_on;
 use stream::spare;
 use stream::stop;
-use table::Row;
+use table::MAX_ROWS;
+use table::Renumbering;
 use table::Table;
+use table::empty_table;
+use table::levels_of;
+use table_choose::Found;
+use table_choose::MAX_TABLES;
+use table_choose::Tables;
+use table_choose::first_table;
+use table_levels::Levels;
 use text::put_broken;
 use text::put_drop;
 use text::put_forward;
@@ -32,34 +45,89 @@ const OUTPUT: usize = 65536;
 const LINE: usize = 110;
 
 // One octet more than the longest file has: octets past it are noticed.
-const FILE: usize = 32769;
+const FILE: usize = 61441;
+// How many numbers the rows of all tables have at most: with so many no sound file is refused for want of room.
+const ROOM: usize = MAX_TABLES * MAX_ROWS * 3;
 
-// The set of the file `gateway.bin`; an unreadable file is an empty one, and so is refused.
-fn load() -> FileRead {
+// Reads the file `gateway.bin`, the rows of its tables into the room; an unreadable file is an empty one, and so is refused.
+fn load(rows: &mut [u16]) -> FileRead
+    ensures { λ r. ⌜ r .used ≤ length (now (rows .entry)) ⌝ }
+{
     let mut octets = [0u8; FILE];
     let fd = os::open_read(b"gateway.bin");
     if fd < 0 {
-        return read_file(&octets[..0]);
+        return read_file(&octets[..0], rows);
     }
     let n = io::read_full(fd, &mut octets);
     libc::close(fd);
-    read_file(&octets[..n])
+    read_file(&octets[..n], rows)
 }
 
-// A table that says nothing of the two domains: with it a label has no number (16) where one is asked for.
-fn no_table(arriving: u32, leaving: u32) -> Table {
-    let none = Row {
-        low: 0,
-        high: 0,
-        target: 0,
-    };
-    Table {
-        from: leaving,
-        to: arriving,
-        pairs: 0,
-        count: 0,
-        rows: [none; 64],
+// What the program runs with: two ports, a table, and where its rows lie in the room. It does not run where `ok` is false.
+struct Choice {
+    ok: bool,
+    arriving: Port,
+    leaving: Port,
+    item: Renumbering,
+    at: usize,
+    end: usize,
+}
+
+// Nothing to run with.
+fn no_choice() -> Choice
+    ensures { λ r. ⌜ r ≡ nothing ⌝ }
+{
+    let port = no_port();
+    let item = empty_table();
+    Choice {
+        ok: false,
+        arriving: port,
+        leaving: port,
+        item: item,
+        at: 0,
+        end: 0,
     }
+}
+
+fn with_table(arriving: Port, leaving: Port, found: Found) -> Choice
+    ensures { λ r. ⌜ r ≡ chosenBy arriving leaving found ⌝ }
+{
+    let item = found.item;
+    Choice {
+        ok: true,
+        arriving: arriving,
+        leaving: leaving,
+        item: item,
+        at: found.at,
+        end: found.end,
+    }
+}
+
+// Chooses the first two ports and the first table of what was read; where there is no table, one that says nothing of the arriving port's domain.
+fn choose(verdict: u8, set: Set, rows: &[u16]) -> Choice
+    ensures { λ r. ⌜ (chosenOf r (now (rows .entry)) ≡ sampleFrom verdict set (now (rows .entry))) × (r .at ≤ r .end) × (r .end ≤ length (now (rows .entry))) ⌝ }
+{
+    if verdict != ACCEPTED {
+        return no_choice();
+    }
+    if set.portcount < 2 {
+        return no_choice();
+    }
+    let arriving = set.ports[0];
+    let leaving = set.ports[1];
+    let kept = set.tables;
+    let tables = Tables {
+        count: set.tablecount,
+        items: kept,
+    };
+    if set.tablecount == 0 {
+        let none = first_table(tables, rows, arriving.domain, leaving.domain);
+        return with_table(arriving, leaving, none);
+    }
+    let first = set.tables[0];
+    let table = first.table;
+    let found = first_table(tables, rows, table.from, table.to);
+    with_table(arriving, leaving, found)
 }
 
 // The line of one area, behind the octets that wait.
@@ -67,13 +135,14 @@ fn answer(
     arriving: Port,
     leaving: Port,
     table: Table,
-    levels: [[u8; 2]; 16],
+    rows: &[u16],
+    levels: Levels,
     area: &[u8],
     out: &mut [u8],
     n: usize,
 ) -> usize
     requires { ⌜ n + 110 ≤ length (now out) ⌝ }
-    ensures { λ r. ⌜ Whole (now (out .entry)) n (areaLine arriving leaving table levels (now (area .entry))) (now (out .exit)) r ⌝ }
+    ensures { λ r. ⌜ Whole (now (out .entry)) n (areaLine arriving leaving (lent table (now (rows .entry))) levels (now (area .entry))) (now (out .exit)) r ⌝ }
 {
     let mut space = [0u8; 40];
     let facts = Facts {
@@ -83,7 +152,16 @@ fn answer(
         fragment: false,
         source: false,
     };
-    let d = forward(arriving, leaving, table, levels, facts, area, &mut space);
+    let d = forward(
+        arriving,
+        leaving,
+        table,
+        rows,
+        levels,
+        facts,
+        area,
+        &mut space,
+    );
     if d.number != 0 {
         return put_drop(out, n, d.number, d.kind, d.code, d.pointer);
     }
@@ -95,7 +173,8 @@ fn answer_record(
     arriving: Port,
     leaving: Port,
     table: Table,
-    levels: [[u8; 2]; 16],
+    rows: &[u16],
+    levels: Levels,
     input: &[u8],
     out: &mut [u8],
     place: Place,
@@ -117,7 +196,16 @@ fn answer_record(
     }
     let next = at + size;
     let from = at + 1;
-    let waiting = answer(arriving, leaving, table, levels, &input[from..next], out, n);
+    let waiting = answer(
+        arriving,
+        leaving,
+        table,
+        rows,
+        levels,
+        &input[from..next],
+        out,
+        n,
+    );
     go_on(next, end, waiting)
 }
 
@@ -126,7 +214,8 @@ fn turn(
     arriving: Port,
     leaving: Port,
     table: Table,
-    levels: [[u8; 2]; 16],
+    rows: &[u16],
+    levels: Levels,
     input: &mut [u8],
     out: &mut [u8],
     place: Place,
@@ -147,7 +236,17 @@ fn turn(
     if !fed.more {
         return fed;
     }
-    answer_record(arriving, leaving, table, levels, input, out, fed, size)
+    answer_record(
+        arriving,
+        leaving,
+        table,
+        rows,
+        levels,
+        input,
+        out,
+        fed,
+        size,
+    )
 }
 
 // How many octets a record has, with the one that leads it.
@@ -158,7 +257,7 @@ fn record_size(n: u8) -> usize
 }
 
 // Answers every record of the input.
-fn run(arriving: Port, leaving: Port, table: Table, levels: [[u8; 2]; 16]) {
+fn run(arriving: Port, leaving: Port, table: Table, rows: &[u16], levels: Levels) {
     let mut input = [0u8; INPUT];
     let mut out = [0u8; OUTPUT];
     let mut place = begin();
@@ -169,6 +268,7 @@ fn run(arriving: Port, leaving: Port, table: Table, levels: [[u8; 2]; 16]) {
             arriving,
             leaving,
             table,
+            rows,
             levels,
             &mut input,
             &mut out,
@@ -179,40 +279,35 @@ fn run(arriving: Port, leaving: Port, table: Table, levels: [[u8; 2]; 16]) {
     flush(&out, place);
 }
 
-// Runs with the first two ports and the first table.
-fn run_set(set: Set) {
-    let arriving = set.ports[0];
-    let leaving = set.ports[1];
-    let first = set.tables[0];
-    if set.tablecount == 0 {
-        run(
-            arriving,
-            leaving,
-            no_table(arriving.domain, leaving.domain),
-            levels_of(first),
-        );
-        return;
-    }
-    let table = first.table;
-    run(arriving, leaving, table, levels_of(first));
-}
-
 fn say_broken() {
     let mut out = [0u8; 16];
     let n = put_broken(&mut out, 0);
     flush(&out, stop(n));
 }
 
-fn main() {
-    let file = load();
-    if file.verdict != 0 {
-        say_broken();
-        return;
-    }
+// Runs with what the file says, if it says enough.
+fn run_file(file: FileRead, rows: &[u16]) {
     let set = file.set;
-    if set.portcount < 2 {
+    let chosen = choose(file.verdict, set, rows);
+    if !chosen.ok {
         say_broken();
         return;
     }
-    run_set(set);
+    let at = chosen.at;
+    let end = chosen.end;
+    let item = chosen.item;
+    run(
+        chosen.arriving,
+        chosen.leaving,
+        item.table,
+        &rows[at..end],
+        levels_of(item),
+    );
+}
+
+fn main() {
+    let mut rows = [0u16; ROOM];
+    let file = load(&mut rows);
+    let used = file.used;
+    run_file(file, &rows[..used]);
 }

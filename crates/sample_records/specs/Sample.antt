@@ -8,7 +8,7 @@ use Rattle.label.specs.Label.{labelOf, zeroLabel}
 use Rattle.port.specs.declared.Port.{Port}
 use Rattle.port.specs.Port.{plainPort}
 use Rattle.table.specs.declared.Table.{Table}
-use Rattle.table.specs.Table.{row}
+use Rattle.table.specs.Table.{Lent, lent}
 
 -- "both ports require labels. Arriving: domain 5, level 1 with no categories to level 5 with 0..300. Leaving: domain 9, level 0 with none to
 -- level 255 with all."
@@ -19,8 +19,15 @@ abbrev pub leaving : Port
 leaving = plainPort 9 (labelOf 9 0 []) (labelOf 9 255 (run 0 65534 ∷ [])) true zeroLabel
 
 -- "Table: levels 1→2, 3→4, 5→6; rows 0..99→1000, 100..300→0."
-abbrev pub table : Table
-table = record { from = 5; to = 9; pairs = 3; count = 2; rows = row 0 99 1000 ∷ row 100 300 0 ∷ replicate 62 (row 0 0 0) }
+abbrev pub head : Table
+head = record { from = 5; to = 9; pairs = 3; count = 2 }
+
+-- its rows as they are lent: low, high and target of each
+abbrev pub rows : List ℕ
+rows = 0 ∷ 99 ∷ 1000 ∷ 100 ∷ 300 ∷ 0 ∷ []
+
+abbrev pub table : Lent
+table = lent head rows
 
 abbrev pub levels : List (List ℕ)
-levels = (1 ∷ 2 ∷ []) ∷ (3 ∷ 4 ∷ []) ∷ (5 ∷ 6 ∷ []) ∷ replicate 13 (0 ∷ 0 ∷ [])
+levels = (1 ∷ 2 ∷ []) ∷ (3 ∷ 4 ∷ []) ∷ (5 ∷ 6 ∷ []) ∷ replicate 253 (0 ∷ 0 ∷ [])

@@ -7,8 +7,8 @@ ghost use Rattle.sample_records.specs.Sample as sample;
 use label::Label;
 use label::Run;
 use port::Port;
-use table::Row;
 use table::Table;
+use table_levels::Levels;
 
 // The label with the categories from 0 to the highest.
 pub fn up_to(domain: u32, level: u8, highest: u16) -> Label
@@ -54,40 +54,30 @@ pub fn leaving() -> Port
     )
 }
 
-// The table, without its level pairs.
+// The table, without its rows and its level pairs.
 pub fn table() -> Table
-    ensures { λ r. ⌜ r ≡ sample.table ⌝ }
+    ensures { λ r. ⌜ r ≡ sample.head ⌝ }
 {
-    let none = Row {
-        low: 0,
-        high: 0,
-        target: 0,
-    };
-    let mut table = Table {
+    Table {
         from: 5,
         to: 9,
         pairs: 3,
         count: 2,
-        rows: [none; 64],
-    };
-    table.rows[0] = Row {
-        low: 0,
-        high: 99,
-        target: 1000,
-    };
-    table.rows[1] = Row {
-        low: 100,
-        high: 300,
-        target: 0,
-    };
-    table
+    }
+}
+
+// Its rows, three numbers each.
+pub fn rows() -> [u16; 6]
+    ensures { λ r. ⌜ r ≡ sample.rows ⌝ }
+{
+    [0, 99, 1000, 100, 300, 0]
 }
 
 // The level pairs of the table.
-pub fn levels() -> [[u8; 2]; 16]
+pub fn levels() -> Levels
     ensures { λ r. ⌜ r ≡ sample.levels ⌝ }
 {
-    let mut levels = [[0u8; 2]; 16];
+    let mut levels = [[0u8; 2]; 256];
     levels[0] = [1, 2];
     levels[1] = [3, 4];
     levels[2] = [5, 6];

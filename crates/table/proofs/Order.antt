@@ -1,46 +1,37 @@
--- Laws of the loops over rows: one row more is written down, read along the order, or found unused.
+-- Laws of the loops over rows: one row more is written down, or read along the order.
 use mathlib.Core.Path.{_≡_, refl, sym, _∙_, ap}
-use mathlib.Core.Bool.{Bool, true, false, true≢false, not, _&&_, and-assoc, and-comm, and-false, and-true}
-use mathlib.Core.List.{List, [], _∷_, _++_, map, append-assoc}
-use Prim.Native.Nat.{ℕ, zero, suc, _+_, _-_, _*_, _/_, _%_, _≤_, _<_}
+use mathlib.Core.Bool.{Bool, true, false, true≢false, not, _&&_, and-comm, and-false, and-true}
+use mathlib.Core.List.{List, [], _∷_, _++_, append-assoc}
+use Prim.Native.Nat.{ℕ, zero, suc, _+_, _*_, _/_, _%_, _≤_, _<_}
 use native.Mathlib.Omega.{arith}
-use native.Mathlib.Decide.{decLe}
 use native.Mathlib.Numerals.{add-one}
-use lib.Bits.{bitOr}
 use lib.Dec.{leb, ltb, eqb}
 use lib.ListN.{length, take, drop, getD, set, replicate, length-drop, replicate-append-replicate, length-map, List·getD-map}
-use lib.Seq.{take-suc, set-at, take-at, drop-at, take-length, length-take-le, getD-take, getD-set-same, getD-set-other}
-use borrow.Author.Tests.{le-leb, lt-leb, leb-true, ltb-true, lt-ltb, eqb-true, eq-eqb}
-use Rattle.label.proofs.Bools.{and-left, and-right, and-both, same-yes}
+use lib.Seq.{take-suc, set-at, take-at, drop-at, take-length, length-take-le, getD-take}
+use borrow.Author.Tests.{le-leb, leb-true, ltb-true, lt-ltb, eqb-true, eq-eqb, ne-eqb}
+use Rattle.label.proofs.Bools.{and-left, and-right, and-both}
 use Rattle.label.proofs.Steps.{next}
-use Rattle.table_levels.proofs.Levels.{or-zero}
-use Rattle.table_rows.specs.Rows.{keysApart}
 use Rattle.lists_sort.specs.Order.{all, sortKeys}
 use Rattle.lists_sort.proofs.Laws.{sort-length}
 use Rattle.lists_sort.proofs.Merge.{put}
 use Rattle.table.specs.declared.Row.{Row}
 use Rattle.table.specs.declared.Table.{Table}
-use Rattle.table.specs.Table.{targetsApart, noRow, usedRows, targetEnd, rising, unusedRows, rowsSound, typed, tableSound}
-use Rattle.table_levels.specs.Levels.{levelsSound}
-use Rattle.table.specs.Order.{orderKeys, rowOrder, orderOf, rowAt, inOrder}
-use Rattle.table.specs.Stages.{chain, EndsOf, fieldsSound, fewEnd, RowsRise}
-use Rattle.table.proofs.Rows.{targets-chain, order-all, good}
+use Rattle.table.specs.Table.{Lent, lent, rowsFrom, targetsApart, noRow, targetEnd, rising, rowsSound, typed, bareSound, tableSound}
+use Rattle.table_levels.specs.Levels.{levelsSound, levelNumbers, pairsSound}
+use Rattle.table.specs.Order.{orderKeys, rowOrder, orderOf, bareOrder, rowAt, inOrder}
+use Rattle.table.specs.Stages.{fieldsSound, RowsRise}
+use Rattle.table.proofs.Rows.{order-all, good}
 
 -- Zeros written one by one.
 pub cleared : (s : List ℕ) (i : ℕ) → i < length s → take i s ≡ replicate i 0 → take (i + 1) (set s i 0) ≡ replicate (i + 1) 0
 cleared s i h e = put s i 0 h ∙ ap (λ (z : List ℕ). z ++ (0 ∷ [])) e ∙ replicate-append-replicate i 1 0
 
-pub drop-zeros : (n m : ℕ) → drop n (replicate {A = ℕ} (n + m) 0) ≡ replicate {A = ℕ} m 0
-drop-zeros zero m = let e : 0 + m ≡ m = omega arith in rw e
-drop-zeros (suc n) m = let e : suc n + m ≡ suc (n + m) = omega arith in rw e (drop-zeros n m)
-
 -- A refusal writes nothing that is told.
-pub refused : {t : Table} {order ends : List ℕ} → rising 0 (usedRows t) ≡ false → RowsRise t false false order ends
+pub refused : {rs : List Row} {was order : List ℕ} → rising 0 rs ≡ false → RowsRise rs false false was order
 refused e = record {
-  rise = rw e;
+  rise = sym e;
   ordered = λ w. absurd (true≢false (sym w));
   written = λ w. absurd (true≢false (sym w));
-  after = λ w. absurd (true≢false (sym w));
 }
 
 -- One row more is written down.
@@ -78,12 +69,6 @@ rise-parts f r rs = go (leb f (r .low)) (leb (r .low) (r .high)) (leb (r .high) 
     go true false c d e = refl
     go true true false d e = refl
     go true true true d e = refl
-
--- The number after one row's targets more.
-pub ends-step : (rows : List Row) (ends : List ℕ) (i x : ℕ) → i < length ends → x ≡ targetEnd (getD rows i noRow) + 1
-    → ((j : ℕ) → j < i → getD ends j 0 ≡ targetEnd (getD rows j noRow) + 1)
-    → (j : ℕ) → j < i + 1 → getD (set ends i x) j 0 ≡ targetEnd (getD rows j noRow) + 1
-ends-step rows ends i x h e f j k = elim (decLe (j + 1) i) [ yes u ↦ getD-set-other ends i j x 0 (λ q. let z : j ≡ i = q in omega arith) ∙ f j (omega arith) | no u ↦ (let q : j ≡ i = omega arith in rw q (getD-set-same ends i x 0 h ∙ e)) ]
 
 -- A turn along the order: the row that is read is there, has an order and the number's target, and it is the next.
 pub record Turn (rs : List Row) (i k : ℕ) : Type 0 where
@@ -129,115 +114,6 @@ order-turn rs n order i h e w q l =
       next = next (rowAt rs 0) (inOrder rs) i there ∙ ap (λ (z : Row). z ∷ drop (i + 1) (inOrder rs)) (List·getD-map (rowAt rs) (rowOrder rs) i 0);
     })
 
--- Along the order, each number names a row that is there and its target.
-keys-chain : (t : Table) (ends ks : List ℕ) (past : ℕ) → t .count ≤ 64 → EndsOf t ends
-    → all (λ k. ltb (k % 65536) (t .count) && eqb (rowAt (usedRows t) k .target) (k / 65536)) ks ≡ true
-    → keysApart past ends ks ≡ chain past (map (rowAt (usedRows t)) ks)
-keys-chain t ends [] past h f e = refl
-keys-chain t ends (k ∷ ks) past h f e =
-    let r : Row = rowAt (usedRows t) k in
-    let a = and-left (ltb (k % 65536) (t .count) && eqb (r .target) (k / 65536)) _ e in
-    let p : k % 65536 < t .count = ltb-true _ _ (and-left (ltb (k % 65536) (t .count)) _ a) in
-    let g : r .target ≡ k / 65536 = eqb-true _ _ (and-right (ltb (k % 65536) (t .count)) _ a) in
-    let z : k % 64 ≡ k % 65536 = omega arith in
-    let w : getD ends (k % 64) 0 ≡ targetEnd r + 1 = ap (λ (j : ℕ). getD ends j 0) z ∙ f (k % 65536) p ∙ ap (λ (x : Row). targetEnd x + 1) (sym (getD-take (t .count) (t .rows) (k % 65536) noRow p)) in
-    ap (λ (x : ℕ). leb past x && keysApart (getD ends (k % 64) 0) ends ks) (sym g)
-    ∙ ap (λ (x : ℕ). leb past (r .target) && keysApart x ends ks) w
-    ∙ ap (λ (b : Bool). leb past (r .target) && b) (keys-chain t ends ks (targetEnd r + 1) h f (and-right (ltb (k % 65536) (t .count) && eqb (r .target) (k / 65536)) _ e))
-
-pub targets-told : (t : Table) (ends order : List ℕ) → t .count ≤ 64 → length (usedRows t) ≡ t .count → length ends ≡ 64 → EndsOf t ends → take (t .count) order ≡ rowOrder (usedRows t)
-    → (leb 64 (length ends) && keysApart 0 ends (take (t .count) order)) ≡ targetsApart (usedRows t)
-targets-told t ends order h n m f w =
-    let rs : List Row = usedRows t in
-    let p : ℕ → Row → Bool = λ k r. ltb (k % 65536) (t .count) && eqb (r .target) (k / 65536) in
-    let g : all (λ k. p k (rowAt rs k)) (rowOrder rs) ≡ true = order-all p rs (omega arith) (λ j r ts b d.
-    let s : length (drop j rs) ≡ suc (length ts) = ap length d in
-    let i : j < t .count = omega (arith, length-drop j rs) in
-    and-both (lt-ltb ((r .target * 65536 + j) % 65536) (t .count) (omega arith)) (eq-eqb (r .target) ((r .target * 65536 + j) / 65536) (omega arith))) in
-    rw (w, le-leb 64 (length ends) (omega arith)) (keys-chain t ends (rowOrder rs) 0 h f g ∙ targets-chain rs (omega arith))
-
--- Where the rows end that are read one after the other.
-pub few-over : (n : ℕ) → n ≤ 64 → n ≤ fewEnd n
-unfolding fewEnd
-few-over n h = elim (decLe n 8) [ yes u ↦ rw (le-leb n 8 u) u | no u ↦ rw (lt-leb n 8 (omega arith)) h ]
-
-pub few-most : (n : ℕ) → fewEnd n ≤ 64
-unfolding fewEnd
-few-most n = elim (decLe n 8) [ yes u ↦ rw (le-leb n 8 u) (omega arith) | no u ↦ rw (lt-leb n 8 (omega arith)) (omega arith) ]
-
--- Four places in one word.
-four-zero : (a b c d : ℕ) → eqb (a + b * 65536 + c * 4294967296 + d * 281474976710656) 0 ≡ (eqb a 0 && (eqb b 0 && (eqb c 0 && eqb d 0)))
-four-zero a b c d =
-    same-yes (eqb (a + b * 65536 + c * 4294967296 + d * 281474976710656) 0) _
-    (λ e. let z : a + b * 65536 + c * 4294967296 + d * 281474976710656 ≡ 0 = eqb-true _ _ e in
-    and-both (eq-eqb a 0 (omega arith)) (and-both (eq-eqb b 0 (omega arith)) (and-both (eq-eqb c 0 (omega arith)) (eq-eqb d 0 (omega arith)))))
-    (λ e. let e1 = and-right (eqb a 0) _ e in
-    let e2 = and-right (eqb b 0) _ e1 in
-    let p : a ≡ 0 = eqb-true _ _ (and-left (eqb a 0) _ e) in
-    let q : b ≡ 0 = eqb-true _ _ (and-left (eqb b 0) _ e1) in
-    let r : c ≡ 0 = eqb-true _ _ (and-left (eqb c 0) _ e2) in
-    let s : d ≡ 0 = eqb-true _ _ (and-right (eqb c 0) _ e2) in
-    eq-eqb (a + b * 65536 + c * 4294967296 + d * 281474976710656) 0 (omega arith))
-
-pub word-zero : (w a b c d : ℕ) → eqb (bitOr w (a + b * 65536 + c * 4294967296 + d * 281474976710656)) 0 ≡ (eqb w 0 && (eqb a 0 && (eqb b 0 && (eqb c 0 && eqb d 0))))
-word-zero w a b c d = or-zero w (a + b * 65536 + c * 4294967296 + d * 281474976710656) ∙ ap (λ (z : Bool). eqb w 0 && z) (four-zero a b c d)
-
--- Three words, and the places of four rows that go into each.
-pub words-four : (x y z a b c d e f g h i j k l : Bool)
-    → ((x && (a && (b && (c && d)))) && ((y && (e && (f && (g && h)))) && (z && (i && (j && (k && l))))))
-    ≡ ((x && (y && z)) && (a && (b && (c && (d && (e && (f && (g && (h && (i && (j && (k && (l && true)))))))))))))
-words-four false y z a b c d e f g h i j k l = refl
-words-four true false z a b c d e f g h i j k l = and-false (a && (b && (c && d)))
-words-four true true z false b c d e f g h i j k l = sym (and-false z)
-words-four true true z true false c d e f g h i j k l = sym (and-false z)
-words-four true true z true true false d e f g h i j k l = sym (and-false z)
-words-four true true z true true true false e f g h i j k l = sym (and-false z)
-words-four true true z true true true true false f g h i j k l = sym (and-false z)
-words-four true true z true true true true true false g h i j k l = sym (and-false z)
-words-four true true z true true true true true true false h i j k l = sym (and-false z)
-words-four true true z true true true true true true true false i j k l = sym (and-false z)
-words-four true true z true true true true true true true true i j k l = ap (λ (m : Bool). z && (i && (j && (k && m)))) (sym (and-true l))
-
-pub words-one : (x y z a b c : Bool) → ((x && (a && (b && (c && true)))) && (y && z)) ≡ ((x && (y && z)) && (a && (b && (c && true))))
-words-one false y z a b c = refl
-words-one true y z a b c = and-comm (a && (b && (c && true))) (y && z)
-
--- Rows of an array that are known to be unused, and those still to come.
-unused-append : (xs ys : List Row) → unusedRows (xs ++ ys) ≡ (unusedRows xs && unusedRows ys)
-unused-append [] ys = refl
-unused-append (r ∷ xs) ys = rw (unused-append xs ys) (go (eqb (r .low) 0) (eqb (r .high) 0) (eqb (r .target) 0) (unusedRows xs) (unusedRows ys))
-  where
-    go : (a b c d e : Bool) → (a && (b && (c && (d && e)))) ≡ ((a && (b && (c && d))) && e)
-    go false b c d e = refl
-    go true false c d e = refl
-    go true true false d e = refl
-    go true true true d e = refl
-
-unused-more : (s t : Bool) (xs ys zs : List Row) → zs ≡ xs ++ ys → t ≡ (s && unusedRows xs) → (s && unusedRows zs) ≡ (t && unusedRows ys)
-unused-more s t xs ys zs e f = rw (e, unused-append xs ys, f) (sym (and-assoc s (unusedRows xs) (unusedRows ys)))
-
-pub unused-next : (rows : List Row) (s t : Bool) (i : ℕ) → t ≡ (s && unusedRows (getD rows i noRow ∷ [])) → i < length rows
-    → (s && unusedRows (drop i rows)) ≡ (t && unusedRows (drop (i + 1) rows))
-unused-next rows s t i e h = unused-more s t (getD rows i noRow ∷ []) (drop (i + 1) rows) (drop i rows) (next noRow rows i h) e
-
-pub unused-four : (rows : List Row) (s t : Bool) (i : ℕ)
-    → t ≡ (s && unusedRows (getD rows i noRow ∷ (getD rows (i + 1) noRow ∷ (getD rows (i + 2) noRow ∷ (getD rows (i + 3) noRow ∷ []))))) → i + 4 ≤ length rows
-    → (s && unusedRows (drop i rows)) ≡ (t && unusedRows (drop (i + 4) rows))
-unused-four rows s t i e h =
-    unused-more s t (getD rows i noRow ∷ (getD rows (i + 1) noRow ∷ (getD rows (i + 2) noRow ∷ (getD rows (i + 3) noRow ∷ [])))) (drop (i + 4) rows) (drop i rows) there e
-  where
-    step : (j k : ℕ) → k ≡ j + 1 → j < length rows → drop j rows ≡ getD rows j noRow ∷ drop k rows
-    step j k q l = rw q (next noRow rows j l)
-
-    there : drop i rows ≡ getD rows i noRow ∷ (getD rows (i + 1) noRow ∷ (getD rows (i + 2) noRow ∷ (getD rows (i + 3) noRow ∷ drop (i + 4) rows)))
-    there = rw (step i (i + 1) refl (omega arith), step (i + 1) (i + 2) (omega arith) (omega arith), step (i + 2) (i + 3) (omega arith) (omega arith), step (i + 3) (i + 4) (omega arith) (omega arith))
-
--- What fails in the first two parts fails in all three.
-pub rows-apart : (a b c : Bool) → (a && b) ≡ false → (a && (b && c)) ≡ false
-rows-apart false b c e = refl
-rows-apart true false c e = refl
-rows-apart true true c e = absurd (true≢false e)
-
 -- The rows written down, and put in order.
 module _ (rs : List Row) (n : ℕ) (was order : List ℕ) (q : length rs ≡ n) (w : order ≡ orderKeys 0 rs ++ drop (length rs) was) where
   pub rows-placed : rowOrder rs ≡ orderKeys 0 rs → order ≡ rowOrder rs ++ drop n was
@@ -254,49 +130,120 @@ module _ (rs : List Row) (n : ℕ) (was order : List ℕ) (q : length rs ≡ n) 
     rows-front = rw rows-sorted (take-at (rowOrder rs) (drop n was) n (order-length rs ∙ q))
 
 -- The whole of a table's soundness, and the list that goes with it.
-module _ (t : Table) (ls : List (List ℕ)) where
-  pub sound-parts : tableSound t ls ≡ (fieldsSound t ls && rowsSound t)
-  unfolding tableSound fieldsSound
-  sound-parts = go (not (eqb (t .from) 0)) (not (eqb (t .to) 0)) (leb (t .pairs) 16) (leb (t .count) 64) (levelsSound ls (t .pairs)) (rowsSound t) (typed t ls)
+pub sound-bare : (t : Lent) (ls : List (List ℕ)) → tableSound t ls ≡ (pairsSound ls (t .pairs) && bareSound t)
+unfolding tableSound bareSound typed
+sound-bare t ls =
+    go (not (eqb (t .from) 0)) (not (eqb (t .to) 0)) (leb (t .pairs) 256) (leb (t .count) 1024) (eqb (length (t .rows)) (t .count * 3)) (levelsSound ls (t .pairs)) (rowsSound t) (leb (t .from) 4294967295)
+    (leb (t .to) 4294967295) (levelNumbers (take (t .pairs) ls))
+  where
+    ends : (e f x y n : Bool) → (e && (f && (x && (y && n)))) ≡ ((e && n) && (f && (x && y)))
+    ends false f x y n = refl
+    ends true f x y true = ap (λ (z : Bool). f && (x && z)) (and-true y)
+    ends true false x y false = refl
+    ends true true false y false = refl
+    ends true true true false false = refl
+    ends true true true true false = refl
+
+    go : (a b c d h e f x y n : Bool) → (a && (b && (c && (d && (h && (e && (f && (x && (y && n))))))))) ≡ ((e && n) && (a && (b && (c && (d && (h && (f && (x && y))))))))
+    go false b c d h e f x y n = sym (and-false (e && n))
+    go true false c d h e f x y n = sym (and-false (e && n))
+    go true true false d h e f x y n = sym (and-false (e && n))
+    go true true true false h e f x y n = sym (and-false (e && n))
+    go true true true true false e f x y n = sym (and-false (e && n))
+    go true true true true true e f x y n = ends e f x y n
+
+module _ (t : Table) (flat : List ℕ) where
+  pub bare-parts : bareSound (lent t flat) ≡ (fieldsSound t (length flat) && rowsSound (lent t flat))
+  unfolding bareSound fieldsSound
+  bare-parts =
+      go (not (eqb (t .from) 0)) (not (eqb (t .to) 0)) (leb (t .pairs) 256) (leb (t .count) 1024) (eqb (length flat) (t .count * 3)) (rowsSound (lent t flat))
+      (leb (t .from) 4294967295 && leb (t .to) 4294967295)
     where
-      swap : (a b c : Bool) → (a && (b && c)) ≡ ((a && c) && b)
-      swap false b c = refl
-      swap true true true = refl
-      swap true true false = refl
-      swap true false true = refl
-      swap true false false = refl
+      go : (a b c d h f g : Bool) → (a && (b && (c && (d && (h && (f && g)))))) ≡ ((a && (b && (c && (d && (h && g))))) && f)
+      go false b c d h f g = refl
+      go true false c d h f g = refl
+      go true true false d h f g = refl
+      go true true true false h f g = refl
+      go true true true true false f g = refl
+      go true true true true true f g = and-comm f g
 
-      go : (a b c d e f g : Bool) → (a && (b && (c && (d && (e && (f && g)))))) ≡ ((a && (b && (c && (d && (e && g))))) && f)
-      go false b c d e f g = refl
-      go true false c d e f g = refl
-      go true true false d e f g = refl
-      go true true true false e f g = refl
-      go true true true true e f g = swap e f g
+  pub fields-rest : (held : ℕ) → (t .from ≡ 0 → ⊥) → (t .to ≡ 0 → ⊥) → t .pairs ≤ 256 → t .count ≤ 1024 → t .from ≤ 4294967295 → t .to ≤ 4294967295
+      → eqb held (t .count * 3) ≡ fieldsSound t held
+  unfolding fieldsSound
+  fields-rest held a b c d e f =
+      sym
+      (rw (ne-eqb (t .from) 0 a, ne-eqb (t .to) 0 b, le-leb (t .pairs) 256 c, le-leb (t .count) 1024 d, le-leb (t .from) 4294967295 e, le-leb (t .to) 4294967295 f)
+      (and-true (eqb held (t .count * 3))))
 
-  pub order-unsound : (order : List ℕ) → order ≡ replicate 64 0 → tableSound t ls ≡ false → order ≡ orderOf t ls
-  unfolding orderOf
-  order-unsound order e h = rw h e
-
-  pub order-sound : (was order : List ℕ) → was ≡ replicate 64 0 → tableSound t ls ≡ true → order ≡ rowOrder (usedRows t) ++ drop (t .count) was → t .count ≤ 64 → order ≡ orderOf t ls
-  unfolding orderOf
-  order-sound was order e h w l =
-      let z : t .count + (64 - t .count) ≡ 64 = omega arith in
-      let d : drop (t .count) was ≡ replicate (64 - t .count) 0 = rw e (ap (λ (k : ℕ). drop (t .count) (replicate {A = ℕ} k 0)) (sym z) ∙ drop-zeros (t .count) (64 - t .count)) in
-      rw (h, ← d) w
-
-  pub fields-held : fieldsSound t ls ≡ true → t .count ≤ 64
+  pub fields-held : fieldsSound t (length flat) ≡ true → (t .count ≤ 1024) × (length flat ≡ t .count * 3)
   unfolding fieldsSound
   fields-held e =
       let e1 = and-right (not (eqb (t .from) 0)) _ e in
       let e2 = and-right (not (eqb (t .to) 0)) _ e1 in
-      let e3 = and-right (leb (t .pairs) 16) _ e2 in
-      leb-true _ _ (and-left (leb (t .count) 64) _ e3)
+      let e3 = and-right (leb (t .pairs) 256) _ e2 in
+      let e4 = and-right (leb (t .count) 1024) _ e3 in
+      (leb-true _ _ (and-left (leb (t .count) 1024) _ e3), eqb-true _ _ (and-left (eqb (length flat) (t .count * 3)) _ e4))
 
-  pub fields-unsound : fieldsSound t ls ≡ false → tableSound t ls ≡ false
-  fields-unsound e = sound-parts ∙ rw e
+  pub rows-unsound : (rising 0 (rowsFrom flat) && targetsApart (rowsFrom flat)) ≡ false → bareSound (lent t flat) ≡ false
+  unfolding rowsSound
+  rows-unsound e = bare-parts ∙ rw e (and-false (fieldsSound t (length flat)))
 
-  pub rows-unsound : rowsSound t ≡ false → tableSound t ls ≡ false
-  rows-unsound e = sound-parts ∙ rw e (and-false (fieldsSound t ls))
+  pub both-sound : fieldsSound t (length flat) ≡ true → (rising 0 (rowsFrom flat) && targetsApart (rowsFrom flat)) ≡ true → bareSound (lent t flat) ≡ true
+  unfolding rowsSound
+  both-sound e f = bare-parts ∙ rw (e, f)
 
-  pub both-sound : fieldsSound t ls ≡ true → rowsSound t ≡ true → tableSound t ls ≡ true
-  both-sound e f = sound-parts ∙ rw (e, f)
+  -- the two tests before the rows
+  pub tests-failed : (a b : Bool) → a ≡ fieldsSound t (length flat) → (a && b) ≡ false → (bareSound (lent t flat) && b) ≡ false
+  tests-failed a b p e = rw (bare-parts, ← p) (go a b (rowsSound (lent t flat)) e)
+    where
+      go : (a b c : Bool) → (a && b) ≡ false → ((a && c) && b) ≡ false
+      go false b c e = refl
+      go true b true e = e
+      go true b false e = refl
+
+  -- what is answered and what the list then holds, of a list that held `was`
+  module _ (was order : List ℕ) where
+    pub order-refused : (bareSound (lent t flat) && leb (t .count) (length was)) ≡ false → order ≡ replicate (length was) 0
+        → (false ≡ (bareSound (lent t flat) && leb (t .count) (length was))) × (order ≡ bareOrder (lent t flat) was)
+    unfolding bareOrder
+    order-refused h e = (sym h, rw h e)
+
+    pub order-given : bareSound (lent t flat) ≡ true → t .count ≤ length was → order ≡ rowOrder (rowsFrom flat) ++ drop (t .count) was
+        → (true ≡ (bareSound (lent t flat) && leb (t .count) (length was))) × (order ≡ bareOrder (lent t flat) was)
+    unfolding bareOrder
+    order-given s l e =
+        let h : (bareSound (lent t flat) && leb (t .count) (length was)) ≡ true = and-both s (le-leb (t .count) (length was) l) in
+        (sym h, rw h e)
+
+-- with the level pairs
+module _ (t : Lent) (ls : List (List ℕ)) (was order : List ℕ) where
+  pub pairs-unsound : pairsSound ls (t .pairs) ≡ false → order ≡ replicate (length was) 0 → (false ≡ (tableSound t ls && leb (t .count) (length was))) × (order ≡ orderOf t ls was)
+  unfolding orderOf
+  pairs-unsound h e = let s : tableSound t ls ≡ false = sound-bare t ls ∙ rw h in (sym (rw s), rw s e)
+
+  pub pairs-sound : (r : Bool) → pairsSound ls (t .pairs) ≡ true → r ≡ (bareSound t && leb (t .count) (length was)) → order ≡ bareOrder t was
+      → (r ≡ (tableSound t ls && leb (t .count) (length was))) × (order ≡ orderOf t ls was)
+  unfolding orderOf bareOrder
+  pairs-sound r h q e = let s : tableSound t ls ≡ bareSound t = sound-bare t ls ∙ rw h in (q ∙ sym (rw s), e ∙ sym (rw s))
+
+-- a list with a place for each row of a sound table
+pub bare-held : (t : Lent) → bareSound t ≡ true → t .count ≤ 1024
+unfolding bareSound
+bare-held t e =
+    let e1 = and-right (not (eqb (t .from) 0)) _ e in
+    let e2 = and-right (not (eqb (t .to) 0)) _ e1 in
+    leb-true _ _ (and-left (leb (t .count) 1024) _ (and-right (leb (t .pairs) 256) _ e2))
+
+pub bare-room : (t : Lent) (room : ℕ) → (t .count ≤ 1024 → t .count ≤ room) → (bareSound t && leb (t .count) room) ≡ bareSound t
+bare-room t room h = go (bareSound t) refl
+  where
+    go : (b : Bool) → bareSound t ≡ b → (b && leb (t .count) room) ≡ b
+    go true s = le-leb (t .count) room (h (bare-held t s))
+    go false s = refl
+
+pub sound-room : (t : Lent) (ls : List (List ℕ)) (room : ℕ) → (t .count ≤ 1024 → t .count ≤ room) → (tableSound t ls && leb (t .count) room) ≡ tableSound t ls
+sound-room t ls room h = go (tableSound t ls) refl
+  where
+    go : (b : Bool) → tableSound t ls ≡ b → (b && leb (t .count) room) ≡ b
+    go true s = le-leb (t .count) room (h (bare-held t (and-right (pairsSound ls (t .pairs)) _ (sym (sound-bare t ls) ∙ s))))
+    go false s = refl

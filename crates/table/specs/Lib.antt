@@ -1,4 +1,5 @@
 pub mod Table
+pub mod Renumbering
 pub mod Numbers
 pub mod Order
 pub mod Stages

@@ -1,12 +1,12 @@
 -- The rows of a table in the order of their targets, which renumbering gathers by.
-use mathlib.Core.Bool.{cond}
+use mathlib.Core.Bool.{cond, _&&_}
 use mathlib.Core.List.{List, [], _∷_, _++_, map}
-use Prim.Native.Nat.{ℕ, _+_, _-_, _*_, _%_}
-use lib.ListN.{getD, replicate}
+use Prim.Native.Nat.{ℕ, _+_, _*_, _%_}
+use lib.Dec.{leb}
+use lib.ListN.{length, drop, getD, replicate}
 use Rattle.lists_sort.specs.Order.{sortKeys}
 use Rattle.table.specs.declared.Row.{Row}
-use Rattle.table.specs.declared.Table.{Table}
-use Rattle.table.specs.Table.{noRow, usedRows, tableSound}
+use Rattle.table.specs.Table.{Lent, noRow, usedRows, bareSound, tableSound}
 
 -- each row as one number, its target above its place in the table, which counts from `i`
 abbrev pub orderKeys : ℕ → List Row → List ℕ
@@ -17,9 +17,14 @@ orderKeys i (r ∷ rs) = (r .target * 65536 + i) ∷ orderKeys (i + 1) rs
 abbrev pub rowOrder : List Row → List ℕ
 rowOrder rs = sortKeys (orderKeys 0 rs)
 
--- what the lent list of 64 numbers holds: the rows in order and then zeros where the table is sound, else zeros
-unfoldable pub orderOf : Table → List (List ℕ) → List ℕ
-orderOf t ls = cond (tableSound t ls) (rowOrder (usedRows t) ++ replicate (64 - t .count) 0) (replicate 64 0)
+-- what the lent list holds: the rows in order, and behind them what it held before, where the table is sound and there is a place for each, else zeros
+unfoldable pub orderOf : Lent → List (List ℕ) → List ℕ → List ℕ
+orderOf t ls was =
+    cond (tableSound t ls && leb (t .count) (length was)) (rowOrder (usedRows t) ++ drop (t .count) was) (replicate (length was) 0)
+
+-- the same of a table but for its level pairs
+unfoldable pub bareOrder : Lent → List ℕ → List ℕ
+bareOrder t was = cond (bareSound t && leb (t .count) (length was)) (rowOrder (usedRows t) ++ drop (t .count) was) (replicate (length was) 0)
 
 -- the row that such a number names
 abbrev pub rowAt : List Row → ℕ → Row

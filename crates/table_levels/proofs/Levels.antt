@@ -20,11 +20,11 @@ next-there d l n i h k =
     rw (next d (take n l) i m, getD-take n l i d h)
 
 -- No more than all of them are the first n, and none is left.
-pub front-same : {A : Type 0} (l : List A) (n k : ℕ) → length l ≡ 16 → k ≡ min n 16 → take k l ≡ take n l
-front-same l n k h e = elim (decLe n 16) [ yes u ↦ (let q : k ≡ n = omega arith in rw q) | no u ↦ (take-all k l (omega arith) ∙ sym (take-all n l (omega arith))) ]
+pub front-same : {A : Type 0} (l : List A) (n k : ℕ) → length l ≡ 256 → k ≡ min n 256 → take k l ≡ take n l
+front-same l n k h e = elim (decLe n 256) [ yes u ↦ (let q : k ≡ n = omega arith in rw q) | no u ↦ (take-all k l (omega arith) ∙ sym (take-all n l (omega arith))) ]
 
-pub back-same : {A : Type 0} (l : List A) (n k : ℕ) → length l ≡ 16 → k ≡ min n 16 → drop k l ≡ drop n l
-back-same l n k h e = elim (decLe n 16) [ yes u ↦ (let q : k ≡ n = omega arith in rw q) | no u ↦ (drop-of-length-le l {i = k} (omega arith) ∙ sym (drop-of-length-le l {i = n} (omega arith))) ]
+pub back-same : {A : Type 0} (l : List A) (n k : ℕ) → length l ≡ 256 → k ≡ min n 256 → drop k l ≡ drop n l
+back-same l n k h e = elim (decLe n 256) [ yes u ↦ (let q : k ≡ n = omega arith in rw q) | no u ↦ (drop-of-length-le l {i = k} (omega arith) ∙ sym (drop-of-length-le l {i = n} (omega arith))) ]
 
 -- What rises is made of levels, so that the types decide nothing.
 pub sound-both : (a b c p : Bool) → a ≡ true → c ≡ true → p ≡ b → p ≡ ((a && b) && c)

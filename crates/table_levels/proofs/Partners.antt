@@ -3,14 +3,15 @@ use mathlib.Core.Path.{_≡_, refl}
 use mathlib.Core.Bool.{Bool, true, false, cond}
 use mathlib.Core.List.{List, [], _∷_}
 use mathlib.Core.Logic.{_⊎_, inl, inr, ⊎-elim}
-use Prim.Native.Nat.{ℕ, _+_, _≤_}
+use Prim.Native.Nat.{ℕ, _+_, _≤_, _<_}
 use native.Mathlib.Omega.{arith}
 use lib.Dec.{leb, eqb}
 use lib.ListN.{getD}
-use borrow.Author.Tests.{leb-true, eqb-true}
+use borrow.Author.Tests.{le-leb, leb-true, leb-false, eqb-true}
 use Rattle.label.proofs.Bools.{and-left, and-right}
+use Rattle.table_levels.specs.declared.Partner.{Partner}
 use Rattle.table_levels.specs.declared.Partner.the-variants.{Level, Missing}
-use Rattle.table_levels.specs.Levels.{levelsRise, levelNumbers, partnerOf}
+use Rattle.table_levels.specs.Levels.{levelsRise, levelNumbers, partnerOf, partnerNumber, partnerFrom, leadOn}
 
 -- the first pair is the level's, or the others decide
 pub partner-cases : (p : List ℕ) (ps : List (List ℕ)) (v w : ℕ) → partnerOf (p ∷ ps) v ≡ Level w
@@ -72,3 +73,40 @@ partner-level (p ∷ ps) v w e h =
     let e1 = and-right (leb (getD p 0 0) 255) _ e in
     let b : getD p 1 0 ≤ 255 = leb-true _ _ (and-left (leb (getD p 1 0) 255) _ e1) in
     ⊎-elim (λ q. omega (arith, q .1)) (λ q. partner-level ps v w (and-right (leb (getD p 1 0) 255) _ e1) q) (partner-cases p ps v w h)
+
+-- A partner as a number: what was found before the pairs that are left, or what they give.
+abbrev pub leadOver : ℕ → List (List ℕ) → ℕ → ℕ
+leadOver lead ps v = cond (leb lead 255) lead (partnerNumber (partnerOf ps v))
+
+pub lead-next : (lead : ℕ) (p : List ℕ) (ps : List (List ℕ)) (v : ℕ) → getD p 1 0 ≤ 255 → leadOver lead (p ∷ ps) v ≡ leadOver (leadOn lead (getD p 0 0) (getD p 1 0) v) ps v
+lead-next lead p ps v h = go (leb lead 255) refl (eqb (getD p 0 0) v)
+  where
+    go : (b : Bool) → leb lead 255 ≡ b → (e : Bool)
+        → cond b lead (partnerNumber (cond e (Level (getD p 1 0)) (partnerOf ps v)))
+        ≡ cond (leb (cond b lead (cond e (getD p 1 0) 256)) 255) (cond b lead (cond e (getD p 1 0) 256)) (partnerNumber (partnerOf ps v))
+    go true q e = rw q
+    go false q true = rw (le-leb (getD p 1 0) 255 h)
+    go false q false = refl
+
+pub lead-small : (lead a b v : ℕ) → b ≤ 255 → lead ≤ 256 → leadOn lead a b v ≤ 256
+lead-small lead a b v h l = go (leb lead 255) (eqb a v)
+  where
+    go : (x y : Bool) → cond x lead (cond y b 256) ≤ 256
+    go true y = l
+    go false true = omega arith
+    go false false = omega arith
+
+pub lead-end : (lead v : ℕ) → lead ≤ 256 → leadOver lead [] v ≡ lead
+lead-end lead v h = go (leb lead 255) refl
+  where
+    go : (b : Bool) → leb lead 255 ≡ b → cond b lead 256 ≡ lead
+    go true q = refl
+    go false q = let z : 255 < lead = leb-false _ _ q in omega arith
+
+-- The partner that such a number stands for.
+pub lead-partner : (ps : List (List ℕ)) (v : ℕ) → levelNumbers ps ≡ true → partnerFrom (partnerNumber (partnerOf ps v)) ≡ partnerOf ps v
+lead-partner ps v e = go (partnerOf ps v) refl
+  where
+    go : (p : Partner) → partnerOf ps v ≡ p → partnerFrom (partnerNumber p) ≡ p
+    go Missing q = refl
+    go (Level w) q = rw (le-leb w 255 (partner-level ps v w e q))

@@ -4,8 +4,16 @@ use mathlib.Core.List.{List, [], _∷_}
 use Prim.Native.Nat.{ℕ, _+_}
 use lib.Dec.{leb, eqb}
 use lib.ListN.{take, drop, getD}
+use Rattle.table_levels.specs.declared.LevelPair.{LevelPair}
 use Rattle.table_levels.specs.declared.Partner.{Partner}
 use Rattle.table_levels.specs.declared.Partner.the-variants.{Level, Missing}
+
+-- a level pair, and the one of zeros, which stands in every place that is not used
+abbrev pub pair : ℕ → ℕ → LevelPair
+pair a b = record { levels = a ∷ b ∷ [] }
+
+abbrev pub noPair : LevelPair
+noPair = pair 0 0
 
 -- the level pairs, each an array of two numbers: "strictly rising on both sides", the first at `f` and `g` or above
 abbrev pub levelsRise : ℕ → ℕ → List (List ℕ) → Bool
@@ -41,3 +49,15 @@ known (Level v) = true
 abbrev pub levelOr0 : Partner → ℕ
 levelOr0 Missing = 0
 levelOr0 (Level v) = v
+
+-- a partner as one number, 256 where there is none, and back
+abbrev pub partnerNumber : Partner → ℕ
+partnerNumber Missing = 256
+partnerNumber (Level v) = v
+
+abbrev pub partnerFrom : ℕ → Partner
+partnerFrom n = cond (leb n 255) (Level n) Missing
+
+-- such a number after one pair more: the first that was found stays
+abbrev pub leadOn : ℕ → ℕ → ℕ → ℕ → ℕ
+leadOn lead a b v = cond (leb lead 255) lead (cond (eqb a v) b 256)

@@ -182,6 +182,11 @@ fn box_of(random: &mut Random, maker: fn(&mut Random, usize, u8) -> Made, turn: 
     }
 }
 
+/// A box in which a datagram is likely to be forwarded.
+pub fn boxed_forward(random: &mut Random, turn: usize) -> BoxCase {
+    box_of(random, wide_forwarded, turn, 0, Size::Small)
+}
+
 pub fn box_forwarded(random: &mut Random, turn: usize, _number: u8) -> Made {
     let maker = [wide_forwarded, wide_forwarded, wide_forward_permitted, wide_forward_default, wide_forwarded][turn % 5];
     let size = if turn % 40 == 7 { Size::Full } else { Size::Small };

@@ -4,12 +4,13 @@ use crate::basic::{Marking, LEVELS, MAX_FLAG_FIELDS};
 use crate::cases::{
     encode, Case, Encoder, MessageCase, Output, BITMAP, BUILD_MESSAGE, CONTAINS, DELIVER, DELIVER_FACTS, DELIVER_WIDE, FORWARD,
     FORWARD_FACTS, FORWARD_WIDE, IN_BOX, MAX_OUTPUT, MAX_ROOM, MEMORY, READ, READ_AND_WRITE, READ_BASIC, READ_FILE, READ_MESSAGE, RENUMBER,
-    REVERSE, SPELL, SPELL_PERMITTED, WITHIN, WRITE_BASIC, WRITE_FILE,
+    RENUMBER_WIDE, REVERSE, SPELL, SPELL_PERMITTED, WITHIN, WRITE_BASIC, WRITE_FILE,
 };
 use crate::entries::{Entries, BASIC_GROUP, DEFAULT_GROUP, GROUPS, SPELLINGS_GROUP};
-use crate::file::SetRecord;
+use crate::file::{SetRecord, FIRST};
 use crate::label::HeldLabel;
 use crate::messages::Report;
+use crate::records::{MAX_LEVEL_PAIRS, MAX_ROWS};
 
 use super::basic::{basic_read, basic_written};
 use super::bitmaps::bitmap_read;
@@ -19,6 +20,7 @@ use super::drafts::*;
 use super::files::{file_rule_broken, file_written, rich_set, set_written};
 use super::forward::forwarded;
 use super::labels::{contains_yes, renumbered, spelled, spelled_permitted, within_yes};
+use super::long_tables::long_renumbered;
 use super::memories::memory_calls;
 use super::messages::{message_built, message_read};
 use super::random::Random;
@@ -47,6 +49,7 @@ const GOOD: &[(u8, Maker)] = &[
     (DELIVER_WIDE, wide_delivered),
     (SPELL_PERMITTED, spelled_permitted),
     (IN_BOX, box_forwarded),
+    (RENUMBER_WIDE, long_renumbered),
     (BUILD_MESSAGE, message_built),
     (READ_MESSAGE, message_read),
     (REVERSE, reversed),
@@ -68,6 +71,7 @@ const LATER_WAYS: &[(u8, Way)] = &[
     (DELIVER_FACTS, bad_fact_deliver),
     (WRITE_FILE, bad_group),
     (WRITE_FILE, stored_set),
+    (RENUMBER_WIDE, long_wide_table),
     (BUILD_MESSAGE, long_message_outputs),
     (REVERSE, long_room),
     (MEMORY, bad_memory),
@@ -229,7 +233,7 @@ fn bad_fact_deliver(random: &mut Random, round: usize) -> Vec<u8> {
 
 /// Bad groups of port fields, and those that are not there yet, in the first or the last port.
 fn bad_group(random: &mut Random, round: usize) -> Vec<u8> {
-    let mut set = rich_set(random);
+    let mut set = rich_set(random, &FIRST);
     (set.table_count, set.tables) = (0, SetRecord::empty().tables);
     let port = set.ports[0].clone();
     let mut octets = encode(&Case::WriteFile(Box::new(set), Output { length: 40, fill: 0 }), 0);
@@ -247,7 +251,7 @@ fn bad_group(random: &mut Random, round: usize) -> Vec<u8> {
 /// A set with that many stored ports, tables, level pairs and rows, each over its limit in turn, though all octets are there.
 fn stored_set(_random: &mut Random, round: usize) -> Vec<u8> {
     let over = |way: usize, limit: usize| if round % 4 == way { limit + 1 + round / 4 % 2 } else { 1 };
-    let (ports, tables, pairs, rows) = (over(0, 16), over(1, 8), over(2, 16), over(3, 64));
+    let (ports, tables, pairs, rows) = (over(0, 16), over(1, 8), over(2, MAX_LEVEL_PAIRS), over(3, MAX_ROWS));
     let mut octets = vec![WRITE_FILE, 0, ports as u8];
     octets.extend(vec![0; ports * (4 + 3 * 7 + 1 + 1)]);
     octets.extend([0, tables as u8]);
@@ -265,14 +269,28 @@ fn stored_set(_random: &mut Random, round: usize) -> Vec<u8> {
 /// Room for more than 1024 rows, and tables with too much stored or lent.
 fn long_room(_random: &mut Random, round: usize) -> Vec<u8> {
     let over = |way: usize, limit: usize| if round % 3 == way { limit + 1 } else { 0 };
-    let (pairs, rows, room) = (over(1, 16), over(2, 64), over(0, [MAX_ROOM, 65_534, MAX_ROOM + 1][round / 3 % 3]));
-    let mut octets = vec![REVERSE, 0, 0, 0, 5, 0, 0, 0, 9, 0, 0];
+    let (pairs, rows, room) = (over(1, MAX_LEVEL_PAIRS), over(2, MAX_ROWS), over(0, [MAX_ROOM, 65_534, MAX_ROOM + 1][round / 3 % 3]));
+    let mut octets = vec![REVERSE];
+    octets.extend(wide_table_of(pairs, rows));
+    octets.extend((room as u16).to_be_bytes());
+    octets
+}
+
+/// A wide table with that many level pairs stored and rows lent.
+fn wide_table_of(pairs: usize, rows: usize) -> Vec<u8> {
+    let mut octets = vec![0, 0, 0, 5, 0, 0, 0, 9, 0, 0];
     octets.extend((pairs as u16).to_be_bytes());
     octets.extend(vec![0; 2 * pairs + 2]);
     octets.extend((rows as u16).to_be_bytes());
     octets.extend(vec![0; 6 * rows]);
-    octets.extend((room as u16).to_be_bytes());
     octets
+}
+
+/// A wide table with 257 level pairs stored or 1,025 rows lent, though all octets are there.
+fn long_wide_table(_random: &mut Random, round: usize) -> Vec<u8> {
+    let more = 1 + round / 2 % 2;
+    let (pairs, rows) = if round % 2 == 0 { (MAX_LEVEL_PAIRS + more, 0) } else { (0, MAX_ROWS + more) };
+    [&[RENUMBER_WIDE, 0, 0, 0, 5, 3, 0, 0][..], &wide_table_of(pairs, rows)].concat()
 }
 
 /// A label with `stored` places, as an entry 1; over 120 it doesn't parse, though all octets are there.

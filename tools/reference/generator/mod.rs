@@ -19,6 +19,7 @@ mod faults;
 mod files;
 mod forward;
 mod labels;
+mod long_tables;
 mod memories;
 mod messages;
 mod random;
@@ -38,8 +39,8 @@ use std::io::{self, Write};
 
 use crate::cases::{
     encode, line_of, Case, BITMAP, BROKEN, BUILD_MESSAGE, CONTAINS, DELIVER, DELIVER_FACTS, DELIVER_WIDE, FORWARD, FORWARD_FACTS,
-    FORWARD_WIDE, IN_BOX, MEMORY, READ, READ_AND_WRITE, READ_BASIC, READ_FILE, READ_MESSAGE, RENUMBER, REVERSE, SPELL, SPELL_PERMITTED,
-    WITHIN, WRITE_BASIC, WRITE_FILE,
+    FORWARD_WIDE, IN_BOX, MEMORY, READ, READ_AND_WRITE, READ_BASIC, READ_FILE, READ_MESSAGE, RENUMBER, RENUMBER_WIDE, REVERSE, SPELL,
+    SPELL_PERMITTED, WITHIN, WRITE_BASIC, WRITE_FILE,
 };
 use crate::decision::Facts;
 use crate::entries::Entries;
@@ -52,13 +53,14 @@ use deliver::*;
 use files::*;
 use forward::*;
 use labels::*;
+use long_tables::*;
 use memories::*;
 use messages::*;
 use reading::*;
 use reverse::*;
 use wide::*;
 
-pub use files::{agree, break_range, largest_set, rich_set, sound_set, Layout, RULED};
+pub use files::{agree, break_range, largest_set, rich_set, ruled, set_of_length, sound_set, Layout};
 pub use labels::{label_near_limits, random_label_and_table};
 pub use random::Random;
 pub use spellings::random_option;
@@ -88,8 +90,8 @@ const ANSWERS: &[(u8, &str, &[&str])] = &[
     (DELIVER, "deliver", DELIVER_ANSWERS),
     (FORWARD_FACTS, "forward", FORWARD_ANSWERS),
     (DELIVER_FACTS, "deliver", DELIVER_ANSWERS),
-    (READ_FILE, "read a file", &["ACCEPTED", "REFUSED", "VERSION"]),
-    (READ_AND_WRITE, "read and write", &["0", "1", "REFUSED", "VERSION"]),
+    (READ_FILE, "read a file", &["ACCEPTED", "REFUSED", "VERSION", "ROOM"]),
+    (READ_AND_WRITE, "read and write", &["0", "1", "REFUSED", "VERSION", "ROOM"]),
     (WRITE_FILE, "write a file", &["0", "1", "2", "NAMED"]),
     (READ_BASIC, "read 130", &["0", "19"]),
     (WRITE_BASIC, "write 130", &["0", "1", "19"]),
@@ -97,6 +99,7 @@ const ANSWERS: &[(u8, &str, &[&str])] = &[
     (DELIVER_WIDE, "deliver", WIDE_DELIVER_ANSWERS),
     (SPELL_PERMITTED, "spell", &["0", "1", "2", "18"]),
     (IN_BOX, "in a box", BOX_ANSWERS),
+    (RENUMBER_WIDE, "renumber", &["0", "2", "16", "18"]),
     (BUILD_MESSAGE, "build a message", &["0", "2", "24"]),
     (READ_MESSAGE, "read a message", &["0", "25"]),
     (REVERSE, "reverse", &["0", "2", "24"]),
@@ -250,21 +253,32 @@ fn all_slots() -> Vec<Slot> {
         slot(DELIVER_FACTS, 1, "13", deliver_broken),
         slot(DELIVER_FACTS, 1, "14", deliver_broken),
         slot(DELIVER_FACTS, 1, "15", deliver_broken),
-        slot(READ_FILE, 2, "ACCEPTED", file_accepted),
-        slot(READ_FILE, 3, "REFUSED", file_rule_broken),
+        slot(READ_FILE, 4, "ACCEPTED", file_accepted),
+        slot(READ_FILE, 4, "REFUSED", file_rule_broken),
         slot(READ_FILE, 2, "REFUSED", file_rules_broken),
-        slot(READ_FILE, 3, "REFUSED", file_cut),
-        slot(READ_FILE, 1, "REFUSED", file_length_wrong),
+        slot(READ_FILE, 4, "REFUSED", file_cut),
+        slot(READ_FILE, 2, "REFUSED", file_length_wrong),
+        slot(READ_FILE, 1, "ROOM", file_room),
+        free_slot(READ_FILE, 1, file_about_room),
         slot(READ_FILE, 1, "VERSION", file_version),
         free_slot(READ_FILE, 2, file_changed),
-        slot(READ_AND_WRITE, 1, "0", file_written),
+        slot(READ_AND_WRITE, 2, "0", file_written),
+        slot(READ_AND_WRITE, 1, "ROOM", file_not_written_room),
         slot(READ_AND_WRITE, 1, "1", file_written_short),
         slot(READ_AND_WRITE, 1, "REFUSED", file_not_written),
         slot(READ_AND_WRITE, 1, "VERSION", file_not_written_version),
-        slot(WRITE_FILE, 1, "0", set_written),
+        slot(WRITE_FILE, 2, "0", set_written),
         slot(WRITE_FILE, 1, "1", set_written_short),
         slot(WRITE_FILE, 3, "2", set_unsound),
         slot(WRITE_FILE, 1, "NAMED", set_named),
+        slot(RENUMBER_WIDE, 3, "0", long_renumbered),
+        slot(RENUMBER_WIDE, 1, "16", long_no_number),
+        slot(RENUMBER_WIDE, 1, "18", long_over_large),
+        slot(RENUMBER_WIDE, 3, "2", long_unsound),
+        slot(FORWARD_WIDE, 1, "0", long_forwarded),
+        slot(FORWARD_WIDE, 1, "2", long_forward_unsound),
+        slot(IN_BOX, 1, "0", long_box_forwarded),
+        slot(IN_BOX, 1, "2", long_box_unsound),
         slot(BUILD_MESSAGE, 4, "0", message_built),
         slot(BUILD_MESSAGE, 1, "0", message_built_checksum_zero),
         slot(BUILD_MESSAGE, 2, "2", message_unsound),
@@ -401,10 +415,12 @@ fn with_facts(made: Made, entry: Option<u8>, random: &mut Random, turn: usize) -
         }
         (Made::Case(Case::InBox(mut case)), _) => {
             case.facts = facts(random);
+            case.records.tables.iter_mut().for_each(|table| lengthen_some(random, table));
             Made::Case(Case::InBox(case))
         }
         (Made::Case(Case::Forward(mut case)), Some(FORWARD_WIDE)) => {
             case.facts = facts(random);
+            lengthen_some(random, &mut case.table);
             Made::Case(Case::ForwardWide(case))
         }
         (Made::Case(Case::Deliver(mut case)), Some(DELIVER_WIDE)) => {

@@ -1,9 +1,10 @@
 // Cases of tables that are turned round.
 
 use crate::cases::{Case, MAX_ROOM};
-use crate::records::{Row, TableRecord, MAX_ROWS};
+use crate::records::{Row, TableRecord, FIRST_ROWS};
 
 use super::files::{fullest_table, small_table};
+use super::long_tables::*;
 use super::random::Random;
 use super::sets::*;
 use super::tables::*;
@@ -25,14 +26,15 @@ fn rich_table(random: &mut Random) -> TableRecord {
 fn room_for(random: &mut Random, turn: usize, rows: usize) -> usize {
     match turn % 4 {
         0 | 1 => rows,
-        2 => rows + 1,
-        _ => random.pick(&[MAX_ROWS, MAX_ROOM, MAX_ROOM - 1, 100]).max(rows),
+        2 => (rows + 1).min(MAX_ROOM),
+        _ => random.pick(&[FIRST_ROWS, MAX_ROOM, MAX_ROOM - 1, 100]).max(rows),
     }
 }
 
 pub fn reversed(random: &mut Random, turn: usize, _number: u8) -> Made {
     let table = match turn % 8 {
         0 => fullest_table(random),
+        7 => any_long_table(random, turn / 8),
         // No level pairs, no rows, or neither.
         1 => {
             let table = rich_table(random);
@@ -53,7 +55,11 @@ pub fn reversed(random: &mut Random, turn: usize, _number: u8) -> Made {
 }
 
 pub fn reverse_short_room(random: &mut Random, turn: usize, _number: u8) -> Made {
-    let table = if turn % 6 == 0 { fullest_table(random) } else { rich_table(random) };
+    let table = match turn % 6 {
+        0 => fullest_table(random),
+        3 => any_long_table(random, turn / 6),
+        _ => rich_table(random),
+    };
     let rows = table.row_count as usize;
     let room = if turn % 2 == 0 { rows - 1 } else { random.below(rows) };
     Made::Case(Case::Reverse(table, room))
@@ -66,6 +72,10 @@ pub fn reverse_unsound(random: &mut Random, turn: usize, _number: u8) -> Made {
     if turn % 31 == 30 {
         table.level_count = random.pick(&[256, 257, 258, 65_535]);
     }
-    let room = random.pick(&[0, 1, 2, MAX_ROWS, MAX_ROOM]);
+    if turn % 7 == 6 {
+        table = any_long_table(random, turn);
+        break_long_table(random, &mut table, turn / 7);
+    }
+    let room = random.pick(&[0, 1, 2, FIRST_ROWS, MAX_ROOM]);
     Made::Case(Case::Reverse(table, room))
 }

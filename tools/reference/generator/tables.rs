@@ -1,7 +1,7 @@
 // Renumbering tables that have a number for every part of a label, and some that lack one.
 
 use crate::label::{HeldLabel, Run, BITMAP_CATEGORIES, HIGHEST_CATEGORY};
-use crate::records::{Row, TableRecord, MAX_LEVEL_PAIRS, MAX_ROWS};
+use crate::records::{Row, TableRecord, FIRST_LEVEL_PAIRS, FIRST_ROWS, MAX_LEVEL_PAIRS};
 
 use super::random::Random;
 use super::sets::*;
@@ -33,8 +33,96 @@ pub fn table_for(random: &mut Random, label: &HeldLabel, to: u32, rich: bool, ta
 /// As `table_for`, with 64 rows.
 pub fn full_table_for(random: &mut Random, label: &HeldLabel, to: u32, targets: Targets) -> TableRecord {
     let levels = random_levels(random, label.level, false);
-    let rows = rows_with_targets(random, &all_sources(runs_of(label)), targets);
+    let rows = rows_with_targets(random, &all_sources(runs_of(label), FIRST_ROWS), targets);
     table_of(label.domain, to, &levels, &rows)
+}
+
+/// In which order the targets of a long table stand.
+#[derive(Clone, Copy, PartialEq, Eq)]
+pub enum Order {
+    Ascending,
+    Reversed,
+    Scattered,
+}
+
+/// A sound table with that many level pairs and rows that has a number for every part of the label. The targets do not touch where there is
+/// room for that.
+pub fn long_table_for(random: &mut Random, label: &HeldLabel, to: u32, pairs: usize, rows: usize, order: Order) -> TableRecord {
+    let sources = long_sources(random, runs_of(label), rows);
+    let mut places: Vec<usize> = (0..sources.len()).collect();
+    match order {
+        Order::Ascending => {}
+        Order::Reversed => places.reverse(),
+        Order::Scattered => random.shuffle(&mut places),
+    }
+    let taken: usize = sources.iter().map(|run| (run.high - run.low) as usize + 1).sum();
+    let free = HIGHEST_CATEGORY as usize + 1 - taken;
+    let gap = random.pick(&[0, 1, 2]).min(free / (sources.len() + 1));
+    let most = free - gap * sources.len();
+    let mut next = if random.chance(1, 4) { most } else { random.below(most + 1).min(300) };
+    let mut made: Vec<Row> = sources.iter().map(|run| Row { low: run.low, high: run.high, target_low: 0 }).collect();
+    for place in places {
+        made[place].target_low = next as u16;
+        next += (made[place].high - made[place].low) as usize + 1 + gap;
+    }
+    let levels = long_levels(random, label.level, pairs);
+    table_of(label.domain, to, &levels, &made)
+}
+
+/// That many level pairs, with one for the given level if there are any.
+pub fn long_levels(random: &mut Random, level: u8, count: usize) -> Vec<[u8; 2]> {
+    let all = |random: &mut Random, wanted: Option<u8>| -> Vec<u8> {
+        if count < MAX_LEVEL_PAIRS / 2 {
+            return ascending_octets(random, count, wanted.filter(|_| count > 0));
+        }
+        // Of many, it is chosen which are left out.
+        let mut left: Vec<u8> = (0..=255).filter(|octet| Some(*octet) != wanted).collect();
+        random.shuffle(&mut left);
+        left.truncate(MAX_LEVEL_PAIRS - count);
+        (0..=255).filter(|octet| !left.contains(octet)).collect()
+    };
+    let (sources, targets) = (all(random, Some(level)), all(random, None));
+    sources.into_iter().zip(targets).map(|(source, target)| [source, target]).collect()
+}
+
+/// That many sources that cover the runs: the runs, cut and with others between them.
+fn long_sources(random: &mut Random, runs: &[Run], count: usize) -> Vec<Run> {
+    let mut sources = runs.to_vec();
+    // Cut inside runs first, so that rows part the label; then fill the gaps from the front, and what is behind the last.
+    let mut tries = 0;
+    while sources.len() < count && tries < 4 * count && !runs.is_empty() {
+        tries += 1;
+        let index = random.below(sources.len());
+        let run = sources[index];
+        if run.low < run.high && random.chance(1, 2) {
+            let cut = random.between(run.low as usize, run.high as usize - 1) as u16;
+            sources[index].high = cut;
+            sources.insert(index + 1, Run { low: cut + 1, high: run.high });
+        }
+    }
+    let width = (40_000 / (count + 1)).clamp(1, 40);
+    let mut next = 0;
+    let mut index = 0;
+    while sources.len() < count {
+        let end = sources.get(index).map_or(HIGHEST_CATEGORY as usize + 1, |run| run.low as usize);
+        let high = next + random.below(width);
+        if high < end {
+            sources.insert(index, Run { low: next as u16, high: high as u16 });
+            next = high + 1;
+            index += 1;
+        } else if index < sources.len() {
+            next = sources[index].high as usize + 1;
+            index += 1;
+        } else {
+            // What is left has no room for more: the widest are cut.
+            let widest = (0..sources.len()).max_by_key(|place| sources[*place].high - sources[*place].low).unwrap_or(0);
+            let run = sources[widest];
+            let cut = run.low + (run.high - run.low) / 2;
+            sources[widest].high = cut;
+            sources.insert(widest + 1, Run { low: cut + 1, high: run.high });
+        }
+    }
+    sources
 }
 
 /// Writes the rows and level pairs into a table.
@@ -42,7 +130,7 @@ pub fn table_of(from: u32, to: u32, levels: &[[u8; 2]], rows: &[Row]) -> TableRe
     let (level_count, row_count) = (levels.len() as u16, rows.len() as u16);
     let mut table = TableRecord { from, to, level_count, row_count, ..TableRecord::ALL_ZERO };
     table.levels[..levels.len()].copy_from_slice(levels);
-    table.rows[..rows.len()].copy_from_slice(rows);
+    table.rows = rows.to_vec();
     table
 }
 
@@ -62,7 +150,7 @@ pub fn ascending_octets(random: &mut Random, count: usize, wanted: Option<u8>) -
 /// Level pairs with one for the given level.
 pub fn random_levels(random: &mut Random, level: u8, rich: bool) -> Vec<[u8; 2]> {
     let count = match random.below(20) {
-        0 => MAX_LEVEL_PAIRS,
+        0 => FIRST_LEVEL_PAIRS,
         1..=8 if !rich => 1,
         _ => random.between(2, 4),
     };
@@ -117,12 +205,12 @@ pub fn sources_over(random: &mut Random, runs: &[Run], rich: bool) -> Vec<Run> {
     sources
 }
 
-/// 64 sources of one width, which cover the runs.
-pub fn all_sources(runs: &[Run]) -> Vec<Run> {
+/// That many sources of one width, which cover the runs.
+pub fn all_sources(runs: &[Run], count: usize) -> Vec<Run> {
     let highest = runs.last().map_or(0, |run| run.high as usize);
-    let width = highest / MAX_ROWS + 1;
+    let width = highest / count + 1;
     let last = HIGHEST_CATEGORY as usize;
-    (0..MAX_ROWS).map(|row| Run { low: (row * width) as u16, high: ((row + 1) * width - 1).min(last) as u16 }).collect()
+    (0..count).map(|row| Run { low: (row * width) as u16, high: ((row + 1) * width - 1).min(last) as u16 }).collect()
 }
 
 /// Gives the sources disjoint targets.
@@ -161,8 +249,7 @@ pub fn rows_with_targets(random: &mut Random, sources: &[Run], targets: Targets)
 /// Takes the pair of a level out of the table.
 pub fn lose_level(table: &mut TableRecord, level: u8) {
     let levels: Vec<[u8; 2]> = table.levels[..table.level_count as usize].iter().copied().filter(|pair| pair[0] != level).collect();
-    let rows = table.rows[..table.row_count as usize].to_vec();
-    *table = table_of(table.from, table.to, &levels, &rows);
+    *table = table_of(table.from, table.to, &levels, &table.rows);
 }
 
 /// Makes one row shorter, or takes it out.
@@ -170,7 +257,7 @@ pub fn lose_category(random: &mut Random, table: &mut TableRecord, label: &HeldL
     if table.row_count == 0 || label.count == 0 {
         return;
     }
-    let mut rows = table.rows[..table.row_count as usize].to_vec();
+    let mut rows = table.rows.clone();
     let index = random.below(rows.len());
     let run = random.pick(runs_of(label));
     let row = &mut rows[index];

@@ -3,7 +3,7 @@
 // A clause is chosen by its number, so that all of them can be gone through in turn.
 
 use crate::label::{HeldLabel, Run, HIGHEST_CATEGORY, MAX_RUNS};
-use crate::records::{HostRecord, PortRecord, Row, TableRecord, MAX_LEVEL_PAIRS, MAX_ROWS};
+use crate::records::{HostRecord, PortRecord, Row, TableRecord, FIRST_LEVEL_PAIRS, FIRST_ROWS};
 
 use super::random::Random;
 use super::ranges::*;
@@ -213,16 +213,14 @@ pub const TABLE_CLAUSES: usize = 30;
 
 /// Breaks one clause of a sound table. A table without two level pairs and two rows gets others first.
 pub fn break_table(random: &mut Random, table: &mut TableRecord, clause: usize) {
-    if table.level_count < 2 || table.level_count as usize >= MAX_LEVEL_PAIRS {
+    if table.level_count < 2 || table.level_count as usize >= FIRST_LEVEL_PAIRS {
         table.level_count = 2;
         table.levels = TableRecord::ALL_ZERO.levels;
         table.levels[..2].copy_from_slice(&[[3, 4], [200, 201]]);
     }
-    if table.row_count < 2 || table.row_count as usize >= MAX_ROWS {
+    if table.row_count < 2 || table.row_count as usize >= FIRST_ROWS {
         table.row_count = 2;
-        table.rows = TableRecord::ALL_ZERO.rows;
-        table.rows[0] = Row { low: 0, high: 99, target_low: 1000 };
-        table.rows[1] = Row { low: 100, high: 300, target_low: 0 };
+        table.rows = vec![Row { low: 0, high: 99, target_low: 1000 }, Row { low: 100, high: 300, target_low: 0 }];
     }
     let (level_count, row_count) = (table.level_count as usize, table.row_count as usize);
     let pair = random.between(1, level_count - 1);
@@ -252,12 +250,16 @@ pub fn break_table(random: &mut Random, table: &mut TableRecord, clause: usize) 
         // "unused places are 0"
         9 => table.levels[level_count][0] = 1,
         10 => table.levels[level_count][1] = 1,
-        11 => table.levels[MAX_LEVEL_PAIRS - 1][1] = 255,
+        11 => table.levels[FIRST_LEVEL_PAIRS - 1][1] = 255,
         12 => table.level_count -= 1,
-        13 => table.rows[row_count].low = 1,
-        14 => table.rows[row_count].high = 1,
-        15 => table.rows[row_count].target_low = 1,
-        16 => table.rows[MAX_ROWS - 1].target_low = 65_535,
+        // "not as many as counted: 2"
+        13 => table.rows.push(Row { low: 1, ..Row::ZERO }),
+        14 => table.rows.push(Row { high: 1, ..Row::ZERO }),
+        15 => table.rows.push(Row { target_low: 1, ..Row::ZERO }),
+        16 => {
+            table.rows.resize(FIRST_ROWS - 1, Row::ZERO);
+            table.rows.push(Row { target_low: 65_535, ..Row::ZERO });
+        }
         17 => table.row_count -= 1,
         // A place that holds zeros is counted.
         18 => table.level_count += 1,
@@ -282,9 +284,9 @@ pub fn break_table(random: &mut Random, table: &mut TableRecord, clause: usize) 
         // Rows that are not neighbours: a third one goes where the first goes.
         25 => {
             table.row_count = 3;
-            table.rows[3..].fill(Row::ZERO);
+            table.rows.truncate(2);
             let low = table.rows[1].high.saturating_add(2).min(HIGHEST_CATEGORY);
-            table.rows[2] = Row { low, high: low, target_low: table.rows[0].target_low };
+            table.rows.push(Row { low, high: low, target_low: table.rows[0].target_low });
         }
         // "all ends ≤ 65534"
         26 => {

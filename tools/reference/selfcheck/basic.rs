@@ -141,9 +141,9 @@ fn wide_ports(tally: &mut Tally) {
     check("missing at a host", deliver(&secret, QUIET, ""), "20 12 1 130");
     check("bad at a host", deliver(&secret, QUIET, "01 8202 00"), "19 12 0 21");
     let named = format!("0c 01 01 {} {} 00 00 0000 ee", PORT, secret);
-    check("a port that version 1 cannot say", line(&named), "NAMED 0 -");
+    check("a port that version 1 cannot say, with no output", line(&named), "1 0 -");
     let unsound = format!("0c 01 01 {} {} 00 00 0000 ee", PORT, on("5a96 0000 0000", SECRET_0));
-    check("2 before the refusal by name", line(&unsound), "2 0 -");
+    check("2 before 1", line(&unsound), "2 0 -");
 }
 
 /// Wish 6: a leaving port with the default label of level 3 and no categories.
@@ -168,7 +168,7 @@ fn default_labels(tally: &mut Tally) {
     check("the option 130 is kept", forward(&both, &both, "82035a01"), "0 82035a00");
     check("21 before 17", forward(OFF, &both, "860a00000005 01040004 0000"), "21 3 9 0");
     check("no spelling is permitted", forward(OFF, "06 00 01 00000005030000", ""), "2 0 0 0");
-    check("entry 12", line(&format!("0c 01 01 {} {} 00 00 0000 ee", PORT, unlabelled)), "NAMED 0 -");
+    check("entry 12", line(&format!("0c 01 01 {} {} 00 00 0000 ee", PORT, unlabelled)), "1 0 -");
     let whole = format!("0f {} 00 {} {} {} {} 00 0029 ee", PORT, PORT, unlabelled, NO_TABLE, QUIET);
     check("the whole line", line(&whole), &format!("0 0 0 0 0 5 3 0 {}ee", "00".repeat(40)));
 }

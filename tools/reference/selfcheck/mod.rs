@@ -163,7 +163,11 @@ fn sample_files(tally: &mut Tally) {
     for (number, expected) in expected.iter().enumerate() {
         tally.equal(&format!("sample file {}", number), lines(&variant(number, 3)), expected.to_string());
     }
-    for number in 12..VARIANTS {
+    // The same file of version 2, and with a long table in it.
+    for number in [VARIANTS, VARIANTS + 7] {
+        tally.equal(&format!("sample file {}", number), lines(&variant(number, 3)), expected[0].to_string());
+    }
+    for number in (12..VARIANTS).chain(VARIANTS + 12..2 * VARIANTS) {
         for seed in 0..20 {
             tally.equal(&format!("sample file {}", number), lines(&variant(number, seed)), broken.to_string());
         }
@@ -216,8 +220,7 @@ fn over_large(tally: &mut Tally) {
     tally.equal("120 runs are well formed", label.well_formed(), true);
     let mut table = TableRecord { from: 5, to: 9, level_count: 1, row_count: 2, ..TableRecord::ALL_ZERO };
     table.levels[0] = [3, 4];
-    table.rows[0] = Row { low: 0, high: 0, target_low: 0 };
-    table.rows[1] = Row { low: 1, high: 239, target_low: 2 };
+    table.rows = vec![Row { low: 0, high: 0, target_low: 0 }, Row { low: 1, high: 239, target_low: 2 }];
     let (number, renumbered) = renumber_alone(&label, &table);
     tally.equal("121 runs alone", (number, renumbered == HeldLabel::ALL_ZERO), (18, true));
 

@@ -5,7 +5,7 @@ use crate::categories::Categories;
 use crate::entries::Entries;
 use crate::generator::{random_label_and_table, Random};
 use crate::label::{HeldLabel, Label, Run};
-use crate::records::{renumber_alone, reverse, TableRecord};
+use crate::records::{renumber_alone, reverse, Row, TableRecord};
 
 use super::{octets_of, Tally};
 
@@ -30,10 +30,7 @@ fn renumbered(label: &HeldLabel, table: &TableRecord) -> Option<HeldLabel> {
 fn another(random: &mut Random, label: &HeldLabel, table: &TableRecord) -> HeldLabel {
     let mut categories = Categories::none();
     let used = &label.places[..label.count as usize];
-    let rows: Vec<Run> = table.rows[..table.row_count as usize]
-        .iter()
-        .map(|row| Run { low: row.low, high: row.high.min(row.low.saturating_add(40)) })
-        .collect();
+    let rows: Vec<Run> = table.rows.iter().map(|row| Run { low: row.low, high: row.high.min(row.low.saturating_add(40)) }).collect();
     for run in used.iter().chain(&rows) {
         match random.below(3) {
             0 => categories.insert_run(run.low, run.high),
@@ -76,6 +73,35 @@ fn laws(tally: &mut Tally, random: &mut Random, counts: &mut [usize; 3]) {
     }
 }
 
+/// Tables at their limits: every category goes where its row says.
+fn long_tables(tally: &mut Tally) {
+    let row = |place: u16, target_low: u16| Row { low: 2 * place, high: 2 * place, target_low };
+    for (rows, sound) in [(64, true), (65, true), (900, true), (1024, true), (1025, false)] {
+        let mut table = TableRecord { from: 1, to: 2, level_count: 256, row_count: rows, ..TableRecord::ALL_ZERO };
+        (0..=255).for_each(|level| table.levels[level as usize] = [level, level]);
+        for reversed in [false, true] {
+            table.rows = (0..rows).map(|place| row(place, if reversed { rows - 1 - place } else { place })).collect();
+            tally.equal("a long table", table.sound().is_some(), sound);
+            let mut label = HeldLabel { count: 1, ..HeldLabel::empty(1, 255) };
+            let last = 2 * (rows - 1);
+            label.places[0] = Run { low: last, high: last };
+            let mut far = HeldLabel { count: 1, ..HeldLabel::empty(2, 255) };
+            let target = if reversed { 0 } else { rows - 1 };
+            far.places[0] = Run { low: target, high: target };
+            let expected = if sound { (0, far) } else { (2, HeldLabel::ALL_ZERO) };
+            tally.equal("its last row", renumber_alone(&label, &table) == expected, true);
+            let mut fewer = table.clone();
+            fewer.rows.pop();
+            tally.equal("one row too few", fewer.sound().is_some(), false);
+            let mut double = table.clone();
+            double.rows[0].target_low = double.rows[rows as usize - 1].target_low;
+            tally.equal("two rows with one target", double.sound().is_some(), false);
+        }
+        table.level_count = 257;
+        tally.equal("257 level pairs", table.sound().is_some(), false);
+    }
+}
+
 pub fn renumbering(tally: &mut Tally) {
     let line = |octets: &str| line_of(&octets_of(octets), &Entries::known());
     let table = "00000005 00000009 0003 0003 0102 0304 0506 0002 0002 0000 0063 03e8 0064 012c 0000";
@@ -87,7 +113,25 @@ pub fn renumbering(tally: &mut Tally) {
     tally.equal("no rows, no room", line("16 00000001 00000001 0000 0000 0000 0000 0000"), "0 1 1 0 0".to_string());
     tally.equal("an unsound table", line("16 00000001 00000000 0000 0000 0000 0000 0000"), "2 0 0 0 0".to_string());
     tally.equal("2 comes before 24", line("16 00000001 00000000 0000 0000 0001 0000 0000"), "2 0 0 0 0".to_string());
-    tally.equal("a row of zeros", line("16 00000001 00000002 0000 0000 0001 0000 0001"), "0 2 1 0 1 0 0 0".to_string());
+    tally.equal("rows not lent as counted", line("16 00000001 00000002 0000 0000 0001 0000 0001"), "2 0 0 0 0".to_string());
+    tally.equal("a row of zeros", line("16 00000001 00000002 0000 0000 0001 0001 000000000000 0001"), "0 2 1 0 1 0 0 0".to_string());
+    tally.equal("one row too many", line("16 00000001 00000002 0000 0000 0000 0001 000000000000 0001"), "2 0 0 0 0".to_string());
+    // Entry 3 lends its rows as counted, and those past the count that are not zero; entry 19 those that are there.
+    let label = "00000001 00 00 00";
+    tally.equal("entry 3, a row of zeros", line(&format!("03 {} 00000001 00000002 01 00 0001 00", label)), "0 2 0 0".to_string());
+    tally.equal(
+        "entry 3, zeros past the count",
+        line(&format!("03 {} 00000001 00000002 01 00 0000 01 000000000000", label)),
+        "0 2 0 0".to_string(),
+    );
+    tally.equal(
+        "entry 3, others past the count",
+        line(&format!("03 {} 00000001 00000002 01 00 0000 02 000000000000 000000000001", label)),
+        "2 0 0 0".to_string(),
+    );
+    tally.equal("entry 19, one row too few", line(&format!("13 {} 00000001 00000002 0001 0000 0001 0000", label)), "2 0 0 0".to_string());
+    tally.equal("entry 19", line(&format!("13 {} 00000001 00000002 0001 0000 0001 0001 000000000000", label)), "0 2 0 0".to_string());
+    long_tables(tally);
 
     let mut random = Random::new(11);
     let mut counts = [0; 3];

@@ -1,6 +1,7 @@
 -- `bench_exports::inglebreek_forward` meets its contract.
 use borrow.Author.Needs.{needs}
 use lib.ListN.{length}
+use Rattle.table.specs.Table.{lent}
 use Rattle.forward_rules.specs.Forward.{forwardingOf}
 use Rattle.bench_exports.specs.Answers.{factsOf, sampleForwarding}
 use Rattle.bench_exports.proofs.Laws.{short-answer, short-runs, both-roomy, sample-is, forwards-nothing, forwards-whole}
@@ -17,6 +18,9 @@ returns-2 c =
     let s = c .before .before .before .before .before .before in
     forwards-nothing _ (s .args .out .now) (s .args .answer .now) (s .args .runs .now) (short-runs 8 (s .args .answer .now) (s .args .runs .now) (c .if2 .taken))
 
+rows-requires : tie.Need-rows-requires
+rows-requires c κs = search needs
+
 arriving-requires : tie.Need-arriving-requires
 arriving-requires c κs = search needs
 
@@ -26,23 +30,17 @@ leaving-requires c κs = search needs
 table-requires : tie.Need-table-requires
 table-requires c κs = search needs
 
+slice-aggregate-forward : tie.Need-slice-aggregate-forward
+slice-aggregate-forward c = search needs
+
 levels-requires : tie.Need-levels-requires
 levels-requires c κs = search needs
 
 forward-requires : tie.Need-forward-requires
 forward-requires c κs = search needs
 
-cast-t22 : tie.Need-cast-t22
-cast-t22 c = search needs
-
-cast-t23 : tie.Need-cast-t23
-cast-t23 c = search needs
-
-cast-t24 : tie.Need-cast-t24
-cast-t24 c = search needs
-
-cast-t25 : tie.Need-cast-t25
-cast-t25 c = search needs
+cast-t26 : tie.Need-cast-t26
+cast-t26 c = search needs
 
 cast-t27 : tie.Need-cast-t27
 cast-t27 c = search needs
@@ -50,11 +48,20 @@ cast-t27 c = search needs
 cast-t28 : tie.Need-cast-t28
 cast-t28 c = search needs
 
+cast-t29 : tie.Need-cast-t29
+cast-t29 c = search needs
+
+cast-t31 : tie.Need-cast-t31
+cast-t31 c = search needs
+
+cast-t32 : tie.Need-cast-t32
+cast-t32 c = search needs
+
 slice-aggregate-put-numbers : tie.Need-slice-aggregate-put-numbers
 slice-aggregate-put-numbers c = search needs
 
 put-numbers-requires : tie.Need-put-numbers-requires
-put-numbers-requires c κs = c .before .before .before .before .before .before .before .before .before .before .before .before .before .before .before .before .before .before .if1 .left
+put-numbers-requires c κs = c .before .before .before .before .before .before .before .before .before .before .before .before .before .before .before .before .before .before .before .before .if1 .left
 
 label-keys-requires : tie.Need-label-keys-requires
 label-keys-requires c κs = search needs
@@ -74,15 +81,16 @@ returns-3 c =
     let put = keys .before .before .before .before in
     let decided = put .before .before .before .before .before .before .before .before .before .before .before .before in
     let levels = decided .before .before in
-    let table = levels .before in
+    let table = levels .before .before in
     let leaving = table .before in
     let arriving = leaving .before in
-    let room = arriving .before in
+    let rows = arriving .before in
+    let room = rows .before in
     let s = room .before .before .before .before .before .before in
     let n = length (s .args .out .now) in
     let facts = factsOf (s .args .error) (s .args .group) (s .args .link) (s .args .fragment) (s .args .source) in
     forwards-whole
-    (forwardingOf (arriving .arriving .result) (leaving .leaving .result) (table .table .result) (levels .levels .result) facts (s .args .area .now) n)
+    (forwardingOf (arriving .arriving .result) (leaving .leaving .result) (lent (table .table .result) (rows .rows .result)) (levels .levels .result) facts (s .args .area .now) n)
     (sampleForwarding facts (s .args .area .now) n)
     (s .args .out .now)
     (s .args .answer .now)
@@ -91,7 +99,7 @@ returns-3 c =
     _
     _
     (decided .forward .result)
-    (sample-is _ _ _ _ facts (s .args .area .now) n (arriving .arriving .ensures) (leaving .leaving .ensures) (table .table .ensures) (levels .levels .ensures))
+    (sample-is _ _ _ _ _ facts (s .args .area .now) n (arriving .arriving .ensures) (leaving .leaving .ensures) (table .table .ensures) (rows .rows .ensures) (levels .levels .ensures))
     (both-roomy 8 (s .args .answer .now) (s .args .runs .now) (room .before .if1 .left) (room .if2 .left))
     (decided .forward .ensures .0)
     (decided .forward .ensures .1)
@@ -104,17 +112,19 @@ inglebreek-forward-spec =
     (tie.spec
     returns
     returns-2
+    rows-requires
     arriving-requires
     leaving-requires
     table-requires
+    slice-aggregate-forward
     levels-requires
     forward-requires
-    cast-t22
-    cast-t23
-    cast-t24
-    cast-t25
+    cast-t26
     cast-t27
     cast-t28
+    cast-t29
+    cast-t31
+    cast-t32
     slice-aggregate-put-numbers
     put-numbers-requires
     label-keys-requires

@@ -7,10 +7,10 @@ use Rattle.bench_loops.proofs.forward_many.Statement.{statement}
 use Rattle.bench_loops.proofs.forward_many.Tie as tie
 
 abbrev Inv-loop : tie.InvT-loop
-Inv-loop arriving leaving table area size out₀ times n levels facts last at₀ total₀ i₀ out at total i = (i ≤ times) × (at ≤ last) × (length out ≡ length out₀)
+Inv-loop arriving leaving table rows area size out₀ times n levels facts last at₀ total₀ i₀ out at total i = (i ≤ times) × (at ≤ last) × (length out ≡ length out₀)
 
 abbrev μ-loop : tie.MeasureT-loop
-μ-loop arriving leaving table area size out₀ times n levels facts last at₀ total₀ i₀ out at total i = times - i
+μ-loop arriving leaving table rows area size out₀ times n levels facts last at₀ total₀ i₀ out at total i = times - i
 
 returns : tie.Need-returns Inv-loop μ-loop
 returns c = search needs

@@ -1,56 +1,47 @@
 -- `bench_parts::time_write_file` meets its contract.
 use borrow.Author.Needs.{needs}
-use mathlib.Core.Path.{_≡_}
-use Prim.Native.Nat.{_≤_, _-_}
-use lib.ListN.{length}
+use native.Mathlib.Omega.{arith}
+use mathlib.Core.Path.{_≡_, sym}
+use Prim.Native.Nat.{ℕ, _≤_}
+use lib.ListN.{length, replicate}
+use lib.Seq.{length-take-le}
+use Rattle.file_read.proofs.Answers.{used-fits}
 use Rattle.bench_parts.proofs.time_write_file.Statement.{statement}
 use Rattle.bench_parts.proofs.time_write_file.Tie as tie
 
-abbrev Inv-loop : tie.InvT-loop
-Inv-loop octets out₀ times set total₀ i₀ out total i = (i ≤ times) × (length out ≡ length out₀)
+slice-aggregate-read-file : tie.Need-slice-aggregate-read-file
+slice-aggregate-read-file c = search needs
 
-abbrev μ-loop : tie.MeasureT-loop
-μ-loop octets out₀ times set total₀ i₀ out total i = times - i
-
-read-file-requires : tie.Need-read-file-requires Inv-loop μ-loop
+read-file-requires : tie.Need-read-file-requires
 read-file-requires c κs = search needs
 
-loop-holds : tie.Need-loop-holds Inv-loop μ-loop
-loop-holds c = search needs
+array-share-prefix-rows : tie.Need-array-share-prefix-rows
+array-share-prefix-rows c =
+    let r = c .before .before in
+    let u : r .read-file .result .used ≤ length (replicate {A = ℕ} 24576 0) = rw (r .read-file .ensures .0) (used-fits _ _) in
+    let l : length (r .read-file .last .1 .0) ≡ length (replicate {A = ℕ} 24576 0) = search needs in
+    omega (arith, u, l)
 
-write-file-requires : tie.Need-write-file-requires Inv-loop μ-loop
-write-file-requires c κs = search needs
+slice-aggregate-write-again : tie.Need-slice-aggregate-write-again
+slice-aggregate-write-again c = sym (length-take-le _ _ (array-share-prefix-rows (c .before)))
 
-written-digest-requires : tie.Need-written-digest-requires Inv-loop μ-loop
-written-digest-requires c κs = search needs
+write-again-requires : tie.Need-write-again-requires
+write-again-requires c κs = search needs
 
-add-i : tie.Need-add-i Inv-loop μ-loop
-add-i c = search needs
-
-loop-less : tie.Need-loop-less Inv-loop μ-loop
-loop-less c = search needs
-
-loop-again : tie.Need-loop-again Inv-loop μ-loop
-loop-again c = search needs
-
-same-length : tie.Need-same-length Inv-loop μ-loop
+same-length : tie.Need-same-length
 same-length c = search needs
 
-returns : tie.Need-returns Inv-loop μ-loop
+returns : tie.Need-returns
 returns c = search needs
 
 pub time-write-file-spec : {M : Type 1} → statement M
 time-write-file-spec =
     tie.close
     (tie.spec
-    Inv-loop
-    μ-loop
+    slice-aggregate-read-file
     read-file-requires
-    loop-holds
-    write-file-requires
-    written-digest-requires
-    add-i
-    loop-less
-    loop-again
+    array-share-prefix-rows
+    slice-aggregate-write-again
+    write-again-requires
     same-length
     returns)

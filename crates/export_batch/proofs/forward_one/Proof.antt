@@ -1,24 +1,25 @@
 -- `export_batch::forward_one` meets its contract.
 use borrow.Author.Needs.{needs}
 use native.Mathlib.Omega.{arith}
+use Rattle.table.specs.Table.{lent}
 use Rattle.export_batch.proofs.Slots.{one}
 use Rattle.export_batch.proofs.forward_one.Statement.{statement}
 use Rattle.export_batch.proofs.forward_one.Tie as tie
 
-shared-slice-read-t11 : tie.Need-shared-slice-read-t11
-shared-slice-read-t11 c = search needs
+shared-slice-read-t12 : tie.Need-shared-slice-read-t12
+shared-slice-read-t12 c = search needs
 
-shared-slice-read-t14 : tie.Need-shared-slice-read-t14
-shared-slice-read-t14 c = search needs
+shared-slice-read-t15 : tie.Need-shared-slice-read-t15
+shared-slice-read-t15 c = search needs
 
-shared-slice-read-t17 : tie.Need-shared-slice-read-t17
-shared-slice-read-t17 c = search needs
+shared-slice-read-t18 : tie.Need-shared-slice-read-t18
+shared-slice-read-t18 c = search needs
 
-shared-slice-read-t20 : tie.Need-shared-slice-read-t20
-shared-slice-read-t20 c = search needs
+shared-slice-read-t21 : tie.Need-shared-slice-read-t21
+shared-slice-read-t21 c = search needs
 
-shared-slice-read-t23 : tie.Need-shared-slice-read-t23
-shared-slice-read-t23 c = search needs
+shared-slice-read-t24 : tie.Need-shared-slice-read-t24
+shared-slice-read-t24 c = search needs
 
 shared-slice-read-capped : tie.Need-shared-slice-read-capped
 shared-slice-read-capped c = search needs
@@ -61,14 +62,14 @@ returns c =
     let p = c .before .before in
     let f = p .before .before .before .before in
     let k = f .before .before .before in
-    let s = k .before .before .before .before .before .before .before .before .before in (
+    let s = k .before .before .before .before .before .before .before .before .before .before in (
       one
-          (record { arriving = s .args .arriving; leaving = s .args .leaving; table = s .args .table; levels = s .args .levels })
+          (record { arriving = s .args .arriving; leaving = s .args .leaving; table = lent (s .args .table) (s .args .rows .now); levels = s .args .levels })
           (s .args .datagram .now)
           (s .args .slot .now)
           (k .capped .result)
           (f .forward .result)
-          (f .forward .last .1 .1 .1 .1 .1 .1 .0)
+          (f .forward .last .1 .1 .1 .1 .1 .1 .1 .0)
           _
           (s .pre .0)
           (s .pre .1)
@@ -84,11 +85,11 @@ pub forward-one-spec : {M : Type 1} → statement M
 forward-one-spec =
     tie.close
     (tie.spec
-    shared-slice-read-t11
-    shared-slice-read-t14
-    shared-slice-read-t17
-    shared-slice-read-t20
-    shared-slice-read-t23
+    shared-slice-read-t12
+    shared-slice-read-t15
+    shared-slice-read-t18
+    shared-slice-read-t21
+    shared-slice-read-t24
     shared-slice-read-capped
     capped-requires
     add-end

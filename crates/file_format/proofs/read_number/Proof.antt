@@ -25,17 +25,17 @@ whole : (c : tie.After-loop Inv-loop μ-loop) → c .before .loop .i ≡ c .befo
 whole c = omega arith
 
 returns : tie.Need-returns Inv-loop μ-loop
-returns c = (simp (not-true (c .before .args .ok) (c .if1 .taken)), omega arith)
+returns c = (simp (not-true (c .before .args .ok) (c .if1 .taken)), omega arith, refl)
 
 returns-2 : tie.Need-returns-2 Inv-loop μ-loop
 returns-2 c =
     let a = c .before .before .args in
-    (rw (not-false (a .ok) (c .before .if1 .left)) (number-cut (a .octets .now) (a .at) (a .width) (a .least) (a .most) (omega arith)), omega arith)
+    (rw (not-false (a .ok) (c .before .if1 .left)) (number-cut (a .octets .now) (a .at) (a .width) (a .least) (a .most) (omega arith)), omega arith, refl)
 
 returns-3 : tie.Need-returns-3 Inv-loop μ-loop
 returns-3 c =
     let a = c .before .before .before .args in
-    (rw (not-false (a .ok) (c .before .before .if1 .left)) (number-cut (a .octets .now) (a .at) (a .width) (a .least) (a .most) (omega arith)), omega arith)
+    (rw (not-false (a .ok) (c .before .before .if1 .left)) (number-cut (a .octets .now) (a .at) (a .width) (a .least) (a .most) (omega arith)), omega arith, refl)
 
 loop-holds : tie.Need-loop-holds Inv-loop μ-loop
 loop-holds c = (omega arith, refl, omega arith)
@@ -72,14 +72,14 @@ returns-4 c =
     let a = c .before .before .before .before .before .before .args in
     let l = c .before .before .loop in
     let e : valueAt (a .octets .now) (a .at) (a .width) ≡ l .value = rw (← whole (c .before)) (sym (l .inv .1)) in
-    (rw (not-false (a .ok) (c .before .before .before .before .before .if1 .left)) (number-under (a .octets .now) (a .at) (a .width) (a .least) (a .most) (omega arith) (omega arith)), omega arith)
+    (rw (not-false (a .ok) (c .before .before .before .before .before .if1 .left)) (number-under (a .octets .now) (a .at) (a .width) (a .least) (a .most) (omega arith) (omega arith)), omega arith, refl)
 
 returns-5 : tie.Need-returns-5 Inv-loop μ-loop
 returns-5 c =
     let a = c .before .before .before .before .before .before .before .args in
     let l = c .before .before .before .loop in
     let e : valueAt (a .octets .now) (a .at) (a .width) ≡ l .value = rw (← whole (c .before .before)) (sym (l .inv .1)) in
-    (rw (not-false (a .ok) (c .before .before .before .before .before .before .if1 .left)) (number-over (a .octets .now) (a .at) (a .width) (a .least) (a .most) (omega arith) (omega arith) (omega arith)), omega arith)
+    (rw (not-false (a .ok) (c .before .before .before .before .before .before .if1 .left)) (number-over (a .octets .now) (a .at) (a .width) (a .least) (a .most) (omega arith) (omega arith) (omega arith)), omega arith, refl)
 
 add-t11 : tie.Need-add-t11 Inv-loop μ-loop
 add-t11 c = search needs
@@ -89,7 +89,7 @@ returns-6 c =
     let a = c .before .before .before .before .before .before .before .args in
     let l = c .before .before .before .loop in
     let e : valueAt (a .octets .now) (a .at) (a .width) ≡ l .value = rw (← whole (c .before .before)) (sym (l .inv .1)) in
-    (rw (not-false (a .ok) (c .before .before .before .before .before .before .if1 .left)) (rw (← e) (number-good (a .octets .now) (a .at) (a .width) (a .least) (a .most) (omega arith) (omega arith) (omega arith))), omega arith)
+    (rw (not-false (a .ok) (c .before .before .before .before .before .before .if1 .left)) (rw (← e) (number-good (a .octets .now) (a .at) (a .width) (a .least) (a .most) (omega arith) (omega arith) (omega arith))), omega arith, refl)
 
 pub read-number-spec : {M : Type 1} → statement M
 read-number-spec =

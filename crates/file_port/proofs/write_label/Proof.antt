@@ -1,11 +1,26 @@
 -- `file_port::write_label` meets its contract.
 use borrow.Author.Needs.{needs}
-use mathlib.Core.Path.{_≡_}
+use mathlib.Core.Path.{_≡_, sym, ap, _∙_}
 use lib.ListN.{length, length-map}
-use Rattle.file_format.proofs.Writing.{writes-then}
+use Rattle.file_format.proofs.Writing.{stops-short, goes-on, room-wrote, writes-then}
 use Rattle.file_port.proofs.LabelLaws.{label-octets}
 use Rattle.file_port.proofs.write_label.Statement.{statement}
 use Rattle.file_port.proofs.write_label.Tie as tie
+
+sized : (c : tie.Start) → length (c .args .label .runs) ≡ 120
+sized c = simp length-map at (c .good .0 .1 .1 .1 .1 .1 .0 .1 .0 .1)
+
+label-size-requires : tie.Need-label-size-requires
+label-size-requires c κs = search needs
+
+has-room-requires : tie.Need-has-room-requires
+has-room-requires c κs = search needs
+
+returns : tie.Need-returns
+returns c =
+    let l = c .before .before .before .before .args .label in
+    stops-short (c .before .has-room .result) (c .before .before .label-size .result) (c .before .has-room .ensures)
+    (sym (c .before .before .label-size .ensures .0)) (c .if1 .taken)
 
 count-used-requires : tie.Need-count-used-requires
 count-used-requires c κs = search needs
@@ -31,21 +46,25 @@ write-runs-requires c κs = search needs
 same-length : tie.Need-same-length
 same-length c = search needs
 
-sized : (c : tie.Start) → length (c .args .label .runs) ≡ 120
-sized c = simp length-map at (c .good .0 .1 .1 .1 .1 .1 .0 .1 .0 .1)
-
-returns : tie.Need-returns
-returns c =
-    let l = c .before .before .before .before .before .before .before .before .before .before .before .before .before .before .before .before .before .before .before .args .label in
-    rw (label-octets (l .domain) l (c .before .before .before .before .before .before .before .before .before .before .before .before .before .before .before .before .before .count-used .result) (sized (c .before .before .before .before .before .before .before .before .before .before .before .before .before .before .before .before .before .before .before)) (c .before .before .before .before .before .before .before .before .before .before .before .before .before .before .before .before .before .count-used .ensures .0))
-    (writes-then (c .before .before .before .before .before .before .before .before .before .before .before .before .before .before .before .write-four .ensures)
-    (writes-then (c .before .before .before .before .before .before .before .before .before .before .write-octet .ensures)
-    (writes-then (c .before .before .before .before .before .before .write-octet2 .ensures) (c .before .before .write-runs .ensures))))
+returns-2 : tie.Need-returns-2
+returns-2 c =
+    let l = c .before .before .before .before .before .before .before .before .before .before .before .before .before .before .before .before .before .before .before .before .before .before .args .label in
+    let e = label-octets (l .domain) l (c .before .before .before .before .before .before .before .before .before .before .before .before .before .before .before .before .before .count-used .result) (sized (c .before .before .before .before .before .before .before .before .before .before .before .before .before .before .before .before .before .before .before .before .before .before)) (c .before .before .before .before .before .before .before .before .before .before .before .before .before .before .before .before .before .count-used .ensures .0) in
+    let n = sym (c .before .before .before .before .before .before .before .before .before .before .before .before .before .before .before .before .before .before .before .before .label-size .ensures .0) in
+    rw e
+    (goes-on (c .before .before .before .before .before .before .before .before .before .before .before .before .before .before .before .before .before .before .before .has-room .result) (c .before .before .before .before .before .before .before .before .before .before .before .before .before .before .before .before .before .before .before .before .label-size .result) (c .before .before .before .before .before .before .before .before .before .before .before .before .before .before .before .before .before .before .before .has-room .ensures)
+    (sym (ap length e) ∙ n) (c .before .before .before .before .before .before .before .before .before .before .before .before .before .before .before .before .before .before .if1 .left)
+    (writes-then (room-wrote (c .before .before .before .before .before .before .before .before .before .before .before .before .before .before .before .write-four .ensures))
+    (writes-then (room-wrote (c .before .before .before .before .before .before .before .before .before .before .write-octet .ensures))
+    (writes-then (room-wrote (c .before .before .before .before .before .before .write-octet2 .ensures)) (c .before .before .write-runs .ensures)))))
 
 pub write-label-spec : {M : Type 1} → statement M
 write-label-spec =
     tie.close
     (tie.spec
+    label-size-requires
+    has-room-requires
+    returns
     count-used-requires
     write-four-requires
     cast-write-octet
@@ -54,4 +73,4 @@ write-label-spec =
     write-octet-requires-2
     write-runs-requires
     same-length
-    returns)
+    returns-2)

@@ -1,50 +1,45 @@
 -- `file_port::write_port` meets its contract.
 use borrow.Author.Needs.{needs}
+use mathlib.Core.Path.{sym}
 use Rattle.file_format.specs.Format.{octets}
-use Rattle.file_format.proofs.Writing.{writes-then}
-use Rattle.file_port.specs.LabelFormat.{labelFormat}
-use Rattle.file_port.specs.PortFormat.{portFormat}
+use Rattle.file_format.proofs.Writing.{stops-short, goes-on, writes-then}
+use Rattle.file_port.specs.PortFormat.{secondPort, portFormat}
 use Rattle.file_port.proofs.write_port.Statement.{statement}
 use Rattle.file_port.proofs.write_port.Tie as tie
 
-write-four-requires : tie.Need-write-four-requires
-write-four-requires c κs = search needs
+port-size-requires : tie.Need-port-size-requires
+port-size-requires c κs = search needs
 
-write-label-requires : tie.Need-write-label-requires
-write-label-requires c κs = search needs
+has-room-requires : tie.Need-has-room-requires
+has-room-requires c κs = search needs
 
-write-label-requires-2 : tie.Need-write-label-requires-2
-write-label-requires-2 c κs = search needs
+returns : tie.Need-returns
+returns c =
+    stops-short (c .before .has-room .result) (c .before .before .port-size .result) (c .before .has-room .ensures) (sym (c .before .before .port-size .ensures .0)) (c .if1 .taken)
 
-flag-of-requires : tie.Need-flag-of-requires
-flag-of-requires c κs = search needs
+write-plain-requires : tie.Need-write-plain-requires
+write-plain-requires c κs = search needs
 
-write-octet-requires : tie.Need-write-octet-requires
-write-octet-requires c κs = search needs
-
-write-label-requires-3 : tie.Need-write-label-requires-3
-write-label-requires-3 c κs = search needs
+write-later-requires : tie.Need-write-later-requires
+write-later-requires c κs = search needs
 
 same-length : tie.Need-same-length
 same-length c = search needs
 
-returns : tie.Need-returns
-unfolding octets labelFormat portFormat
-returns c =
-    writes-then (c .before .before .before .before .before .before .before .before .before .before .before .before .before .before .before .before .before .before .before .write-four .ensures)
-    (writes-then (c .before .before .before .before .before .before .before .before .before .before .before .before .before .before .before .write-label .ensures)
-    (writes-then (c .before .before .before .before .before .before .before .before .before .before .before .write-label2 .ensures)
-    (writes-then (rw (c .before .before .before .before .before .before .before .flag-of .ensures) at (c .before .before .before .before .before .before .write-octet .ensures)) (c .before .before .write-label3 .ensures))))
+returns-2 : tie.Need-returns-2
+unfolding octets portFormat secondPort
+returns-2 c =
+    goes-on (c .before .before .before .before .before .before .before .before .before .has-room .result) (c .before .before .before .before .before .before .before .before .before .before .port-size .result) (c .before .before .before .before .before .before .before .before .before .has-room .ensures) (sym (c .before .before .before .before .before .before .before .before .before .before .port-size .ensures .0)) (c .before .before .before .before .before .before .before .before .if1 .left)
+    (writes-then (c .before .before .before .before .before .before .write-plain .ensures) (c .before .before .write-later .ensures))
 
 pub write-port-spec : {M : Type 1} → statement M
 write-port-spec =
     tie.close
     (tie.spec
-    write-four-requires
-    write-label-requires
-    write-label-requires-2
-    flag-of-requires
-    write-octet-requires
-    write-label-requires-3
+    port-size-requires
+    has-room-requires
+    returns
+    write-plain-requires
+    write-later-requires
     same-length
-    returns)
+    returns-2)

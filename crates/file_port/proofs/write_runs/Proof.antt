@@ -6,16 +6,16 @@ use mathlib.Core.Path.{_≡_, refl}
 use lib.ListN.{length, take, length-map}
 use Rattle.label.specs.Label.{noRun}
 use Rattle.label.proofs.Steps.{length-mapped}
-use Rattle.file_format.specs.Format.{Writes}
+use Rattle.file_format.specs.Format.{Wrote}
 use Rattle.file_format.specs.Laws.{flat}
-use Rattle.file_format.proofs.Writing.{writes-none, writes-then, writes-turn}
+use Rattle.file_format.proofs.Writing.{room-wrote, writes-none, writes-then, writes-turn}
 use Rattle.file_port.proofs.LabelLaws.{runOctets, runs-octets}
 use Rattle.file_port.proofs.write_runs.Statement.{statement}
 use Rattle.file_port.proofs.write_runs.Tie as tie
 
 abbrev Inv-loop : tie.InvT-loop
 Inv-loop n out₀ at label place₀ i₀ out place i =
-    (i ≤ n) × (length out ≡ length out₀) × Writes at (flat runOctets (take i (label .runs))) out₀ out place
+    (i ≤ n) × (length out ≡ length out₀) × Wrote at (flat runOctets (take i (label .runs))) out₀ out place
 
 abbrev μ-loop : tie.MeasureT-loop
 μ-loop n out₀ at label place₀ i₀ out place i = n - i
@@ -56,7 +56,7 @@ loop-again c =
     let l = c .before .before .before .before .before .before .before .before .before .before .before .before .loop in (
       omega arith,
       omega arith,
-      writes-turn runOctets noRun (a .t1 .runs) (omega (arith, sized (c .before .before .before .before .before .before .before .before .before .before .before .before .before .before))) (l .inv .2) (writes-then (c .before .before .before .before .before .before .before .write-two .ensures) (c .before .before .write-two2 .ensures)),
+      writes-turn runOctets noRun (a .t1 .runs) (omega (arith, sized (c .before .before .before .before .before .before .before .before .before .before .before .before .before .before))) (l .inv .2) (writes-then (room-wrote (c .before .before .before .before .before .before .before .write-two .ensures)) (room-wrote (c .before .before .write-two2 .ensures))),
     )
 
 same-length : tie.Need-same-length Inv-loop μ-loop

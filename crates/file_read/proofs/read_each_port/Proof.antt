@@ -7,26 +7,24 @@ use mathlib.Core.Bool.{true}
 use mathlib.Core.Path.{_≡_, refl}
 use mathlib.Core.List.{List, [], _∷_, _++_}
 use Rattle.port.specs.declared.Port.{Port}
-use Rattle.file_format.specs.Format.{Found, readAt}
+use Rattle.file_format.specs.Format.{Found, readAt, alike, same}
 use Rattle.file_format.proofs.Places.{Held, held-none, held-more, held-used, held-fills}
 use Rattle.file_format.proofs.Loops.{Passed, begins, turns, refuses, ends}
 use Rattle.file_format.proofs.Told.{stopped, went, passed-same, many-refuses, many-reads}
-use Rattle.file_port.specs.PortFormat.{portFormat}
-use Rattle.file_set.specs.Set.{noPort}
-use Rattle.file_read.specs.SetFormat.{alike, same}
+use Rattle.file_port.specs.PortFormat.{portFormat, noPort}
 use Rattle.file_read.proofs.read_each_port.Statement.{statement}
 use Rattle.file_read.proofs.read_each_port.Tie as tie
 
-abbrev elements : List ℕ → ℕ → ℕ → Found Port
-elements s st at = readAt (alike portFormat st) s at
+abbrev elements : ℕ → List ℕ → ℕ → ℕ → Found Port
+elements version s st at = readAt (alike (portFormat version) st) s at
 
 abbrev Inv-loop : tie.InvT-loop
-Inv-loop octets ok at count read₀ i₀ read i =
+Inv-loop octets ok at count version read₀ i₀ read i =
     (i ≤ count) × (read .ok ≡ true) × (read .count ≡ i) × (done : List Port) × Held 16 noPort i (read .ports) done
-    × Passed (elements octets) same count 0 at done i 0 (read .at)
+    × Passed (elements version octets) same count 0 at done i 0 (read .at)
 
 abbrev μ-loop : tie.MeasureT-loop
-μ-loop octets ok at count read₀ i₀ read i = count - i
+μ-loop octets ok at count version read₀ i₀ read i = count - i
 
 empty-port-requires : tie.Need-empty-port-requires Inv-loop μ-loop
 empty-port-requires c κs = search needs
@@ -37,7 +35,7 @@ returns c = (passed-same (c .if1 .taken), rw (c .before .empty-port .ensures) (h
 loop-holds : tie.Need-loop-holds Inv-loop μ-loop
 loop-holds c =
     let a = c .before .before .before .args in
-    (omega arith, not-false (a .ok) (c .if1 .left), refl, [], rw (c .before .empty-port .ensures) (held-none 16 noPort), begins (elements (a .octets .now)) same (a .count) 0 (a .at))
+    (omega arith, not-false (a .ok) (c .if1 .left), refl, [], rw (c .before .empty-port .ensures) (held-none 16 noPort), begins (elements (a .version) (a .octets .now)) same (a .count) 0 (a .at))
 
 read-port-requires : tie.Need-read-port-requires Inv-loop μ-loop
 read-port-requires c κs = search needs
@@ -47,7 +45,7 @@ returns-2 c =
     let a = c .before .before .before .before .before .before .before .before .args in
     let l = c .before .before .before .before .loop in
     rw (l .inv .2) (
-      many-refuses (c .before .before .before .before .before .if1 .left) (refuses (elements (a .octets .now)) same (l .inv .5) _ (omega arith) (stopped (c .before .before .read-port .ensures) (c .if2 .taken))),
+      many-refuses (c .before .before .before .before .before .if1 .left) (refuses (elements (a .version) (a .octets .now)) same (l .inv .5) _ (omega arith) (stopped (c .before .before .read-port .ensures .0) (c .if2 .taken))),
       held-fills (l .inv .4),
     )
 
@@ -73,7 +71,7 @@ loop-again c =
       refl,
       l .inv .3 ++ (r .port ∷ []),
       held-more (r .port) (l .inv .4) (omega arith),
-      turns (elements (a .octets .now)) same (l .inv .5) (r .port) (r .at) (omega arith) (went (c .before .before .before .read-port .ensures) (c .before .if2 .left)),
+      turns (elements (a .version) (a .octets .now)) same (l .inv .5) (r .port) (r .at) (omega arith) (went (c .before .before .before .read-port .ensures .0) (c .before .if2 .left)),
     )
 
 returns-3 : tie.Need-returns-3 Inv-loop μ-loop
@@ -81,7 +79,7 @@ returns-3 c =
     let a = c .before .before .before .before .before .args in
     let l = c .before .loop in
     rw (l .inv .1, l .inv .2, held-used (l .inv .4)) (
-      many-reads (c .before .before .if1 .left) (ends (elements (a .octets .now)) same (l .inv .5) (omega arith)),
+      many-reads (c .before .before .if1 .left) (ends (elements (a .version) (a .octets .now)) same (l .inv .5) (omega arith)),
       held-fills (l .inv .4),
     )
 

@@ -1,7 +1,6 @@
 -- `file_read::read_tables` meets its contract.
 use borrow.Author.Needs.{needs}
-use Rattle.file_format.proofs.Told.{counted-told}
-use Rattle.file_read.specs.SetFormat.{tablesFormat}
+use Rattle.file_read.proofs.Tables.{tables-counted}
 use Rattle.file_read.proofs.read_tables.Statement.{statement}
 use Rattle.file_read.proofs.read_tables.Tie as tie
 
@@ -14,9 +13,18 @@ cast-read-each-table c = search needs
 read-each-table-requires : tie.Need-read-each-table-requires
 read-each-table-requires c κs = search needs
 
+same-length : tie.Need-same-length
+same-length c = search needs
+
 returns : tie.Need-returns
-unfolding tablesFormat
-returns c = (counted-told (c .before .before .read-octet .ensures .0) (c .read-each-table .ensures .0), c .read-each-table .ensures .1)
+returns c = tables-counted (c .before .before .before .before .before .before .before .before .args .version) (c .before .before .before .before .before .read-octet .ensures .0) (c .before .before .read-each-table .ensures)
 
 pub read-tables-spec : {M : Type 1} → statement M
-read-tables-spec = tie.close (tie.spec read-octet-requires cast-read-each-table read-each-table-requires returns)
+read-tables-spec =
+    tie.close
+    (tie.spec
+    read-octet-requires
+    cast-read-each-table
+    read-each-table-requires
+    same-length
+    returns)

@@ -25,9 +25,12 @@ ports-fit-requires c κs = search needs
 tables-fit-requires : tie.Need-tables-fit-requires
 tables-fit-requires c κs = search needs
 
+tables-sound-requires : tie.Need-tables-sound-requires
+tables-sound-requires c κs = search needs
+
 returns : tie.Need-returns
 unfolding setSound
-returns c = rw (c .before .before .before .ports-fit .ensures, c .before .before .tables-fit .ensures, all-typed (c .before .before .before .before .before .before)) (sym (and-true _))
+returns c = rw (c .before .before .before .ports-fit .ensures, c .before .before .tables-fit .ensures, c .before .tables-sound .ensures, all-typed (c .before .before .before .before .before .before .before)) (sym (and-true _))
 
 pub set-sound-spec : {M : Type 1} → statement M
-set-sound-spec = tie.close (tie.spec ports-fit-requires tables-fit-requires returns)
+set-sound-spec = tie.close (tie.spec ports-fit-requires tables-fit-requires tables-sound-requires returns)

@@ -5,19 +5,19 @@ use Prim.Native.Nat.{_+_, _-_, _/_, _≤_, _<_}
 use mathlib.Core.Bool.{true, false}
 use mathlib.Core.Path.{_≡_, refl, sym, _∙_}
 use lib.ListN.{take}
-use Rattle.table.specs.Table.{targetsApart}
+use Rattle.table.specs.Table.{rowsFrom, targetsApart}
 use Rattle.file_table.proofs.Apart.{apart-some, rising-first}
 use Rattle.file_table.proofs.first_meeting.Statement.{statement}
 use Rattle.file_table.proofs.first_meeting.Tie as tie
 
 abbrev Inv-loop : tie.InvT-loop
-Inv-loop rows n low₀ high₀ low high = (low < high) × (high ≤ n) × (targetsApart (take low rows) ≡ true) × (targetsApart (take high rows) ≡ false)
+Inv-loop rows n low₀ high₀ low high = (low < high) × (high ≤ n) × (targetsApart (take low (rowsFrom rows)) ≡ true) × (targetsApart (take high (rowsFrom rows)) ≡ false)
 
 abbrev μ-loop : tie.MeasureT-loop
 μ-loop rows n low₀ high₀ low high = high - low
 
 loop-holds : tie.Need-loop-holds Inv-loop μ-loop
-loop-holds c = (apart-some (c .args .n) (c .args .rows) (c .pre .2), omega arith, refl, c .pre .2)
+loop-holds c = let s = c .before in (apart-some (s .args .n) (rowsFrom (s .args .rows .now)) (s .pre .3), omega arith, refl, s .pre .3)
 
 add-loop : tie.Need-add-loop Inv-loop μ-loop
 add-loop c = search needs
@@ -27,9 +27,9 @@ add-middle c = search needs
 
 targets-apart-requires : tie.Need-targets-apart-requires Inv-loop μ-loop
 targets-apart-requires c κs =
-    let a = c .before .before .args in
+    let s = c .before .before .before in
     let l = c .before .loop in
-    (omega arith, rising-first ((l .low + l .high) / 2) (a .n) (a .rows) (omega arith) (c .before .before .pre .1))
+    (omega (arith, s .pre .0), omega (arith, s .pre .1), rising-first ((l .low + l .high) / 2) (s .args .n) (rowsFrom (s .args .rows .now)) (omega arith) (s .pre .2))
 
 loop-less : tie.Need-loop-less Inv-loop μ-loop
 loop-less c = search needs

@@ -10,8 +10,9 @@ use Rattle.file_format.specs.Format.{Found, readAt}
 use Rattle.file_format.proofs.Places.{Held, held-none, held-more, held-used, held-fills}
 use Rattle.file_format.proofs.Loops.{Passed, begins, turns, refuses, ends}
 use Rattle.file_format.proofs.Told.{stopped, went, passed-same, many-refuses, many-reads}
-use Rattle.file_table.specs.declared.LevelPair.{LevelPair}
-use Rattle.file_table.specs.TableFormat.{pair, pairFormat, nextLeast, noPair}
+use Rattle.table_levels.specs.declared.LevelPair.{LevelPair}
+use Rattle.table_levels.specs.Levels.{pair, noPair}
+use Rattle.file_table.specs.TableFormat.{pairFormat, nextLeast}
 use Rattle.file_table.proofs.read_pairs.Statement.{statement}
 use Rattle.file_table.proofs.read_pairs.Tie as tie
 
@@ -20,19 +21,19 @@ elements s least at = readAt (pairFormat least) s at
 
 abbrev Inv-loop : tie.InvT-loop
 Inv-loop octets ok at count read₀ first₀ second₀ i₀ read first second i =
-    (i ≤ count) × (read .ok ≡ true) × (read .count ≡ i) × (done : List LevelPair) × Held 16 noPair i (read .levels) done
+    (i ≤ count) × (read .ok ≡ true) × (read .count ≡ i) × (done : List LevelPair) × Held 256 noPair i (read .levels) done
     × Passed (elements octets) nextLeast count (0, 0) at done i (first, second) (read .at)
 
 abbrev μ-loop : tie.MeasureT-loop
 μ-loop octets ok at count read₀ first₀ second₀ i₀ read first second i = count - i
 
 returns : tie.Need-returns Inv-loop μ-loop
-returns c = (passed-same (c .if1 .taken), held-fills (held-none 16 noPair))
+returns c = (passed-same (c .if1 .taken), held-fills (held-none 256 noPair))
 
 loop-holds : tie.Need-loop-holds Inv-loop μ-loop
 loop-holds c =
     let a = c .before .before .args in
-    (omega arith, not-false (a .ok) (c .if1 .left), refl, [], held-none 16 noPair, begins (elements (a .octets .now)) nextLeast (a .count) (0, 0) (a .at))
+    (omega arith, not-false (a .ok) (c .if1 .left), refl, [], held-none 256 noPair, begins (elements (a .octets .now)) nextLeast (a .count) (0, 0) (a .at))
 
 read-pair-requires : tie.Need-read-pair-requires Inv-loop μ-loop
 read-pair-requires c κs = search needs

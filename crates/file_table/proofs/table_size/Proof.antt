@@ -1,18 +1,15 @@
 -- `file_table::table_size` meets its contract.
 use borrow.Author.Needs.{needs}
+use native.Mathlib.Omega.{arith}
 use mathlib.Core.Path.{_≡_, sym}
 use lib.ListN.{length}
 use Rattle.label.proofs.Steps.{length-mapped}
 use Rattle.file_table.proofs.Octets.{table-length}
-use native.Mathlib.Omega.{arith}
 use Rattle.file_table.proofs.table_size.Statement.{statement}
 use Rattle.file_table.proofs.table_size.Tie as tie
 
-pairs-sized : (c : tie.Start) → length (c .args .renumbering .levels) ≡ 16
-pairs-sized c = search (length-mapped, needs)
-
-rows-sized : (c : tie.Start) → length (c .args .renumbering .table .rows) ≡ 64
-rows-sized c = search (length-mapped, needs)
+sized : (c : tie.Start) → length (c .args .renumbering .levels) ≡ 256
+sized c = search (length-mapped, needs)
 
 count-used-requires : tie.Need-count-used-requires
 count-used-requires c κs = search needs
@@ -34,9 +31,10 @@ add-result-2 c = search needs
 
 returns : tie.Need-returns
 returns c =
-    let b = c .before .before .before in
-    let r = b .args .renumbering in
-    (sym (table-length r _ _ (pairs-sized b) (rows-sized b) (c .before .count-used .ensures .0) (c .count-used2 .ensures .0)), omega (arith, c .before .count-used .ensures .1, c .count-used2 .ensures .1))
+    let b = c .before .before .before .before in
+    let e = c .before .count-used .ensures in
+    let f = c .count-used2 .ensures in
+    (sym (table-length (b .args .renumbering) (b .args .rows .now) _ _ (sized b) (e .0) (f .0)), omega (arith, e .1, f .1))
 
 pub table-size-spec : {M : Type 1} → statement M
 table-size-spec =

@@ -1,25 +1,23 @@
 -- `file_table::targets_apart` meets its contract.
 use borrow.Author.Needs.{needs}
-use mathlib.Core.Path.{_≡_}
-use lib.ListN.{length}
-use Rattle.label.proofs.Steps.{length-mapped}
-use Rattle.file_table.proofs.Apart.{apart-sound}
+use mathlib.Core.Path.{_≡_, sym, _∙_}
+use lib.Seq.{length-take-le}
+use Rattle.file_table.proofs.Rows.{apart-list}
 use Rattle.file_table.proofs.targets_apart.Statement.{statement}
 use Rattle.file_table.proofs.targets_apart.Tie as tie
 
-sized : (c : tie.Start) → length (c .args .rows) ≡ 64
-sized c = search (length-mapped, needs)
+mul-rows-sound : tie.Need-mul-rows-sound
+mul-rows-sound c = search needs
 
-first-rows-requires : tie.Need-first-rows-requires
-first-rows-requires c κs = search needs
+slice-aggregate-rows-sound : tie.Need-slice-aggregate-rows-sound
+slice-aggregate-rows-sound c = sym (length-take-le _ _ (c .before .before .pre .1))
 
-table-sound-requires : tie.Need-table-sound-requires
-table-sound-requires c κs = search needs
+rows-sound-requires : tie.Need-rows-sound-requires
+rows-sound-requires c κs = search needs
 
 returns : tie.Need-returns
-returns c =
-    let a = c .before .before .args in
-    rw (c .table-sound .ensures, c .before .first-rows .ensures) (apart-sound (a .rows) (a .n) (c .before .before .pre .0) (sized (c .before .before)) (c .before .before .pre .1))
+returns c = let s = c .before .before .before in c .rows-sound .ensures ∙ apart-list (s .args .n) (s .args .rows .now) (s .pre .0) (s .pre .1) (s .pre .2)
 
 pub targets-apart-spec : {M : Type 1} → statement M
-targets-apart-spec = tie.close (tie.spec first-rows-requires table-sound-requires returns)
+targets-apart-spec =
+    tie.close (tie.spec mul-rows-sound slice-aggregate-rows-sound rows-sound-requires returns)

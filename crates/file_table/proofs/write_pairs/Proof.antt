@@ -6,20 +6,21 @@ use Prim.Native.Nat.{_-_, _≤_}
 use mathlib.Core.Path.{_≡_, refl}
 use lib.ListN.{length, take}
 use Rattle.label.proofs.Steps.{length-mapped}
-use Rattle.file_format.specs.Format.{Writes}
+use Rattle.table.proofs.Renumberings.{outPair}
+use Rattle.file_format.specs.Format.{Wrote}
 use Rattle.file_format.specs.Laws.{flat}
-use Rattle.file_format.proofs.Writing.{writes-none, writes-then, writes-turn}
+use Rattle.file_format.proofs.Writing.{room-wrote, writes-none, writes-then, writes-turn}
 use Rattle.file_table.specs.Stages.{pairOctets}
 use Rattle.file_table.proofs.write_pairs.Statement.{statement}
 use Rattle.file_table.proofs.write_pairs.Tie as tie
 
 abbrev Inv-loop : tie.InvT-loop
-Inv-loop n out₀ at levels place₀ i₀ out place i = (i ≤ n) × (length out ≡ length out₀) × Writes at (flat pairOctets (take i levels)) out₀ out place
+Inv-loop n out₀ at renumbering place₀ i₀ out place i = (i ≤ n) × (length out ≡ length out₀) × Wrote at (flat pairOctets (take i (renumbering .levels))) out₀ out place
 
 abbrev μ-loop : tie.MeasureT-loop
-μ-loop n out₀ at levels place₀ i₀ out place i = n - i
+μ-loop n out₀ at renumbering place₀ i₀ out place i = n - i
 
-sized : (c : tie.Start Inv-loop μ-loop) → length (c .args .t1) ≡ 16
+sized : (c : tie.Start Inv-loop μ-loop) → length (c .args .t1 .levels) ≡ 256
 sized c = search (length-mapped, needs)
 
 loop-holds : tie.Need-loop-holds Inv-loop μ-loop
@@ -28,8 +29,8 @@ loop-holds c = (omega arith, refl, writes-none)
 mul-pair : tie.Need-mul-pair Inv-loop μ-loop
 mul-pair c = search needs
 
-array-copy-out-pair : tie.Need-array-copy-out-pair Inv-loop μ-loop
-array-copy-out-pair c = search needs
+element-copy-out-pair : tie.Need-element-copy-out-pair Inv-loop μ-loop
+element-copy-out-pair c = search (length-mapped, needs)
 
 element-copy-out-wide : tie.Need-element-copy-out-wide Inv-loop μ-loop
 element-copy-out-wide c = search needs
@@ -61,8 +62,8 @@ loop-again c =
     let l = c .before .before .before .before .before .before .before .before .before .before .before .before .before .before .loop in (
       omega arith,
       omega arith,
-      writes-turn pairOctets (record { levels = [] }) (a .t1) (omega (arith, sized (c .before .before .before .before .before .before .before .before .before .before .before .before .before .before .before .before))) (l .inv .2)
-          (writes-then (rw (c .before .before .before .before .before .before .before .before .before .before .wide .ensures) at (c .before .before .before .before .before .before .write-octet .ensures)) (rw (c .before .before .before .before .before .before .before .before .wide2 .ensures) at (c .before .before .write-octet2 .ensures))),
+      writes-turn pairOctets outPair (a .t1 .levels) (omega (arith, sized (c .before .before .before .before .before .before .before .before .before .before .before .before .before .before .before .before))) (l .inv .2)
+          (writes-then (room-wrote (rw (c .before .before .before .before .before .before .before .before .before .before .wide .ensures) at (c .before .before .before .before .before .before .write-octet .ensures))) (room-wrote (rw (c .before .before .before .before .before .before .before .before .wide2 .ensures) at (c .before .before .write-octet2 .ensures)))),
     )
 
 same-length : tie.Need-same-length Inv-loop μ-loop
@@ -83,7 +84,7 @@ write-pairs-spec =
     μ-loop
     loop-holds
     mul-pair
-    array-copy-out-pair
+    element-copy-out-pair
     element-copy-out-wide
     wide-requires
     element-copy-out-wide-2

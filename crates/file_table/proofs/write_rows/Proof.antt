@@ -1,35 +1,29 @@
 -- `file_table::write_rows` meets its contract.
 use borrow.Author.Needs.{needs}
-use Rattle.table.specs.Table.{noRow}
 use native.Mathlib.Omega.{arith}
 use Prim.Native.Nat.{_-_, _≤_}
 use mathlib.Core.Path.{_≡_, refl}
 use lib.ListN.{length, take}
-use Rattle.label.proofs.Steps.{length-mapped}
-use Rattle.file_format.specs.Format.{Writes}
+use Rattle.table.specs.Table.{rowsFrom}
+use Rattle.file_format.specs.Format.{Wrote}
 use Rattle.file_format.specs.Laws.{flat}
-use Rattle.file_format.proofs.Writing.{writes-none, writes-then, writes-turn}
+use Rattle.file_format.proofs.Writing.{room-wrote, writes-none, writes-then}
 use Rattle.file_table.specs.Stages.{rowOctets}
+use Rattle.file_table.proofs.Octets.{rows-turn}
 use Rattle.file_table.proofs.write_rows.Statement.{statement}
 use Rattle.file_table.proofs.write_rows.Tie as tie
 
 abbrev Inv-loop : tie.InvT-loop
-Inv-loop n out₀ at rows place₀ i₀ out place i = (i ≤ n) × (length out ≡ length out₀) × Writes at (flat rowOctets (take i rows)) out₀ out place
+Inv-loop rows n out₀ at place₀ i₀ out place i = (i ≤ n) × (length out ≡ length out₀) × Wrote at (flat rowOctets (take i (rowsFrom rows))) out₀ out place
 
 abbrev μ-loop : tie.MeasureT-loop
-μ-loop n out₀ at rows place₀ i₀ out place i = n - i
-
-sized : (c : tie.Start Inv-loop μ-loop) → length (c .args .t1) ≡ 64
-sized c = search (length-mapped, needs)
+μ-loop rows n out₀ at place₀ i₀ out place i = n - i
 
 loop-holds : tie.Need-loop-holds Inv-loop μ-loop
 loop-holds c = (omega arith, refl, writes-none)
 
-mul-row : tie.Need-mul-row Inv-loop μ-loop
-mul-row c = search needs
-
-array-copy-out-row : tie.Need-array-copy-out-row Inv-loop μ-loop
-array-copy-out-row c = search needs
+row-at-requires : tie.Need-row-at-requires Inv-loop μ-loop
+row-at-requires c κs = search needs
 
 cast-write-two : tie.Need-cast-write-two Inv-loop μ-loop
 cast-write-two c = search needs
@@ -57,12 +51,12 @@ loop-less c = search needs
 
 loop-again : tie.Need-loop-again Inv-loop μ-loop
 loop-again c =
-    let a = c .before .before .before .before .before .before .before .before .before .before .before .before .before .before .before .before .before .before .before .args in
+    let s = c .before .before .before .before .before .before .before .before .before .before .before .before .before .before .before .before .before .before .before .before in
     let l = c .before .before .before .before .before .before .before .before .before .before .before .before .before .before .before .before .before .loop in (
       omega arith,
       omega arith,
-      writes-turn rowOctets noRow (a .t1) (omega (arith, sized (c .before .before .before .before .before .before .before .before .before .before .before .before .before .before .before .before .before .before .before))) (l .inv .2)
-          (writes-then (c .before .before .before .before .before .before .before .before .before .before .before .before .write-two .ensures) (writes-then (c .before .before .before .before .before .before .before .write-two2 .ensures) (c .before .before .write-two3 .ensures))),
+      rows-turn (rowsFrom (s .args .rows .now)) (c .before .before .before .before .before .before .before .before .before .before .before .before .before .before .before .row-at .result) (c .before .before .before .before .before .before .before .before .before .before .before .before .before .before .before .row-at .ensures) (omega (arith, s .pre)) (l .inv .2)
+          (writes-then (room-wrote (c .before .before .before .before .before .before .before .before .before .before .before .before .write-two .ensures)) (writes-then (room-wrote (c .before .before .before .before .before .before .before .write-two2 .ensures)) (room-wrote (c .before .before .write-two3 .ensures)))),
     )
 
 same-length : tie.Need-same-length Inv-loop μ-loop
@@ -70,7 +64,7 @@ same-length c = c .before .loop .inv .1
 
 returns : tie.Need-returns Inv-loop μ-loop
 returns c =
-    let a = c .before .before .before .args in
+    let a = c .before .before .before .before .args in
     let l = c .before .loop in
     let e : l .i ≡ a .n = omega arith in
     rw (← e) (l .inv .2)
@@ -82,8 +76,7 @@ write-rows-spec =
     Inv-loop
     μ-loop
     loop-holds
-    mul-row
-    array-copy-out-row
+    row-at-requires
     cast-write-two
     write-two-requires
     cast-write-two-2

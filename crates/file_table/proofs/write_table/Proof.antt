@@ -1,18 +1,24 @@
 -- `file_table::write_table` meets its contract.
 use borrow.Author.Needs.{needs}
-use mathlib.Core.Path.{_≡_}
+use mathlib.Core.Path.{_≡_, sym, ap, _∙_}
 use lib.ListN.{length}
 use Rattle.label.proofs.Steps.{length-mapped}
-use Rattle.file_format.proofs.Writing.{writes-then}
-use Rattle.file_table.proofs.Octets.{table-octets}
+use Rattle.file_format.proofs.Writing.{stops-short, goes-on, room-wrote, writes-then}
+use Rattle.file_table.proofs.Octets.{table-octets, rows-held}
 use Rattle.file_table.proofs.write_table.Statement.{statement}
 use Rattle.file_table.proofs.write_table.Tie as tie
 
-pairs-sized : (c : tie.Start) → length (c .args .renumbering .levels) ≡ 16
-pairs-sized c = search (length-mapped, needs)
+sized : (c : tie.Start) → length (c .args .renumbering .levels) ≡ 256
+sized c = search (length-mapped, needs)
 
-rows-sized : (c : tie.Start) → length (c .args .renumbering .table .rows) ≡ 64
-rows-sized c = search (length-mapped, needs)
+table-size-requires : tie.Need-table-size-requires
+table-size-requires c κs = search needs
+
+has-room-requires : tie.Need-has-room-requires
+has-room-requires c κs = search needs
+
+returns : tie.Need-returns
+returns c = stops-short (c .before .has-room .result) (c .before .before .table-size .result) (c .before .has-room .ensures) (sym (c .before .before .table-size .ensures .0)) (c .if1 .taken)
 
 count-used-requires : tie.Need-count-used-requires
 count-used-requires c κs = search needs
@@ -42,23 +48,29 @@ write-two-requires-2 : tie.Need-write-two-requires-2
 write-two-requires-2 c κs = search needs
 
 write-rows-requires : tie.Need-write-rows-requires
-write-rows-requires c κs = search needs
+write-rows-requires c κs =
+    rows-held (c .before .before .before .before .before .before .before .before .before .before .before .before .before .before .before .before .before .before .before .before .before .before .before .before .before .before .before .before .before .args .renumbering) (c .before .before .before .before .before .before .before .before .before .before .before .before .before .before .before .before .before .before .before .before .before .before .before .before .before .before .before .before .before .args .rows .now) _ _ (sized (c .before .before .before .before .before .before .before .before .before .before .before .before .before .before .before .before .before .before .before .before .before .before .before .before .before .before .before .before .before)) (c .before .before .before .before .before .before .before .before .before .before .before .before .before .before .before .before .before .before .before .before .before .before .count-used .ensures .0) (c .before .before .before .before .before .before .before .before .before .before .before .before .before .before .before .before .before .before .before .before .before .count-used2 .ensures .0)
 
 same-length : tie.Need-same-length
 same-length c = search needs
 
-returns : tie.Need-returns
-returns c =
-    let b = c .before .before .before .before .before .before .before .before .before .before .before .before .before .before .before .before .before .before .before .before .before .before .before .before .before .before .before .before .before .before in
-    rw (table-octets (b .args .renumbering) _ _ (pairs-sized b) (rows-sized b) (c .before .before .before .before .before .before .before .before .before .before .before .before .before .before .before .before .before .before .before .before .before .before .before .before .before .count-used .ensures .0) (c .before .before .before .before .before .before .before .before .before .before .before .before .before .before .before .before .before .before .before .before .before .before .before .before .count-used2 .ensures .0))
-    (writes-then (c .before .before .before .before .before .before .before .before .before .before .before .before .before .before .before .before .before .before .before .before .before .before .write-four .ensures)
-    (writes-then (c .before .before .before .before .before .before .before .before .before .before .before .before .before .before .before .before .before .before .write-four2 .ensures)
-    (writes-then (writes-then (c .before .before .before .before .before .before .before .before .before .before .before .before .before .before .write-two .ensures) (c .before .before .before .before .before .before .before .before .before .before .write-pairs .ensures)) (writes-then (c .before .before .before .before .before .before .write-two2 .ensures) (c .before .before .write-rows .ensures)))))
+returns-2 : tie.Need-returns-2
+returns-2 c =
+    let e = table-octets (c .before .before .before .before .before .before .before .before .before .before .before .before .before .before .before .before .before .before .before .before .before .before .before .before .before .before .before .before .before .before .before .before .args .renumbering) (c .before .before .before .before .before .before .before .before .before .before .before .before .before .before .before .before .before .before .before .before .before .before .before .before .before .before .before .before .before .before .before .before .args .rows .now) _ _ (sized (c .before .before .before .before .before .before .before .before .before .before .before .before .before .before .before .before .before .before .before .before .before .before .before .before .before .before .before .before .before .before .before .before)) (c .before .before .before .before .before .before .before .before .before .before .before .before .before .before .before .before .before .before .before .before .before .before .before .before .before .count-used .ensures .0) (c .before .before .before .before .before .before .before .before .before .before .before .before .before .before .before .before .before .before .before .before .before .before .before .before .count-used2 .ensures .0) in
+    rw e
+    (goes-on (c .before .before .before .before .before .before .before .before .before .before .before .before .before .before .before .before .before .before .before .before .before .before .before .before .before .before .before .before .has-room .result) (c .before .before .before .before .before .before .before .before .before .before .before .before .before .before .before .before .before .before .before .before .before .before .before .before .before .before .before .before .before .table-size .result) (c .before .before .before .before .before .before .before .before .before .before .before .before .before .before .before .before .before .before .before .before .before .before .before .before .before .before .before .before .has-room .ensures) (sym (ap length e) ∙ sym (c .before .before .before .before .before .before .before .before .before .before .before .before .before .before .before .before .before .before .before .before .before .before .before .before .before .before .before .before .before .table-size .ensures .0)) (c .before .before .before .before .before .before .before .before .before .before .before .before .before .before .before .before .before .before .before .before .before .before .before .before .before .before .before .if1 .left)
+    (writes-then (room-wrote (c .before .before .before .before .before .before .before .before .before .before .before .before .before .before .before .before .before .before .before .before .before .before .write-four .ensures))
+    (writes-then (room-wrote (c .before .before .before .before .before .before .before .before .before .before .before .before .before .before .before .before .before .before .write-four2 .ensures))
+    (writes-then (writes-then (room-wrote (c .before .before .before .before .before .before .before .before .before .before .before .before .before .before .write-two .ensures)) (c .before .before .before .before .before .before .before .before .before .before .write-pairs .ensures))
+    (writes-then (room-wrote (c .before .before .before .before .before .before .write-two2 .ensures)) (c .before .before .write-rows .ensures))))))
 
 pub write-table-spec : {M : Type 1} → statement M
 write-table-spec =
     tie.close
     (tie.spec
+    table-size-requires
+    has-room-requires
+    returns
     count-used-requires
     count-used-requires-2
     write-four-requires
@@ -70,4 +82,4 @@ write-table-spec =
     write-two-requires-2
     write-rows-requires
     same-length
-    returns)
+    returns-2)

@@ -6,14 +6,14 @@ use mathlib.Core.Path.{_≡_, refl}
 use lib.ListN.{length, take, getD}
 use Rattle.label.proofs.Steps.{length-mapped}
 use Rattle.file_format.specs.Laws.{flat}
-use Rattle.file_read.specs.Stages.{portOctets}
+use Rattle.file_write.specs.Stages.{portOctets}
 use Rattle.file_set.proofs.Sets.{outPort}
-use Rattle.file_read.proofs.Sizes.{size-more}
+use Rattle.file_write.proofs.Sizes.{size-more}
 use Rattle.file_write.proofs.ports_size.Statement.{statement}
 use Rattle.file_write.proofs.ports_size.Tie as tie
 
 abbrev Inv-loop : tie.InvT-loop
-Inv-loop n ports size₀ i₀ size i = (i ≤ n) × (size ≡ length (flat portOctets (take i ports))) × (size ≤ i * 1463)
+Inv-loop n ports size₀ i₀ size i = (i ≤ n) × (size ≡ length (flat portOctets (take i ports))) × (size ≤ i * 2984)
 
 abbrev μ-loop : tie.MeasureT-loop
 μ-loop n ports size₀ i₀ size i = n - i

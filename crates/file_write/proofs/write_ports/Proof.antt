@@ -6,15 +6,15 @@ use mathlib.Core.Path.{_≡_, refl}
 use lib.ListN.{length, take}
 use Rattle.label.proofs.Steps.{length-mapped}
 use Rattle.file_format.specs.Laws.{flat}
-use Rattle.file_read.specs.Stages.{portOctets}
+use Rattle.file_write.specs.Stages.{portOctets}
 use Rattle.file_set.proofs.Sets.{outPort}
-use Rattle.file_format.specs.Format.{Writes}
-use Rattle.file_format.proofs.Writing.{writes-none, writes-turn}
+use Rattle.file_format.specs.Format.{Wrote}
+use Rattle.file_format.proofs.Writing.{room-wrote, writes-none, writes-turn}
 use Rattle.file_write.proofs.write_ports.Statement.{statement}
 use Rattle.file_write.proofs.write_ports.Tie as tie
 
 abbrev Inv-loop : tie.InvT-loop
-Inv-loop n out₀ at ports place₀ i₀ out place i = (i ≤ n) × (length out ≡ length out₀) × Writes at (flat portOctets (take i ports)) out₀ out place
+Inv-loop n out₀ at ports place₀ i₀ out place i = (i ≤ n) × (length out ≡ length out₀) × Wrote at (flat portOctets (take i ports)) out₀ out place
 
 abbrev μ-loop : tie.MeasureT-loop
 μ-loop n out₀ at ports place₀ i₀ out place i = n - i
@@ -45,7 +45,7 @@ unfolding portOctets
 loop-again c =
     let a = c .before .before .before .before .before .before .before .before .args in
     let l = c .before .before .before .before .before .before .loop in
-    (omega arith, omega arith, writes-turn portOctets outPort (a .t1) (omega (arith, sized (c .before .before .before .before .before .before .before .before))) (l .inv .2) (c .before .before .write-port .ensures))
+    (omega arith, omega arith, writes-turn portOctets outPort (a .t1) (omega (arith, sized (c .before .before .before .before .before .before .before .before))) (l .inv .2) (room-wrote (c .before .before .write-port .ensures)))
 
 same-length : tie.Need-same-length Inv-loop μ-loop
 same-length c = c .before .loop .inv .1

@@ -1,5 +1,6 @@
 -- `forward::forward` meets its contract.
 use borrow.Author.Needs.{needs}
+use borrow.Author.Tests.{leb-true}
 use mathlib.Core.Path.{sym, _∙_}
 use Rattle.forward.proofs.forward.Statement.{statement}
 use Rattle.forward.proofs.forward.Tie as tie
@@ -18,10 +19,11 @@ is-usual-requires-2 c κs = search needs
 
 forward-usual-requires : tie.Need-forward-usual-requires
 forward-usual-requires c κs =
-    let t = c .before in
+    let f = c .before in
+    let t = f .before .before in
     let u = t .before in
     let b = u .before in
-    (sym (b .before .is-usual .ensures) ∙ b .if3 .taken, sym (u .is-usual2 .ensures) ∙ t .if4 .taken)
+    (sym (b .before .is-usual .ensures) ∙ b .if3 .taken, sym (u .is-usual2 .ensures) ∙ t .if4 .taken, leb-true _ _ (f .if5 .taken))
 
 same-length : tie.Need-same-length
 same-length c = search needs

@@ -3,6 +3,7 @@ use borrow.Author.Needs.{needs}
 use native.Mathlib.Omega.{arith}
 use mathlib.Core.Path.{refl, sym, _∙_, ap}
 use lib.ListN.{length}
+use Rattle.table.specs.Table.{lent}
 use Rattle.forward_rules.specs.Forward.{forwardingOf}
 use Rattle.forward_leave.specs.Departure.{recordedBy}
 use Rattle.port_usual.proofs.Usual.{usual, usual-sound}
@@ -34,7 +35,7 @@ slice-aggregate-hold-usual c = search needs
 
 hold-usual-requires : tie.Need-hold-usual-requires
 hold-usual-requires c κs =
-    let s = c .before .before .before .before .before .before .before .before .before .before .before in
+    let s = c .before .before .before .before .before .before .before .before .before .before .before .before in
     let u = usual (s .args .leaving) (s .pre .1) in
     (u .low, u .high)
 
@@ -71,17 +72,18 @@ returns c =
     let x = h .before .before .before in
     let r = x .before .before .before in
     let a = r .before .before in
-    let s = a .before .before .before .before in
+    let s = a .before .before .before .before .before in
     let from = usual (s .args .arriving) (s .pre .0) in
     let to = usual (s .args .leaving) (s .pre .1) in
     let q =
-    forwarded (forwardingOf (s .args .arriving) (s .args .leaving) (s .args .table) (s .args .levels) (s .args .facts) (s .args .area .now) (length (s .args .out .now)))
+    forwarded (forwardingOf (s .args .arriving) (s .args .leaving) (lent (s .args .table) (s .args .rows .now)) (s .args .levels) (s .args .facts) (s .args .area .now) (length (s .args .out .now)))
     _ _ _ _ (s .args .out .now) _ (a .arrive-usual .result) (r .check-leaving .result) (r .check-leaving .result) (x .cross .result) (h .hold-usual .result) (t .fit .result) (k .kept-by .result) (w .write-area .result)
     (record {
       room = refl;
       own-room = omega arith;
       own-kept = omega arith;
       far-room = omega arith;
+      far-rows = λ y. omega (arith, s .pre .2);
       arrives = a .arrive-usual .ensures;
       ready = r .check-leaving .ensures ∙ ap (recordedBy (a .arrive-usual .result) (length (s .args .out .now))) (sym (usual-sound (s .args .leaving) (s .pre .1)));
       sent = sent-off (r .check-leaving .result) (s .args .arriving .basic .on) (s .args .leaving .basic .on) (s .args .leaving .basic .sending) _ (from .off) (to .off);

@@ -3,6 +3,8 @@ use borrow.Author.Needs.{needs}
 use native.Mathlib.Omega.{arith}
 use mathlib.Core.Path.{refl, _∙_, ap}
 use lib.ListN.{length}
+use Rattle.table.specs.Table.{lent}
+use Rattle.table.proofs.Sound.{sound}
 use Rattle.forward_rules.specs.Forward.{forwardingOf}
 use Rattle.forward_leave.specs.Departure.{recordedBy}
 use Rattle.forward_any.proofs.Stages.{forwarded}
@@ -74,15 +76,16 @@ returns c =
     let r = u .before in
     let a = r .before .before in
     let p = a .before .before in
-    let s = p .before .before .before in
+    let s = p .before .before .before .before in
     let q =
-    forwarded (forwardingOf (s .args .arriving) (s .args .leaving) (s .args .table) (s .args .levels) (s .args .facts) (s .args .area .now) (length (s .args .out .now)))
+    forwarded (forwardingOf (s .args .arriving) (s .args .leaving) (lent (s .args .table) (s .args .rows .now)) (s .args .levels) (s .args .facts) (s .args .area .now) (length (s .args .out .now)))
     _ _ _ _ (s .args .out .now) _ (a .arrive .result) (r .check-leaving .result) (u .hold-sending .result) (x .cross .result) (h .hold-leaving .result) (t .fit .result) (k .kept-by .result) (w .write-area .result)
     (record {
       room = refl;
       own-room = omega arith;
       own-kept = omega arith;
       far-room = omega arith;
+      far-rows = λ y. omega (arith, sound (lent (s .args .table) (s .args .rows .now)) (s .args .levels) y .rows-held);
       arrives = a .arrive .ensures;
       ready = r .check-leaving .ensures ∙ ap (recordedBy (a .arrive .result) (length (s .args .out .now))) (p .port-sound .ensures);
       sent = u .hold-sending .ensures;

@@ -1,99 +1,44 @@
 -- `renumber_keys::carry` meets its contract.
 use borrow.Author.Needs.{needs}
-use native.Mathlib.Omega.{arith}
-use borrow.Author.Tests.{not-true, not-false}
-use Prim.Native.Nat.{ℕ, _≤_}
-use mathlib.Core.Path.{_≡_, sym, _∙_, ap}
-use mathlib.Core.Bool.{true}
-use mathlib.Core.List.{List}
+use mathlib.Core.Path.{_≡_, _∙_}
 use lib.ListN.{length, take}
 use Rattle.label_keys.specs.Keys.{keyRuns}
-use Rattle.table.specs.Table.{tableSound}
-use Rattle.renumber_keys.specs.Carry.{imageOf, labelRuns}
-use Rattle.renumber_keys.proofs.Held.{first-same}
-use Rattle.renumber_keys.proofs.Carrying.{carry-checked, carry-refused, carry-passed, refused-same}
-use Rattle.renumber_keys.proofs.Ready.{order-sized, ready-of}
+use Rattle.table.specs.Table.{lent}
+use Rattle.renumber_keys.specs.Carry.{carryOf}
+use Rattle.renumber_keys.specs.Stages.{carriedBy}
+use Rattle.renumber_keys.proofs.Carrying.{carried-by}
 use Rattle.renumber_keys.proofs.carry.Statement.{statement}
 use Rattle.renumber_keys.proofs.carry.Tie as tie
 
--- the three tests have passed
-passed : (c : tie.Else1) →
-    let a = c .before .before .before .before .before .before .args in
-    (tableSound (a .table) (a .levels) ≡ true) × (labelRuns (keyRuns (take (a .n) (a .keys .now))) ≡ true) × (184 ≤ length (a .far .now))
-passed c =
-    let k = c .before in
-    let o = k .before in
-    let a = o .before .before .before .before .args in
-    carry-passed (keyRuns (take (a .n) (a .keys .now))) (a .level) (a .table) (a .levels) (length (a .far .now)) _ _ (o .table-order .ensures .0) (k .keys-formed .ensures) (not-false _ (c .if1 .left))
+-- what was found of the level pairs
+found : (l : tie.After-look-levels) →
+    let a = l .before .before .before .before .args in
+    carriedBy (l .look-levels .result .sound) (l .look-levels .result .to) (keyRuns (take (a .n) (a .keys .now))) (lent (a .table) (a .rows .now)) (length (a .far .now))
+    ≡ carryOf (keyRuns (take (a .n) (a .keys .now))) (a .level) (lent (a .table) (a .rows .now)) (a .levels) (length (a .far .now))
+found l =
+    let a = l .before .before .before .before .args in
+    carried-by (keyRuns (take (a .n) (a .keys .now))) (a .level) (lent (a .table) (a .rows .now)) (a .levels) (length (a .far .now)) _ _ (l .look-levels .ensures .0) (l .look-levels .ensures .1)
 
-table-order-requires : tie.Need-table-order-requires
-table-order-requires c κs = search needs
+look-levels-requires : tie.Need-look-levels-requires
+look-levels-requires c κs = search needs
 
-keys-formed-requires : tie.Need-keys-formed-requires
-keys-formed-requires c κs = search needs
-
-not-carried-requires : tie.Need-not-carried-requires
-not-carried-requires c κs = search needs
-
-returns : tie.Need-returns
-returns c =
-    let t = c .before in
-    let k = t .before in
-    let o = k .before in
-    let a = o .before .before .before .before .args in
-    let runs = keyRuns (take (a .n) (a .keys .now)) in (
-      c .not-carried .ensures
-          ∙ carry-refused runs (a .level) (a .table) (a .levels) (length (a .far .now)) _ _ (o .table-order .ensures .0) (k .keys-formed .ensures) (not-true _ (t .if1 .taken)),
-      refused-same (c .not-carried .result) (imageOf (a .table) runs) (a .far .now) 2 (c .not-carried .ensures) (λ z. omega arith),
-    )
-
-lesser-requires : tie.Need-lesser-requires
-lesser-requires c κs = search needs
-
-slice-aggregate-carry-checked : tie.Need-slice-aggregate-carry-checked
-slice-aggregate-carry-checked c =
-    let e = c .before .before in
-    let o = e .before .before in
-    let a = o .before .before .before .before .args in
-    sym (ap length (o .table-order .ensures .1) ∙ order-sized (a .table) (a .levels) (passed e .0))
-
-carry-checked-requires : tie.Need-carry-checked-requires
-carry-checked-requires c κs =
-    let f = c .before .before in
-    let e = f .before in
-    let o = e .before .before in
-    let a = o .before .before .before .before .args in
-    let m = f .lesser .result in
-    let same = first-same (a .keys .now) (a .n) m (f .lesser .ensures) in
-    let q = passed e in
-    (omega (arith, f .lesser .ensures), q .2, ready-of (a .table) (a .levels) _ (keyRuns (take m (a .keys .now))) (q .0) (o .table-order .ensures .1) (ap (λ (z : List ℕ). labelRuns (keyRuns z)) same ∙ q .1))
+carry-few-requires : tie.Need-carry-few-requires
+carry-few-requires c κs = search needs
 
 same-length : tie.Need-same-length
 same-length c = search needs
 
+returns : tie.Need-returns
+returns c = let g = c .before .before in (g .carry-few .ensures .0 ∙ found (g .before .before .before .before), g .carry-few .ensures .1)
+
+carry-many-requires : tie.Need-carry-many-requires
+carry-many-requires c κs = search needs
+
+same-length-2 : tie.Need-same-length-2
+same-length-2 c = search needs
+
 returns-2 : tie.Need-returns-2
-returns-2 c =
-    let r = c .before .before in
-    let f = r .before .before .before in
-    let e = f .before in
-    let a = e .before .before .before .before .before .before .args in
-    let same = first-same (a .keys .now) (a .n) (f .lesser .result) (f .lesser .ensures) in
-    let q = passed e in (
-      rw same at (r .carry-checked .ensures .0)
-          ∙ sym (carry-checked (keyRuns (take (a .n) (a .keys .now))) (a .level) (a .table) (a .levels) (length (a .far .now)) (q .0) (q .1) (q .2)),
-      rw same at (r .carry-checked .ensures .1),
-    )
+returns-2 c = let g = c .before .before in (g .carry-many .ensures .0 ∙ found (g .before .before .before .before), g .carry-many .ensures .1)
 
 pub carry-spec : {M : Type 1} → statement M
-carry-spec =
-    tie.close
-    (tie.spec
-    table-order-requires
-    keys-formed-requires
-    not-carried-requires
-    returns
-    lesser-requires
-    slice-aggregate-carry-checked
-    carry-checked-requires
-    same-length
-    returns-2)
+carry-spec = tie.close (tie.spec look-levels-requires carry-few-requires same-length returns carry-many-requires same-length-2 returns-2)

@@ -55,6 +55,9 @@ shared-slice-read-x c = search needs
 cast-j : tie.Need-cast-j Inv-loop μ-loop
 cast-j c = search needs
 
+mul-y : tie.Need-mul-y Inv-loop μ-loop
+mul-y c = search needs
+
 shared-slice-read-y : tie.Need-shared-slice-read-y Inv-loop μ-loop
 shared-slice-read-y c = omega (arith, held (c .before .before) .0)
 
@@ -66,6 +69,9 @@ cast-a c =
 
 add-z : tie.Need-add-z Inv-loop μ-loop
 add-z c = search needs
+
+mul-z : tie.Need-mul-z Inv-loop μ-loop
+mul-z c = search needs
 
 shared-slice-read-z : tie.Need-shared-slice-read-z Inv-loop μ-loop
 shared-slice-read-z c = omega (arith, held (c .before .before .before) .0)
@@ -144,9 +150,11 @@ join-rows-spec =
     mul-x
     shared-slice-read-x
     cast-j
+    mul-y
     shared-slice-read-y
     cast-a
     add-z
+    mul-z
     shared-slice-read-z
     cast-e
     join-row-requires

@@ -9,12 +9,12 @@ use Rattle.renumber_reverse.proofs.reverse_levels.Statement.{statement}
 use Rattle.renumber_reverse.proofs.reverse_levels.Tie as tie
 
 abbrev Inv-loop : tie.InvT-loop
-Inv-loop levels out₀ i₀ out i = (i ≤ 16) × (out ≡ partLevels levels i)
+Inv-loop levels out₀ i₀ out i = (i ≤ 256) × (out ≡ partLevels levels i)
 
 abbrev μ-loop : tie.MeasureT-loop
-μ-loop levels out₀ i₀ out i = 16 - i
+μ-loop levels out₀ i₀ out i = 256 - i
 
-sized : (c : tie.Start Inv-loop μ-loop) → length (c .args .t1) ≡ 16
+sized : (c : tie.Start Inv-loop μ-loop) → length (c .args .t1) ≡ 256
 sized c = search needs
 
 loop-holds : tie.Need-loop-holds Inv-loop μ-loop

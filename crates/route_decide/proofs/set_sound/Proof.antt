@@ -16,7 +16,7 @@ sized c = search needs
 -- src/lib.rt:91:9
 returns : tie.Need-returns
 unfolding knownSound
-returns c = simp (not-true (c .before .before .before .args .known .sound) (c .if1 .taken))
+returns c = simp (not-true (c .before .before .before .before .args .known .sound) (c .if1 .taken))
 
 -- src/lib.rt:93:9
 tables-sound-requires : tie.Need-tables-sound-requires
@@ -25,17 +25,17 @@ tables-sound-requires c κs = search needs
 -- src/lib.rt:94:9
 returns-2 : tie.Need-returns-2
 unfolding knownSound
-returns-2 c = let e = c .before .before in simp (not-false (e .before .before .before .args .known .sound) (e .if1 .left), sym (c .before .tables-sound .ensures) ∙ not-true _ (c .if2 .taken))
+returns-2 c = let e = c .before .before in simp (not-false (e .before .before .before .before .args .known .sound) (e .if1 .left), sym (c .before .tables-sound .ensures) ∙ not-true _ (c .if2 .taken))
 
 -- src/lib.rt:98:9
 returns-3 : tie.Need-returns-3
 unfolding knownSound
-returns-3 c = let t = c .before .before in let e = t .before in simp (not-false (e .before .before .before .args .known .sound) (e .if1 .left), sym (t .tables-sound .ensures) ∙ not-false _ (c .before .if2 .left), le-ltb _ _ (c .if3 .taken))
+returns-3 c = let t = c .before .before in let e = t .before in simp (not-false (e .before .before .before .before .args .known .sound) (e .if1 .left), sym (t .tables-sound .ensures) ∙ not-false _ (c .before .if2 .left), le-ltb _ _ (c .if3 .taken))
 
 -- src/lib.rt:101:9
 returns-4 : tie.Need-returns-4
 unfolding knownSound
-returns-4 c = let t = c .before .before .before in let e = t .before in simp (not-false (e .before .before .before .args .known .sound) (e .if1 .left), sym (t .tables-sound .ensures) ∙ not-false _ (c .before .before .if2 .left), lt-ltb _ _ (c .before .if3 .left), lt-leb _ _ (c .if4 .taken))
+returns-4 c = let t = c .before .before .before in let e = t .before in simp (not-false (e .before .before .before .before .args .known .sound) (e .if1 .left), sym (t .tables-sound .ensures) ∙ not-false _ (c .before .before .if2 .left), lt-ltb _ _ (c .before .if3 .left), lt-leb _ _ (c .if4 .taken))
 
 -- src/lib.rt:104:26
 sub-routes-sound : tie.Need-sub-routes-sound
@@ -49,7 +49,7 @@ part-routes-sound-start c = search needs
 part-routes-sound-end : tie.Need-part-routes-sound-end
 part-routes-sound-end c =
     let f = c .before .before in
-    let s = f .before .before .before .before .before .before .before in
+    let s = f .before .before .before .before .before .before .before .before in
     let l : length (s .args .known .domains) ≡ 64 = sized s in
     let h : s .args .known .count ≤ 64 = f .if4 .left in
     let g : s .args .known .count ≤ length (s .args .known .domains) = omega arith in
@@ -66,7 +66,7 @@ returns-5 c =
     let f = c .before .before .before .before in
     let t = f .before .before .before in
     let e = t .before in
-    let s = e .before .before .before in
+    let s = e .before .before .before .before in
     let z : s .args .known .count - 0 ≡ s .args .known .count = omega arith in
     rw (not-false (s .args .known .sound) (e .if1 .left), sym (t .tables-sound .ensures) ∙ not-false _ (f .before .before .if2 .left), lt-ltb _ _ (f .before .if3 .left), le-leb _ _ (f .if4 .left))
     (c .routes-sound .ensures ∙ ap (λ (k : ℕ). routesSound (take k (s .args .known .domains)) (s .args .routes .now)) z)

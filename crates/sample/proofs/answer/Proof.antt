@@ -48,7 +48,7 @@ returns-2 : tie.Need-returns-2
 returns-2 c =
     let line = c .before .before in
     let decided = line .before .before .before .before .before .before in
-    let area = decided .forward .last .1 .1 .1 .1 .1 .1 .0 in
+    let area = decided .forward .last .1 .1 .1 .1 .1 .1 .1 .0 in
     let sized : length area ≤ 40 = search needs in
     forwarded-whole
     _

@@ -1,6 +1,8 @@
 -- `sample::answer_record` meets its contract.
 use borrow.Author.Needs.{needs}
 use native.Mathlib.Omega.{arith}
+use Prim.Native.Nat.{_≤_, _<_}
+use lib.ListN.{length}
 use Rattle.sample.proofs.answer_record.Statement.{statement}
 use Rattle.sample.proofs.answer_record.Tie as tie
 
@@ -28,11 +30,25 @@ same-length-2 c = search needs
 returns-2 : tie.Need-returns-2
 returns-2 c = search needs
 
+-- what is known where the function begins
+short : (s : tie.Start) → length (s .args .input .now) < 18446744073709551615
+short s = search needs
+
+window : (s : tie.Start) → s .args .place .window .end ≤ length (s .args .input .now)
+window s = search needs
+
+ahead : (s : tie.Start) → s .args .place .window .at ≤ s .args .place .window .end
+ahead s = search needs
+
 add-next : tie.Need-add-next
-add-next c = search needs
+add-next c =
+    let s = c .before .before .before .before .before .before .before .before .before in
+    record { fits = omega (arith, short s, window s, ahead s, c .if2 .left) }
 
 add-from : tie.Need-add-from
-add-from c = search needs
+add-from c =
+    let s = c .before .before .before .before .before .before .before .before .before in
+    record { fits = omega (arith, short s, window s, ahead s) }
 
 sub-answer : tie.Need-sub-answer
 sub-answer c = search needs

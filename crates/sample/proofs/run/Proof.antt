@@ -6,10 +6,10 @@ use Rattle.sample.proofs.run.Statement.{statement}
 use Rattle.sample.proofs.run.Tie as tie
 
 abbrev Inv-loop : tie.InvT-loop
-Inv-loop arriving leaving table levels input₀ out₀ place₀ turns₀ input out place turns = (length input ≡ 65536) × (length out ≡ 65536)
+Inv-loop arriving leaving table rows levels input₀ out₀ place₀ turns₀ input out place turns = (length input ≡ 65536) × (length out ≡ 65536)
 
 abbrev μ-loop : tie.MeasureT-loop
-μ-loop arriving leaving table levels input₀ out₀ place₀ turns₀ input out place turns = turns
+μ-loop arriving leaving table rows levels input₀ out₀ place₀ turns₀ input out place turns = turns
 
 begin-requires : tie.Need-begin-requires Inv-loop μ-loop
 begin-requires c κs = search needs

@@ -10,13 +10,13 @@ use Rattle.table.proofs.clear.Statement.{statement}
 use Rattle.table.proofs.clear.Tie as tie
 
 abbrev Inv-loop : tie.InvT-loop
-Inv-loop order₀ i₀ order i = (i ≤ 64) × (length order ≡ 64) × (take i order ≡ replicate i 0)
+Inv-loop order₀ n i₀ order i = (i ≤ n) × (length order ≡ length order₀) × (take i order ≡ replicate i 0)
 
 abbrev μ-loop : tie.MeasureT-loop
-μ-loop order₀ i₀ order i = 64 - i
+μ-loop order₀ n i₀ order i = n - i
 
 loop-holds : tie.Need-loop-holds Inv-loop μ-loop
-loop-holds c = (omega arith, c .pre, refl)
+loop-holds c = (omega arith, refl, refl)
 
 mul-order : tie.Need-mul-order Inv-loop μ-loop
 mul-order c = search needs
@@ -41,8 +41,9 @@ same-length c = search needs
 returns : tie.Need-returns Inv-loop μ-loop
 returns c =
     let v = c .before .loop in
-    let e : v .i ≡ 64 = omega arith in
-    sym (take-all 64 (v .order) (omega (arith, v .inv .1))) ∙ rw e at (v .inv .2)
+    let was = c .before .before .args .order .now in
+    let e : v .i ≡ length was = omega arith in
+    sym (take-all (length was) (v .order) (omega (arith, v .inv .1))) ∙ rw e at (v .inv .2)
 
 pub clear-spec : {M : Type 1} → statement M
 clear-spec =

@@ -18,11 +18,11 @@ Inv-loop pairs level levels n i₀ i =
 abbrev μ-loop : tie.MeasureT-loop
 μ-loop pairs level levels n i₀ i = n - i
 
-sized : (c : tie.Start Inv-loop μ-loop) → length (c .args .t1) ≡ 16
+sized : (c : tie.Start Inv-loop μ-loop) → length (c .args .t1) ≡ 256
 sized c = search needs
 
 -- what the turn reads is there
-held : (c : tie.In-loop Inv-loop μ-loop) → (c .before .loop .i < c .before .before .before .args .pairs) × (c .before .loop .i < 16)
+held : (c : tie.In-loop Inv-loop μ-loop) → (c .before .loop .i < c .before .before .before .args .pairs) × (c .before .loop .i < 256)
 held c =
     let b = c .before .before in
     (omega (arith, b .lesser .ensures, c .loop-test .taken), omega (arith, b .lesser .ensures, c .loop-test .taken))
