@@ -4,7 +4,7 @@ use borrow.Author.Tests.{not-true, not-false}
 use mathlib.Core.Path.{sym, _∙_}
 use mathlib.Core.Bool.{and-false, and-true}
 use Rattle.port.specs.Port.{isPlain}
-use Rattle.port.proofs.Laws.{facing-unlabelled, default-given}
+use Rattle.port.proofs.Laws.{later-flag, default-given}
 use Rattle.port.proofs.Port.is_plain.Statement.{statement}
 use Rattle.port.proofs.Port.is_plain.Tie as tie
 
@@ -16,7 +16,7 @@ unfolding isPlain
 returns c = simp (sym (c .before .is-usual .ensures) ∙ not-true _ (c .if1 .taken), and-false)
 
 returns-2 : tie.Need-returns-2
-returns-2 c = facing-unlabelled (c .before .before .before .before .args .self) (c .if2 .taken)
+returns-2 c = later-flag (c .before .before .before .before .args .self) (c .if2 .taken)
 
 is-zero-requires : tie.Need-is-zero-requires
 is-zero-requires c κs = search needs
