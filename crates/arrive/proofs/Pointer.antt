@@ -1,5 +1,5 @@
--- Where reading an option points: at most ten octets past its end, so a pointer into an area fits an octet. Its refusals are 7 to 13.
-use mathlib.Core.Path.{_≡_, refl}
+-- Where reading an option points: at most ten octets past its end, so a pointer into an area fits an octet. Its refusals are 7 to 13, and 23 at a strict port.
+use mathlib.Core.Path.{_≡_, refl, sym, _∙_, ap, subst}
 use mathlib.Core.Bool.{Bool, true, false, cond, not}
 use mathlib.Core.List.{List, [], _∷_}
 use Prim.Native.Nat.{ℕ, _+_, _-_, _≤_, _<_}
@@ -9,6 +9,9 @@ use lib.ListN.{length, length-take, length-drop}
 use borrow.Author.Tests.{ltb-true}
 use Rattle.label.specs.declared.Label.{Label}
 use Rattle.option.specs.Option.{domainOf, tagOf, tagLengthOf}
+use Rattle.option_slack.specs.Strict.{strictReading, stopsSlack}
+use Rattle.option_slack.proofs.Strict.{strict-else, strict-stops}
+use Rattle.option_read.specs.declared.Reading.{Reading}
 use Rattle.option_read.specs.Reading.{Check, check, notRead, checkedReading, categoriesIn, badPlace, tagChecks, labelIn, readingBy, readingFor}
 
 abbrev PointWithin : ℕ → List Check → Type 0
@@ -80,3 +83,15 @@ reading-number d o h =
       ),
     )
     h
+
+-- at a port that may be strict: from 7 on, and not 14
+pub strict-number : (strict : Bool) (d : ℕ) (o : List ℕ) → (strictReading strict d o .number ≡ 0 → ⊥)
+    → (7 ≤ strictReading strict d o .number) × (strictReading strict d o .number ≡ 14 → ⊥)
+strict-number strict d o h = go (stopsSlack strict (readingFor d o .number) o) refl
+  where
+    go : (b : Bool) → stopsSlack strict (readingFor d o .number) o ≡ b → (7 ≤ strictReading strict d o .number) × (strictReading strict d o .number ≡ 14 → ⊥)
+    go true e = rw (strict-stops strict d o e) (omega arith, λ z. omega arith)
+    go false e =
+        let r = strict-else strict d o e in
+        let n = reading-number d o (λ z. h (ap (λ (x : Reading). x .number) r ∙ z)) in
+        rw r (n .0, λ z. omega (arith, n .1))
