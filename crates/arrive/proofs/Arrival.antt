@@ -7,7 +7,7 @@ use Prim.Native.Nat.{ℕ, suc, _+_, _-_, _%_, _≤_, _<_}
 use native.Mathlib.Omega.{arith}
 use lib.Dec.{ltb, eqb}
 use lib.ListN.{length, getD, take, drop, length-drop, length-take, List·getD-eq-default}
-use mathlib.Core.Logic.{_⊎_, inl, inr}
+use mathlib.Core.Logic.{_⊎_, inl, inr, ⊎-elim}
 use lib.Seq.{getD-drop, getD-take, length-take-le}
 use borrow.Author.Tests.{eqb-false, eq-eqb, ne-eqb, le-leb, le-ltb, ltb-false}
 use Rattle.label.specs.declared.Run.{Run}
@@ -88,8 +88,8 @@ module _ (p : Port) (area : List ℕ) where
       Late o × Early o
   option-in i true e = (tt, tt)
   option-in i false e =
-      let n = strict-number (p .strict) (p .domain) (optionAt i area) (eqb-false _ _ e) in
-      (omega (arith, n .0), (λ z. omega (arith, n .0), n .1))
+      ⊎-elim (λ n. (omega (arith, n .0), (λ z. omega (arith, n .0), λ z. omega (arith, n .1)))) (λ n. (omega (arith, n), (λ z. omega (arith, n), λ z. omega (arith, n))))
+      (strict-number (p .strict) (p .domain) (optionAt i area) (eqb-false _ _ e))
 
   option-late : (q : Place) → Late (optionBy q p area) × Early (optionBy q p area)
   option-late Nowhere = (tt, tt)

@@ -3,11 +3,13 @@ use Prim.Native.Nat.{ℕ, zero, suc, _+_, _-_, _*_, _/_, _%_, _≤_, _<_}
 use mathlib.Core.Path.{_≡_, refl, sym, ap, _∙_}
 use mathlib.Core.Bool.{Bool, true, false, cond, _&&_, _||_}
 use mathlib.Core.List.{List, [], _∷_}
+use mathlib.Core.Logic.{⊎-elim}
 use native.Mathlib.Omega.{arith}
 use lib.Dec.{leb, eqb}
 use lib.ListN.{length, getD, take, drop, length-drop, drop-of-length-le}
 use lib.Seq.{getD-drop, drop-drop, take-all, take-nil}
 use borrow.Author.Tests.{leb-true, leb-false, ne-eqb}
+use Rattle.label.proofs.Bools.{never, less-or}
 use Rattle.option.specs.Option.{tagOf, tagLengthOf, numbersIn}
 use Rattle.option.specs.Index.{numberAt}
 use Rattle.option.proofs.Meaning.{numbers-length}
@@ -97,7 +99,7 @@ part-is o size end e f = go (leb (size - 4) (length o - 10)) refl f
         let l : length o - 10 < size - 4 = leb-false _ _ p in
         take-all (end - 10) (drop 10 o) (omega (arith, length-drop 10 o)) ∙ sym (take-all (tagLengthOf o - 4) (drop 10 o) (omega (arith, length-drop 10 o)))
 
--- an option that ends before its categories has none
+-- an option that ends where its categories would begin has none
 none-fine : (t : ℕ) → slackBody t [] ≡ false
 unfolding slackBody
 none-fine t = go (eqb t 1) (eqb t 5)
@@ -108,11 +110,14 @@ none-fine t = go (eqb t 1) (eqb t 5)
     go false true = refl
     go false false = refl
 
-pub short-fine : (o : List ℕ) → length o < 10 → slack o ≡ false
+pub short-fine : (o : List ℕ) → length o ≤ 10 → slack o ≡ false
 unfolding slack
 short-fine o h =
-    let e : drop 10 o ≡ [] = drop-of-length-le o {i = 10} (omega arith) in
+    let e : drop 10 o ≡ [] = drop-of-length-le o {i = 10} h in
     ap (slackBody (tagOf o)) (ap (take (tagLengthOf o - 4)) e ∙ take-nil (tagLengthOf o - 4)) ∙ none-fine (tagOf o)
+
+pub slack-long : (o : List ℕ) → slack o ≡ true → 10 < length o
+slack-long o e = ⊎-elim (λ h. h) (λ h. absurd (never (sym e ∙ short-fine o h))) (less-or 10 (length o))
 
 -- by the tag
 pub one-is : (o : List ℕ) → tagOf o ≡ 1 → slack o ≡ slackBitmap (categoriesIn o)

@@ -13,7 +13,7 @@ use Rattle.option_slack.proofs.is_slack.Statement.{statement}
 use Rattle.option_slack.proofs.is_slack.Tie as tie
 
 returns : tie.Need-returns
-returns c = sym (short-fine (c .before .before .args .octets .now) (c .if1 .taken))
+returns c = sym (short-fine (c .before .before .args .octets .now) (omega arith))
 
 shared-slice-read-widen : tie.Need-shared-slice-read-widen
 shared-slice-read-widen c = search needs
