@@ -165,6 +165,7 @@ pub fn take_wide_port(case: &[u8], at: usize) -> TakenPort {
         spellings: permitted,
         unlabelled: default.unlabelled,
         default: given,
+        strict: false,
     };
     TakenPort {
         port: port,
