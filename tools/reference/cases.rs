@@ -47,6 +47,7 @@
 //                   stored (2, at most 256), that many flag fields (2 each)
 //                 2 spellings (1, at most 15): 1 tag 1 shortest, 2 tag 1 with ten bitmap octets, 4 tag 2, 8 tag 5
 //                 4 default label: unlabelled (1), label
+//                 8 strict (1)
 //   wide table    from (4), to (4), level pair count (2), stored (2, at most 256), that many pairs (1 + 1),
 //                 row count (2), lent (2, at most 1024), that many rows of low (2), high (2), target low (2)
 //   route    prefix (4), length (1), port (1), domain (4)
@@ -59,7 +60,7 @@ use std::io::{self, Read, Write};
 
 use crate::basic::{self, BasicRecord, Marking, WayRecord, MAX_FLAG_FIELDS};
 use crate::decision::{deliver, forward, forward_in_box, Decision, Facts};
-use crate::entries::{Entries, BASIC_GROUP, DEFAULT_GROUP, GROUPS, SPELLINGS_GROUP};
+use crate::entries::{Entries, BASIC_GROUP, DEFAULT_GROUP, GROUPS, SPELLINGS_GROUP, STRICT_GROUP};
 use crate::file::{self, Refusal, SetRecord, Unwritten, MAX_PORTS, MAX_TABLES};
 use crate::label::{HeldLabel, Run, MAX_RUNS};
 use crate::memory::{Call, MemoryRecord, MAX_DESTINATIONS};
@@ -310,6 +311,9 @@ impl<'a> Fields<'a> {
         if groups & DEFAULT_GROUP != 0 {
             port.unlabelled = self.flag()?;
             port.default = self.label()?;
+        }
+        if groups & STRICT_GROUP != 0 {
+            port.strict = self.flag()?;
         }
         Some(port)
     }
@@ -566,7 +570,8 @@ impl Encoder {
         let basic = self.spare > 0 || port.basic != PortRecord::PLAIN.basic;
         let spellings = self.spare > 0 || port.spellings != PortRecord::PLAIN.spellings;
         let default = self.spare > 0 || port.unlabelled || port.default != PortRecord::PLAIN.default;
-        let groups = [(basic, BASIC_GROUP), (spellings, SPELLINGS_GROUP), (default, DEFAULT_GROUP)];
+        let strict = self.spare > 0 || port.strict;
+        let groups = [(basic, BASIC_GROUP), (spellings, SPELLINGS_GROUP), (default, DEFAULT_GROUP), (strict, STRICT_GROUP)];
         self.octets.push(groups.iter().filter(|(there, _)| *there).map(|(_, group)| group).sum());
         if basic {
             self.octets.push(port.basic.on as u8);
@@ -579,6 +584,9 @@ impl Encoder {
         if default {
             self.octets.push(port.unlabelled as u8);
             self.label(&port.default);
+        }
+        if strict {
+            self.octets.push(port.strict as u8);
         }
     }
 

@@ -1,7 +1,7 @@
 // The two jobs: forward and deliver.
 //
 // Document 01, "The order of checks, and each number". "The lowest number wins": the checks stand in the order of their numbers, save that
-// document 02 adds "numbers 19, 20 and 21 after 13, in that order", and 22 "after 15".
+// document 02 adds "numbers 19, 20 and 21 after 13, in that order", 22 "after 15" and 23 "right after 12".
 
 use crate::area::{build, size_fits, walk, Walk};
 use crate::basic::{self, Marking, BASIC_SECURITY};
@@ -75,7 +75,7 @@ fn refuse<T>(number: u8) -> Result<T, Fault> {
 /// The column "Type / code / pointer".
 fn report_of(fault: Fault, job_code: u8) -> (u8, u8, u8) {
     match fault.number {
-        3..=5 | 7..=13 | 19 => (PARAMETER_PROBLEM, 0, (HEADER_OCTETS + fault.offset) as u8),
+        3..=5 | 7..=13 | 19 | 23 => (PARAMETER_PROBLEM, 0, (HEADER_OCTETS + fault.offset) as u8),
         6 => (PARAMETER_PROBLEM, OPTION_MISSING, CIPSO),
         20 => (PARAMETER_PROBLEM, OPTION_MISSING, BASIC_SECURITY),
         14..=18 | 21 => (UNREACHABLE, job_code, 0),
@@ -104,7 +104,7 @@ struct Arrival<'a> {
     met: Walk<'a>,
 }
 
-/// Checks 3 to 13, 19 and 20 on an area of a fitting size at a sound port.
+/// Checks 3 to 13, 23, 19 and 20 on an area of a fitting size at a sound port.
 fn arrive<'a>(area: &'a [u8], port: &Port) -> Result<Arrival<'a>, Fault> {
     // 3 to 5.
     let met = walk(area, port.basic.is_some())?;
@@ -112,8 +112,8 @@ fn arrive<'a>(area: &'a [u8], port: &Port) -> Result<Arrival<'a>, Fault> {
         // 6: "label required, none there".
         (None, None) => return refuse(6),
         (None, Some(assigned)) => assigned.clone(),
-        // 7 to 13, 8 for a domain that is "not the port's" too.
-        (Some((at, option)), _) => match read(option, |domain| domain == port.domain) {
+        // 7 to 13, 8 for a domain that is "not the port's" too, and 23 at a strict port.
+        (Some((at, option)), _) => match read(option, |domain| domain == port.domain, port.strict) {
             Ok(label) => label,
             Err(fault) => return Err(Fault { number: fault.number, offset: at + fault.offset }),
         },

@@ -9,10 +9,11 @@ pub const BUILT: &[u8] = &[1, 2, 3, 4, 5, 6, 7, 8, 9, 10, 11, 12, 13, 14, 15, 16
 pub const KNOWN: &[u8] = &[1, 2, 3, 4, 5, 6, 7, 8, 9, 10, 11, 12, 13, 14, 15, 16, 17, 18, 19, 20, 21, 22, 24, 25];
 
 /// The groups of a wide port that are built.
-pub const GROUPS: u8 = BASIC_GROUP | SPELLINGS_GROUP | DEFAULT_GROUP;
+pub const GROUPS: u8 = BASIC_GROUP | SPELLINGS_GROUP | DEFAULT_GROUP | STRICT_GROUP;
 pub const BASIC_GROUP: u8 = 1;
 pub const SPELLINGS_GROUP: u8 = 2;
 pub const DEFAULT_GROUP: u8 = 4;
+pub const STRICT_GROUP: u8 = 8;
 
 #[derive(Clone)]
 pub struct Entries {

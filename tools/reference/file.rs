@@ -1,12 +1,12 @@
 // The house file: ports and tables as octets.
 //
-// Document 02, wishes 1 and 8. Every number is big-endian, every list is led by its count.
+// Document 02, wishes 1, 8 and 10. Every number is big-endian, every list is led by its count.
 //
 //   file     length of the whole file (2), version (1), port count (1), ports, table count (1), tables
 //   label    domain (4), level (1), run count (1), low (2) and high (2) of each run
 //   port     domain (4), lowest label, highest label, required (1: 0 or 1), assigned label; from version 2 on also: Basic Security on
 //            (1: 0 or 1); receiving: lowest level (1), highest level (1), count (2), flag fields (2 each); sending: the same four;
-//            permitted spellings (1); unlabelled (1: 0 or 1); default label
+//            permitted spellings (1); unlabelled (1: 0 or 1); default label; from version 3 on also: strict (1: 0 or 1)
 //   table    from (4), to (4), pair count (2), each pair (1 + 1), row count (2), low (2), high (2) and target low (2) of each row
 
 use crate::basic::{rank, BasicRecord, WayRecord, MAX_FLAG_FIELDS};
@@ -29,16 +29,20 @@ pub struct Version {
     pub max_rows: usize,
     /// "with the port fields added since"
     pub later_fields: bool,
+    /// "carries the mark"
+    pub mark: bool,
 }
 
 /// "one version octet (1)", "32 KiB". "version 1 files still read under their old limits".
 pub const FIRST: Version =
-    Version { octet: 1, max_file: 32 * 1024, max_pairs: FIRST_LEVEL_PAIRS, max_rows: FIRST_ROWS, later_fields: false };
+    Version { octet: 1, max_file: 32 * 1024, max_pairs: FIRST_LEVEL_PAIRS, max_rows: FIRST_ROWS, later_fields: false, mark: false };
 /// Wish 8: "version 2, at most 60 KiB, with the port fields added since".
-pub const SECOND: Version = Version { octet: 2, max_file: 60 * 1024, max_pairs: MAX_LEVEL_PAIRS, max_rows: MAX_ROWS, later_fields: true };
-pub const VERSIONS: [Version; 2] = [FIRST, SECOND];
-/// "The writer writes version 2".
-pub const WRITTEN: Version = SECOND;
+pub const SECOND: Version =
+    Version { octet: 2, max_file: 60 * 1024, max_pairs: MAX_LEVEL_PAIRS, max_rows: MAX_ROWS, later_fields: true, mark: false };
+/// Wish 10: "File version 3, otherwise as version 2 and now the one written, carries the mark".
+pub const THIRD: Version = Version { octet: 3, mark: true, ..SECOND };
+pub const VERSIONS: [Version; 3] = [FIRST, SECOND, THIRD];
+pub const WRITTEN: Version = THIRD;
 
 /// Ports and tables as they are held: 16 and 8 places with a count each.
 #[derive(Clone, PartialEq, Eq)]
@@ -156,6 +160,10 @@ impl<'a> Reader<'a> {
         let mut port = PortRecord { domain, lowest, highest, required, assigned, ..PortRecord::PLAIN };
         if version.later_fields {
             self.later_fields(&mut port)?;
+        }
+        // "older files read as not strict"
+        if version.mark {
+            port.strict = self.field(1, |strict| strict <= 1)? == 1;
         }
         Ok(port)
     }
@@ -287,6 +295,9 @@ fn port_octets(port: &PortRecord, version: &Version) -> Vec<u8> {
         octets.extend(way_octets(&port.basic.sending));
         octets.extend([port.spellings, port.unlabelled as u8]);
         octets.extend(label_octets(&port.default));
+    }
+    if version.mark {
+        octets.push(port.strict as u8);
     }
     octets
 }

@@ -75,9 +75,9 @@ pub fn message_of(report: &Report, header: &[u8], data: &[u8]) -> Vec<u8> {
     message
 }
 
-/// "For refusals 3 to 5 and 7 to 13 nothing is sent."
+/// "For refusals 3 to 5 and 7 to 13 nothing is sent." Wish 10: "23 (12/0, nothing sent)".
 fn never_sent(number: u8) -> bool {
-    matches!(number, 3..=5 | 7..=13)
+    matches!(number, 3..=5 | 7..=13 | 23)
 }
 
 /// The reply's options area: "the header's option 134 copied octet for octet, zeros to a multiple of 4, when it was valid; when it wasn't,

@@ -99,8 +99,25 @@ fn read_ranges(octets: &[u8]) -> Result<Categories, usize> {
     Ok(categories)
 }
 
-/// Checks 7 to 13 on one option whose length octet gives its length. `domain_fits` is what 8 asks of the domain.
-pub fn read(option: &[u8], domain_fits: impl Fn(u32) -> bool) -> Result<Label, Fault> {
+/// Document 02, wish 10: "a tag 1 bitmap with a trailing zero octet, unless it has exactly ten octets, touching tag 5 pairs, and a last
+/// bottom of 0 written out". Asked of the categories of a tag that passes 12.
+fn slack(tag: u8, octets: &[u8]) -> bool {
+    match tag {
+        BITMAP => octets.last() == Some(&0) && octets.len() != TEN_OCTETS,
+        RANGES => {
+            let numbers: Vec<u16> = (0..octets.len()).step_by(2).map(|at| number_at(octets, at)).collect();
+            // Tops stand at even places, bottoms at odd ones.
+            let touching = (2..numbers.len()).step_by(2).any(|top| numbers[top] + 1 == numbers[top - 1]);
+            let bottom_of_0 = numbers.len() % 2 == 0 && numbers.last() == Some(&0);
+            touching || bottom_of_0
+        }
+        _ => false,
+    }
+}
+
+/// Checks 7 to 13 and 23 on one option whose length octet gives its length. `domain_fits` is what 8 asks of the domain, and 23 is tested
+/// where the port is strict.
+pub fn read(option: &[u8], domain_fits: impl Fn(u32) -> bool, strict: bool) -> Result<Label, Fault> {
     // 7: "option 134 shorter than 10", at its length octet.
     if option.len() < CATEGORIES_AT {
         return fault(7, LENGTH_AT);
@@ -136,6 +153,10 @@ pub fn read(option: &[u8], domain_fits: impl Fn(u32) -> bool) -> Result<Label, F
         Ok(categories) => categories,
         Err(at) => return fault(12, CATEGORIES_AT + at),
     };
+    // 23: "tested right after 12, pointer at the tag's first category octet".
+    if strict && slack(tag, octets) {
+        return fault(23, CATEGORIES_AT);
+    }
     // 13: "octets after the tag", at the first of them.
     if tag_end < option.len() {
         return fault(13, tag_end);
@@ -150,13 +171,13 @@ pub fn read_alone(octets: &[u8]) -> Result<Label, Fault> {
     if !begins || !fills {
         return fault(3, 0);
     }
-    read(octets, |domain| domain != 0)
+    read(octets, |domain| domain != 0, false)
 }
 
 /// "An option is valid when it has the form above, one tag that keeps to the table, length 6 plus its tag's length, and at most 40 octets."
 /// Its domain is free. Asked of an option whose length octet gives its length.
 pub fn valid(option: &[u8]) -> bool {
-    read(option, |_| true).is_ok()
+    read(option, |_| true, false).is_ok()
 }
 
 /// The longest bitmap of tag 1.

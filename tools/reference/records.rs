@@ -29,6 +29,8 @@ pub struct PortRecord {
     /// Wish 6: "A leaving port may face unlabelled hosts with one default label."
     pub unlabelled: bool,
     pub default: HeldLabel,
+    /// Wish 10: "A port may be marked strict".
+    pub strict: bool,
 }
 
 /// What a sound port record says. `assigned` is none where a label is required, `basic` where option 130 is switched off, `default` where
@@ -41,6 +43,7 @@ pub struct Port {
     pub basic: Option<Basic>,
     pub spellings: u8,
     pub default: Option<Label>,
+    pub strict: bool,
 }
 
 impl PortRecord {
@@ -54,6 +57,7 @@ impl PortRecord {
         spellings: 0,
         unlabelled: false,
         default: HeldLabel::ALL_ZERO,
+        strict: false,
     };
 
     /// The later fields "as 01 had them".
@@ -101,7 +105,7 @@ impl PortRecord {
             }
             None
         };
-        Some(Port { domain: self.domain, lowest, highest, assigned, basic, spellings: self.spellings, default })
+        Some(Port { domain: self.domain, lowest, highest, assigned, basic, spellings: self.spellings, default, strict: self.strict })
     }
 }
 

@@ -1,4 +1,4 @@
--- Laws of checks 3 to 14: the walk, the option and the arriving port's range.
+-- Laws of checks 3 to 14 and 23: the walk, the option and the arriving port's range.
 use mathlib.Core.Path.{_≡_, refl, sym, _∙_, ap, subst}
 use mathlib.Core.Bool.{Bool, true, false, cond, not, _||_, true≢false}
 use mathlib.Core.List.{List, [], _∷_, _++_}
@@ -7,7 +7,7 @@ use Prim.Native.Nat.{ℕ, suc, _+_, _-_, _%_, _≤_, _<_}
 use native.Mathlib.Omega.{arith}
 use lib.Dec.{ltb, eqb}
 use lib.ListN.{length, getD, take, drop, length-drop, length-take, List·getD-eq-default}
-use mathlib.Core.Logic.{_⊎_, inl, inr}
+use mathlib.Core.Logic.{_⊎_, inl, inr, ⊎-elim}
 use lib.Seq.{getD-drop, getD-take, length-take-le}
 use borrow.Author.Tests.{eqb-false, eq-eqb, ne-eqb, le-leb, le-ltb, ltb-false}
 use Rattle.label.specs.declared.Run.{Run}
@@ -23,6 +23,8 @@ use Rattle.option_read.specs.Reading.{framed, readingFor}
 use Rattle.option_read.specs.Keys.{keyed, labelled, keyReadingFor, keysAfter, ReadsKeys}
 use Rattle.option_read.proofs.Checks.{parts-framed}
 use Rattle.option_read.proofs.Theorems.{reads}
+use Rattle.option_slack.specs.Strict.{stopsSlack}
+use Rattle.option_slack.proofs.Strict.{strict-else, strict-stops}
 use Rattle.area.specs.declared.Place.{Place}
 use Rattle.area.specs.declared.Place.the-variants.{Nowhere, At}
 use Rattle.area.specs.declared.Walk.{Walk}
@@ -40,12 +42,12 @@ use Rattle.port.specs.declared.Port.{Port}
 use Rattle.port.specs.Port.{portSound}
 use Rattle.port.proofs.Laws.{sound}
 use Rattle.decision.specs.Decision.{Refusal}
-use Rattle.arrive.specs.Checks.{faulty, barred, when, firstOf, walkAt, walkRefusal, walkCheck, placeIn, basicIn, optionAt, requiredBy, requiredCheck, optionBy, optionCheck, badBasicBy, badBasicCheck, arrivingBasic, missingBasicBy, missingBasicCheck, basicPasses, basicRangeCheck, labelBy, arrivingLabel, rangeCheck, arrivalChecks}
+use Rattle.arrive.specs.Checks.{faulty, barred, when, firstOf, walkAt, walkRefusal, walkCheck, placeIn, basicIn, optionAt, readAt, requiredBy, requiredCheck, optionBy, optionCheck, badBasicBy, badBasicCheck, arrivingBasic, missingBasicBy, missingBasicCheck, basicPasses, basicRangeCheck, labelBy, arrivingLabel, rangeCheck, arrivalChecks}
 use Rattle.decision.specs.declared.Verdict.{Verdict}
 use Rattle.decision.specs.Verdict.{verdictOf, stopped, going}
 use Rattle.arrive.specs.Verdict.{keysBy, arrivalOf, arrivalKeys, Arrives}
 use Rattle.arrive.specs.Stages.{placeChecks, basicChecks, isOpen, insteadOf, beforeRange, heldBetween, ArrivesAt}
-use Rattle.arrive.proofs.Pointer.{reading-pointer, reading-number}
+use Rattle.arrive.proofs.Pointer.{reading-pointer, strict-number}
 use Rattle.arrive.proofs.First.{first-append, Real, late-else, Late, late-first, late-when, late-real, Early, AllEarly, early-first, early-when, between, before-none, before-zero, first-none, when-none, not-false-yes}
 use Rattle.arrive.proofs.Verdicts.{held-in-range, label-stands}
 
@@ -54,7 +56,7 @@ pub arrival-refused : (p : Port) (area : List ℕ) (code n at : ℕ) → walkAt 
 unfolding walkCheck
 arrival-refused p area code n at e = rw e
 
--- by place: 6 to 13, and then 19 to 21 before 14
+-- by place: 6 to 13 with 23, and then 19 to 21 before 14
 abbrev labelChecks : Place → Port → List ℕ → List (Option Refusal)
 labelChecks l p area = requiredBy l p ∷ optionBy l p area ∷ []
 
@@ -81,17 +83,17 @@ walk-early on area (Refused n at) e =
     (λ z. omega (arith, r .0), λ z. omega (arith, r .1))
 
 module _ (p : Port) (area : List ℕ) where
-  option-in : (i : ℕ) → (b : Bool) → eqb (readingFor (p .domain) (optionAt i area) .number) 0 ≡ b
-      → let o = when (not b) (faulty (readingFor (p .domain) (optionAt i area) .number) (i + readingFor (p .domain) (optionAt i area) .pointer)) in
+  option-in : (i : ℕ) → (b : Bool) → eqb (readAt p (optionAt i area) .number) 0 ≡ b
+      → let o = when (not b) (faulty (readAt p (optionAt i area) .number) (i + readAt p (optionAt i area) .pointer)) in
       Late o × Early o
   option-in i true e = (tt, tt)
   option-in i false e =
-      let n = reading-number (p .domain) (optionAt i area) (eqb-false _ _ e) in
-      (omega (arith, n .0), (λ z. omega (arith, n .0), λ z. omega (arith, n .1)))
+      ⊎-elim (λ n. (omega (arith, n .0), (λ z. omega (arith, n .0), λ z. omega (arith, n .1)))) (λ n. (omega (arith, n), (λ z. omega (arith, n), λ z. omega (arith, n))))
+      (strict-number (p .strict) (p .domain) (optionAt i area) (eqb-false _ _ e))
 
   option-late : (q : Place) → Late (optionBy q p area) × Early (optionBy q p area)
   option-late Nowhere = (tt, tt)
-  option-late (At i) = option-in i (eqb (readingFor (p .domain) (optionAt i area) .number) 0) refl
+  option-late (At i) = option-in i (eqb (readAt p (optionAt i area) .number) 0) refl
 
 required-late : (q : Place) (p : Port) → Late (requiredBy q p) × Early (requiredBy q p)
 required-late Nowhere p = (late-when (p .required) _ (omega arith), early-when (p .required) _ (λ z. omega arith) (λ z. omega arith))
@@ -204,12 +206,12 @@ placed-framed area at o =
       framed = parts-framed (optionAt at area) (record { long = omega (arith, i .least, i .size); kind = cipso-octet (getD (optionAt at area) 0 0) (i .first); size = i .second });
     }
 
--- the checks of an option, by what was read
-abbrev readChecks : Port → ℕ → ℕ → Reading → List (Option Refusal)
-readChecks p at code x =
+-- the checks of an option, by what was read, at a port that may be strict and for its domain
+abbrev readChecks : Port → ℕ → ℕ → Reading → Reading → List (Option Refusal)
+readChecks p at code x y =
     none
     ∷ when (not (eqb (x .number) 0)) (faulty (x .number) (at + x .pointer))
-    ∷ when (not (inRange (p .lowest) (p .highest) (x .label))) (barred 14 code)
+    ∷ when (not (inRange (p .lowest) (p .highest) (y .label))) (barred 14 code)
     ∷ []
 
 -- Reading the option there: its slice is the option, its refusal is that of the checks, and its label is held against the range.
@@ -217,18 +219,33 @@ module _ (p : Port) (area : List ℕ) (at code : ℕ) (r : Reading) (is : r ≡ 
   r-is : r ≡ readingFor (p .domain) (optionAt at area)
   r-is = is ∙ ap (readingFor (p .domain)) (slice-is at area)
 
-  pub read-refused : (r .number ≡ 0 → ⊥) → firstOf (placeChecks (At at) p area code) ≡ some (faulty (r .number) (at + r .pointer))
-  read-refused h = ap (λ (x : Reading). firstOf (readChecks p at code x)) (sym r-is) ∙ rw (ne-eqb (r .number) 0 h)
+  -- whether 23 decides
+  stops-is : (b : Bool) → stopsSlack (p .strict) (r .number) (take (at + getD area (at + 1) 0 - at) (drop at area)) ≡ b
+      → stopsSlack (p .strict) (readingFor (p .domain) (optionAt at area) .number) (optionAt at area) ≡ b
+  stops-is b e = (λ i. stopsSlack (p .strict) (sym r-is i .number) (sym (slice-is at area) i)) ∙ e
 
-  pub read-outside : r .number ≡ 0 → inRange (p .lowest) (p .highest) (r .label) ≡ false → firstOf (placeChecks (At at) p area code) ≡ some (barred 14 code)
-  read-outside h e = ap (λ (x : Reading). firstOf (readChecks p at code x)) (sym r-is) ∙ rw (eq-eqb (r .number) 0 h, e)
+  pub read-slack : stopsSlack (p .strict) (r .number) (take (at + getD area (at + 1) 0 - at) (drop at area)) ≡ true
+      → firstOf (placeChecks (At at) p area code) ≡ some (faulty 23 (at + 10))
+  read-slack e =
+      ap (λ (x : Reading). firstOf (readChecks p at code x (readingFor (p .domain) (optionAt at area))))
+      (strict-stops (p .strict) (p .domain) (optionAt at area) (stops-is true e))
 
-  pub read-inside : r .number ≡ 0 → inRange (p .lowest) (p .highest) (r .label) ≡ true
-      → (firstOf (placeChecks (At at) p area code) ≡ none) × (labelBy (At at) p area ≡ r .label)
-  read-inside h e = (
-    ap (λ (x : Reading). firstOf (readChecks p at code x)) (sym r-is) ∙ rw (eq-eqb (r .number) 0 h, e),
-    ap (λ (x : Reading). x .label) (sym r-is),
-  )
+  module _ (passed : stopsSlack (p .strict) (r .number) (take (at + getD area (at + 1) 0 - at) (drop at area)) ≡ false) where
+    checks-are : firstOf (placeChecks (At at) p area code) ≡ firstOf (readChecks p at code r r)
+    checks-are =
+        ap (λ (x : Reading). firstOf (readChecks p at code x (readingFor (p .domain) (optionAt at area))))
+        (strict-else (p .strict) (p .domain) (optionAt at area) (stops-is false passed))
+        ∙ ap (λ (x : Reading). firstOf (readChecks p at code x x)) (sym r-is)
+
+    pub read-refused : (r .number ≡ 0 → ⊥) → firstOf (placeChecks (At at) p area code) ≡ some (faulty (r .number) (at + r .pointer))
+    read-refused h = checks-are ∙ rw (ne-eqb (r .number) 0 h)
+
+    pub read-outside : r .number ≡ 0 → inRange (p .lowest) (p .highest) (r .label) ≡ false → firstOf (placeChecks (At at) p area code) ≡ some (barred 14 code)
+    read-outside h e = checks-are ∙ rw (eq-eqb (r .number) 0 h, e)
+
+    pub read-inside : r .number ≡ 0 → inRange (p .lowest) (p .highest) (r .label) ≡ true
+        → (firstOf (placeChecks (At at) p area code) ≡ none) × (labelBy (At at) p area ≡ r .label)
+    read-inside h e = (checks-are ∙ rw (eq-eqb (r .number) 0 h, e), ap (λ (x : Reading). x .label) (sym r-is))
 
   pub read-formed : WholeAt Cipso area at → Octets (optionAt at area) → portSound p ≡ true → r .number ≡ 0 → wellFormed (r .label) ≡ true
   read-formed o oct s h =
@@ -263,10 +280,22 @@ module _ (p : Port) (area keys keys′ : List ℕ) (at code : ℕ) (r : KeyReadi
   reading-is : whole ≡ readingFor (p .domain) (optionAt at area)
   reading-is = is .reading room ∙ ap (λ (k : ℕ). readingFor (p .domain) (take k (drop at area))) here
 
-  pub keys-refused : (r .number ≡ 0 → ⊥) → ArrivesAt (At at) p area code keys keys′ (stopped (r .number) 12 0 (20 + (at + r .pointer)))
-  keys-refused h =
+  -- whether 23 decides
+  abbrev stops : Bool
+  stops = stopsSlack (p .strict) (r .number) (take (at + getD area (at + 1) 0 - at) (drop at area))
+
+  pub keys-slack : stops ≡ true → ArrivesAt (At at) p area code keys keys′ (stopped 23 12 0 (20 + (at + 10)))
+  keys-slack e =
       record {
-        answer = ap (λ (o : Option Refusal). verdictOf o (labelBy (At at) p area .level) (labelBy (At at) p area .count)) (sym (read-refused p area at code whole (is .reading room) h));
+        answer = ap (λ (o : Option Refusal). verdictOf o (labelBy (At at) p area .level) (labelBy (At at) p area .count)) (sym (read-slack p area at code whole (is .reading room) e));
+        left = left-is;
+        stands = λ z. absurd (omega arith);
+      }
+
+  pub keys-refused : stops ≡ false → (r .number ≡ 0 → ⊥) → ArrivesAt (At at) p area code keys keys′ (stopped (r .number) 12 0 (20 + (at + r .pointer)))
+  keys-refused passed h =
+      record {
+        answer = ap (λ (o : Option Refusal). verdictOf o (labelBy (At at) p area .level) (labelBy (At at) p area .count)) (sym (read-refused p area at code whole (is .reading room) passed h));
         left = left-is;
         stands = λ z. absurd (h z);
       }
@@ -290,22 +319,22 @@ module _ (p : Port) (area keys keys′ : List ℕ) (at code : ℕ) (r : KeyReadi
         held-in-range (p .lowest) (p .highest) (whole .label) (going (r .level) (r .count)) keys′ (g .low-formed) (g .high-formed) formed-is
         (g .low-domain ∙ sym owner-is) (owner-is ∙ sym (g .high-domain)) refl (sym used-is)
 
-    pub keys-held : ArrivesAt (At at) p area code keys keys′
+    pub keys-held : stops ≡ false → ArrivesAt (At at) p area code keys keys′
         (cond (heldBetween (p .lowest) (p .highest) (going (r .level) (r .count)) keys′) (going (r .level) (r .count)) (stopped 14 3 code 0))
-    keys-held = go (heldBetween (p .lowest) (p .highest) (going (r .level) (r .count)) keys′) refl
+    keys-held passed = go (heldBetween (p .lowest) (p .highest) (going (r .level) (r .count)) keys′) refl
       where
         go : (b : Bool) → heldBetween (p .lowest) (p .highest) (going (r .level) (r .count)) keys′ ≡ b
             → ArrivesAt (At at) p area code keys keys′ (cond b (going (r .level) (r .count)) (stopped 14 3 code 0))
         go true e =
             record {
               answer = ap (λ (x : KeyReading). going (x .level) (x .count)) answer-is
-                  ∙ ap (λ (o : Option Refusal). verdictOf o (labelBy (At at) p area .level) (labelBy (At at) p area .count)) (sym (read-inside p area at code whole (is .reading room) z (sym held-is ∙ e) .0));
+                  ∙ ap (λ (o : Option Refusal). verdictOf o (labelBy (At at) p area .level) (labelBy (At at) p area .count)) (sym (read-inside p area at code whole (is .reading room) passed z (sym held-is ∙ e) .0));
               left = left-is;
               stands = λ w. sym used-is ∙ ap (λ (x : Reading). used (x .label)) reading-is;
             }
         go false e =
             record {
-              answer = ap (λ (o : Option Refusal). verdictOf o (labelBy (At at) p area .level) (labelBy (At at) p area .count)) (sym (read-outside p area at code whole (is .reading room) z (sym held-is ∙ e)));
+              answer = ap (λ (o : Option Refusal). verdictOf o (labelBy (At at) p area .level) (labelBy (At at) p area .count)) (sym (read-outside p area at code whole (is .reading room) passed z (sym held-is ∙ e)));
               left = left-is;
               stands = λ w. absurd (omega arith);
             }
@@ -393,7 +422,7 @@ module _ (p : Port) (area keys : List ℕ) (code : ℕ) where
             stands = λ z. absurd (omega (arith, area-refused (p .basic .on) area n at e .0));
           }
 
-      -- what 6 to 13 and 14 answered, with 19 to 21 between
+      -- what 6 to 13, 23 and 14 answered, with 19 to 21 between
       pub port-placed : (l b : Place) (keys′ : List ℕ) (r : Verdict) → walkAt p area ≡ Sound l b → ArrivesAt l p area code keys keys′ r
           → Arrives p area code keys keys′ (beforeRange r (firstOf (basicChecks b (p .basic .on) (p .basic .receiving) area code)))
       unfolding arrivalOf arrivalKeys

@@ -1,7 +1,8 @@
--- Where reading an option points: at most ten octets past its end, so a pointer into an area fits an octet. Its refusals are 7 to 13.
-use mathlib.Core.Path.{_≡_, refl}
+-- Where reading an option points: at most ten octets past its end, so a pointer into an area fits an octet. Its refusals are 7 to 13, and 23 at a strict port.
+use mathlib.Core.Path.{_≡_, refl, _∙_, ap}
 use mathlib.Core.Bool.{Bool, true, false, cond, not}
 use mathlib.Core.List.{List, [], _∷_}
+use mathlib.Core.Logic.{_⊎_, inl, inr}
 use Prim.Native.Nat.{ℕ, _+_, _-_, _≤_, _<_}
 use native.Mathlib.Omega.{arith}
 use lib.Dec.{ltb, eqb}
@@ -9,6 +10,9 @@ use lib.ListN.{length, length-take, length-drop}
 use borrow.Author.Tests.{ltb-true}
 use Rattle.label.specs.declared.Label.{Label}
 use Rattle.option.specs.Option.{domainOf, tagOf, tagLengthOf}
+use Rattle.option_slack.specs.Strict.{strictReading, stopsSlack}
+use Rattle.option_slack.proofs.Strict.{strict-else, strict-stops}
+use Rattle.option_read.specs.declared.Reading.{Reading}
 use Rattle.option_read.specs.Reading.{Check, check, notRead, checkedReading, categoriesIn, badPlace, tagChecks, labelIn, readingBy, readingFor}
 
 abbrev PointWithin : ℕ → List Check → Type 0
@@ -50,10 +54,10 @@ reading-pointer d o =
     )
 
 -- a number of 7 to 13
-abbrev OptionNumber : ℕ → Type 0
+abbrev pub OptionNumber : ℕ → Type 0
 OptionNumber n = (7 ≤ n) × (n ≤ 13)
 
-abbrev OptionNumbers : List Check → Type 0
+abbrev pub OptionNumbers : List Check → Type 0
 OptionNumbers [] = Unit {0}
 OptionNumbers (c ∷ cs) = OptionNumber (c .number) × OptionNumbers cs
 
@@ -80,3 +84,12 @@ reading-number d o h =
       ),
     )
     h
+
+-- at a port that may be strict, 23 too
+pub strict-number : (strict : Bool) (d : ℕ) (o : List ℕ) → (strictReading strict d o .number ≡ 0 → ⊥)
+    → OptionNumber (strictReading strict d o .number) ⊎ (strictReading strict d o .number ≡ 23)
+strict-number strict d o h = go (stopsSlack strict (readingFor d o .number) o) refl
+  where
+    go : (b : Bool) → stopsSlack strict (readingFor d o .number) o ≡ b → OptionNumber (strictReading strict d o .number) ⊎ (strictReading strict d o .number ≡ 23)
+    go true e = inr (ap (λ (x : Reading). x .number) (strict-stops strict d o e))
+    go false e = let r = strict-else strict d o e in inl (rw r (reading-number d o (λ z. h (ap (λ (x : Reading). x .number) r ∙ z))))

@@ -1,5 +1,5 @@
 -- Document 01, "The order of checks, and each number": the checks that both jobs share, what each asks and what it reports, and their order. Document 02,
--- Wish 3: 19, 20 and 21. Of 1 and 2, `badArea` stands in `area`, and what makes a record sound with the record.
+-- Wish 3: 19, 20 and 21; Wish 10: 23. Of 1 and 2, `badArea` stands in `area`, and what makes a record sound with the record.
 use mathlib.Core.Path.{_≡_}
 use mathlib.Core.Bool.{Bool, true, false, not, _&&_}
 use mathlib.Core.List.{List, [], _∷_, _++_}
@@ -9,7 +9,9 @@ use lib.Dec.{eqb}
 use lib.ListN.{getD, take, drop}
 use Rattle.label.specs.declared.Label.{Label}
 use Rattle.label.specs.Label.{inRange}
+use Rattle.option_read.specs.declared.Reading.{Reading}
 use Rattle.option_read.specs.Reading.{readingFor}
+use Rattle.option_slack.specs.Strict.{strictReading}
 use Rattle.area.specs.declared.Place.{Place}
 use Rattle.area.specs.declared.Place.the-variants.{Nowhere, At}
 use Rattle.area.specs.declared.Walk.{Walk}
@@ -79,12 +81,15 @@ requiredBy (At p) port = none
 unfoldable pub requiredCheck : Port → List ℕ → Option Refusal
 requiredCheck port area = requiredBy (placeIn (walkAt port area)) port
 
--- 7 to 13: what is wrong with the option, read for the port's domain
+-- 7 to 12, 23 and 13: what is wrong with the option, read for the port's domain, strictly where the port is strict
+abbrev pub readAt : Port → List ℕ → Reading
+readAt port o = strictReading (port .strict) (port .domain) o
+
 abbrev pub optionBy : Place → Port → List ℕ → Option Refusal
 optionBy Nowhere port area = none
 optionBy (At p) port area =
-    when (not (eqb (readingFor (port .domain) (optionAt p area) .number) 0))
-    (faulty (readingFor (port .domain) (optionAt p area) .number) (p + readingFor (port .domain) (optionAt p area) .pointer))
+    when (not (eqb (readAt port (optionAt p area) .number) 0))
+    (faulty (readAt port (optionAt p area) .number) (p + readAt port (optionAt p area) .pointer))
 
 unfoldable pub optionCheck : Port → List ℕ → Option Refusal
 optionCheck port area = optionBy (placeIn (walkAt port area)) port area
@@ -131,12 +136,12 @@ arrivingLabel port area = labelBy (placeIn (walkAt port area)) port area
 unfoldable pub rangeCheck : Port → List ℕ → ℕ → Option Refusal
 rangeCheck port area code = when (not (inRange (port .lowest) (port .highest) (arrivingLabel port area))) (barred 14 code)
 
--- checks 3 to 13 and 19 to 21 at the port where a datagram arrives, in their order: every job begins with these
+-- checks 3 to 13, 23 and 19 to 21 at the port where a datagram arrives, in their order: every job begins with these
 abbrev pub optionChecks : Port → List ℕ → ℕ → List (Option Refusal)
 optionChecks port area code =
     walkCheck port area  -- 3, 4, 5
     ∷ requiredCheck port area  -- 6
-    ∷ optionCheck port area  -- 7 to 13
+    ∷ optionCheck port area  -- 7 to 12, 23, 13
     ∷ badBasicCheck port area  -- 19
     ∷ missingBasicCheck port area  -- 20
     ∷ basicRangeCheck port area code  -- 21

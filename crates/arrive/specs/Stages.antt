@@ -22,7 +22,7 @@ use Rattle.arrive.specs.Checks.{barred, when, firstOf, requiredBy, optio
 use Rattle.decision.specs.Verdict.{verdictOf}
 use Rattle.arrive.specs.Verdict.{keysBy}
 
--- checks 6 to 13, and 14, with the option 134 at its place
+-- checks 6 to 13 and 23, and 14, with the option 134 at its place
 abbrev pub placeChecks : Place → Port → List ℕ → ℕ → List (Option Refusal)
 placeChecks q port area code =
     requiredBy q port

@@ -1,4 +1,4 @@
--- Document 01, "The order of checks": what arrives at a port, checks 1 to 14 and 19 to 21: their verdict, and the keys that a lent list holds then.
+-- Document 01, "The order of checks": what arrives at a port, checks 1 to 14, 19 to 21 and 23: their verdict, and the keys that a lent list holds then.
 use mathlib.Core.Bool.{cond, not, _||_}
 use mathlib.Core.List.{List, _∷_}
 use mathlib.Core.Option.{Option}

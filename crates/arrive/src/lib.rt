@@ -1,4 +1,5 @@
-// What both jobs share: checks 1 to 14 and 19 to 21 of a datagram that arrives at a port (document 01, "The order of checks"; document 02, Wish 3).
+// What both jobs share: checks 1 to 14, 19 to 21 and 23 of a datagram that arrives at a port (document 01, "The order of checks"; document 02, Wishes 3
+// and 10).
 use area::Place;
 use area::Walk;
 use area::bad_area;
@@ -20,8 +21,10 @@ use label_keys::Look;
 use label_keys::label_keys;
 use label_keys::look_between;
 use label_keys::runs_between;
+use option::CATEGORIES_AT;
 use option::OPTION_TYPE;
 use option_read::read_keys;
+use option_slack::stops_slack;
 use port::Port;
 use port::port_sound;
 ghost use mathlib.Core.Path.{_≡_};
@@ -38,7 +41,7 @@ ghost use Rattle.decision.specs.Verdict.{stopped, going};
 ghost use Rattle.arrive.specs.Checks.{firstOf, basicIn, optionAt};
 ghost use Rattle.arrive.specs.Stages.{ArrivesAt, basicChecks, isOpen, beforeRange, basicRead, heldBetween};
 
-// Checks 1 to 14 and 19 to 21 at a port: 0, with the runs of the label that the datagram arrives with as keys at the head of the list, or the refusal;
+// Checks 1 to 14, 19 to 21 and 23 at a port: 0, with the runs of the label that the datagram arrives with as keys at the head of the list, or the refusal;
 // 1 for a list of under 120 keys too.
 pub fn arrive(port: Port, area: &[u8], code: u8, keys: &mut [u32]) -> Verdict
     ensures { λ r. ⌜ Arrives port (now (area .entry)) code (now (keys .entry)) (now (keys .exit)) r ⌝ }
@@ -86,7 +89,7 @@ pub fn find_basic(area: &[u8]) -> BasicReading
     }
 }
 
-// Checks 6 to 13, and 14, with the place of the option 134.
+// Checks 6 to 13 and 23, and 14, with the place of the option 134.
 fn arrive_at(port: Port, area: &[u8], place: Place, code: u8, keys: &mut [u32]) -> Verdict
     requires { ⌜ length (now area) ≤ 40 ⌝ }
     requires { ⌜ placedIn Cipso place (now area) ⌝ }
@@ -108,7 +111,7 @@ fn arrive_at(port: Port, area: &[u8], place: Place, code: u8, keys: &mut [u32]) 
     }
 }
 
-// Checks 7 to 13, and 14, with an option 134 at an octet.
+// Checks 7 to 13 and 23, and 14, with an option 134 at an octet.
 fn read_at(port: Port, area: &[u8], at: usize, code: u8, keys: &mut [u32]) -> Verdict
     requires { ⌜ length (now area) ≤ 40 ⌝ }
     requires { ⌜ WholeAt Cipso (now area) at ⌝ }
@@ -120,6 +123,9 @@ fn read_at(port: Port, area: &[u8], at: usize, code: u8, keys: &mut [u32]) -> Ve
     let n = area[next] as usize;
     let end = at + n;
     let read = read_keys(&area[at..end], port.domain, &mut keys[..]);
+    if stops_slack(port.strict, read.number, &area[at..end]) {
+        return faulty(23, (HEADER_OCTETS + (at + CATEGORIES_AT)) as u8);
+    }
     if read.number != 0 {
         return faulty(read.number, (HEADER_OCTETS + (at + read.pointer)) as u8);
     }

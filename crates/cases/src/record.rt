@@ -1,4 +1,5 @@
 // The records of a case: labels, ports, a host, the table with its level pairs, and the facts of a datagram.
+use crate::field::Flag;
 use crate::field::Octet;
 use crate::field::take_flag;
 use crate::field::take_limited;
@@ -21,14 +22,16 @@ use table::Table;
 use table_levels::Levels;
 use table_levels::MAX_PAIRS;
 
-// The groups of a port's later fields: option 130, permitted spellings, the default label of unlabelled hosts.
+// The groups of a port's later fields: option 130, permitted spellings, the default label of unlabelled hosts, strict.
 const BASIC_GROUP: u8 = 1;
 
 const SPELLINGS_GROUP: u8 = 2;
 
 const DEFAULT_GROUP: u8 = 4;
 
-const ALL_GROUPS: usize = 7;
+const STRICT_GROUP: u8 = 8;
+
+const ALL_GROUPS: usize = 15;
 
 // The most level pairs and rows that are stored of a table of the entries 3, 6 and 8.
 const OLD_PAIRS: usize = 16;
@@ -148,6 +151,7 @@ pub fn take_wide_port(case: &[u8], at: usize) -> TakenPort {
     let basic = take_basic(case, groups.next, has_part(groups.value, BASIC_GROUP));
     let spellings = take_spellings_group(case, basic.next, has_part(groups.value, SPELLINGS_GROUP));
     let default = take_default(case, spellings.next, has_part(groups.value, DEFAULT_GROUP));
+    let strict = take_strict(case, default.next, has_part(groups.value, STRICT_GROUP));
     let plain = taken.port;
     let lowest = plain.lowest;
     let highest = plain.highest;
@@ -165,11 +169,23 @@ pub fn take_wide_port(case: &[u8], at: usize) -> TakenPort {
         spellings: permitted,
         unlabelled: default.unlabelled,
         default: given,
+        strict: strict.value,
     };
     TakenPort {
         port: port,
-        next: default.next,
+        next: strict.next,
     }
+}
+
+// Whether the port is strict; not where the group is not there.
+fn take_strict(case: &[u8], at: usize, there: bool) -> Flag {
+    if !there {
+        return Flag {
+            value: false,
+            next: at,
+        };
+    }
+    take_flag(case, at)
 }
 
 // One octet, the sum of the groups that are there.

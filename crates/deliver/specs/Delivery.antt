@@ -41,7 +41,7 @@ abbrev pub deliverChecks : Delivery → List (Option Refusal)
 deliverChecks d =
     deliverySizes d  -- 1
     ∷ deliveryRecords d  -- 2
-    ∷ (optionChecks (d .port) (d .area) 10  -- 3 to 13, 19 to 21
+    ∷ (optionChecks (d .port) (d .area) 10  -- 3 to 13 with 23, 19 to 21
     ++ (rangeCheck (d .port) (d .area) 10  -- 14
     ∷ hostCheck d  -- 15
     ∷ []))

@@ -13,6 +13,7 @@ use Rattle.option.specs.declared.Spellings.{Spellings}
 use Rattle.option.specs.Spelling.{spelledOf}
 use Rattle.option.specs.Theorems.{Spells}
 use Rattle.option.proofs.Meaning.{parts}
+use Rattle.option_slack.proofs.Theorems.{slackness}
 use Rattle.option.proofs.OneSpelling.{one-spelling}
 use Rattle.area.specs.declared.Kind.the-variants.{Cipso}
 use Rattle.area.specs.declared.Place.{Place}
@@ -94,7 +95,8 @@ module _ (on : Bool) (s kept : List ℕ) (c : Option (List ℕ)) (l : Label) (h 
       ∙ a .found kept 0 0 (sym (append-nil kept))
 
   labelled : (p : Port) → p .basic .on ≡ on → p .domain ≡ l .domain → LabelOf p (laid s kept) l
-  labelled p e d = own 0 (walked .0) (walked-at p e) (rw option-is (sp .permitted .means)) (sym d)
+  labelled p e d =
+      own 0 (walked .0) (walked-at p e) (rw option-is (sp .permitted .means)) (sym d) (λ t. rw option-is (slackness .permitted set s l (sp .permitted)))
 
   pub read-again : (domain : ℕ) → l .domain ≡ domain → Reads (laid s kept) on domain set l c kept
   read-again domain d =

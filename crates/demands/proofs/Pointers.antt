@@ -8,14 +8,16 @@ use Prim.Native.Nat.{ℕ, _+_, _-_, _≤_, _<_}
 use native.Mathlib.Omega.{arith}
 use lib.Dec.{ltb, eqb}
 use lib.ListN.{length, length-take, length-drop}
-use borrow.Author.Tests.{ltb-true}
+use borrow.Author.Tests.{ltb-true, lt-ltb}
 use Rattle.label.specs.declared.Label.{Label}
 use Rattle.label.specs.Label.{inRange}
-use Rattle.label.proofs.Bools.{less-or}
-use Rattle.option.specs.Option.{domainOf, tagOf}
-use Rattle.option_read.specs.Reading.{Check, check, notRead, categoriesIn, badPlace, tagChecks, labelIn, readingBy, readingFor}
+use Rattle.label.proofs.Bools.{and-right, less-or}
+use Rattle.option.specs.Option.{tagOf}
+use Rattle.option_read.specs.Reading.{Check, notRead, categoriesIn, badPlace, labelIn}
 use Rattle.option_read.specs.Reading as reading
-use Rattle.option_read.proofs.Checks.{for-port, stops7}
+use Rattle.option_slack.specs.Slack.{slack}
+use Rattle.option_slack.specs.Strict.{strictChecks, strictReading}
+use Rattle.option_slack.proofs.Pairs.{slack-long}
 use Rattle.area.specs.declared.Place.{Place}
 use Rattle.area.specs.declared.Place.the-variants.{Nowhere, At}
 use Rattle.area.specs.declared.Walk.{Walk}
@@ -29,7 +31,7 @@ use Rattle.port.specs.declared.Port.{Port}
 use Rattle.port.specs.Port.{portSound, hostSound, lowestOut, highestOut}
 use Rattle.label_keys.specs.Range.{setInRange}
 use Rattle.decision.specs.Decision.{Refusal, silenced, decided}
-use Rattle.arrive.specs.Checks.{silent, faulty, barred, when, firstOf, walkAt, walkRefusal, walkCheck, placeIn, basicIn, optionAt, requiredBy, requiredCheck, optionBy, optionCheck, badBasicBy, badBasicCheck, arrivingBasic, missingBasicBy, missingBasicCheck, basicPasses, basicRangeCheck, arrivingLabel, rangeCheck}
+use Rattle.arrive.specs.Checks.{silent, faulty, barred, when, firstOf, walkAt, walkRefusal, walkCheck, placeIn, basicIn, optionAt, readAt, requiredBy, requiredCheck, optionBy, optionCheck, badBasicBy, badBasicCheck, arrivingBasic, missingBasicBy, missingBasicCheck, basicPasses, basicRangeCheck, arrivingLabel, rangeCheck}
 use Rattle.deliver.specs.Delivery.{Delivery, deliverySizes, deliveryRecords, hostCheck, deliverChecks, deliverOf}
 use Rattle.arrive.proofs.Arrival.{placed-framed}
 use Rattle.forward_rules.specs.Crossing.{noRoom, Forwarding, sizes, records, leavingBasicCheck, crossing, stays, hasNumbers, numberCheck, leavingLevel, leavingRuns, leavingCheck, leavingOption, spellingCheck}
@@ -50,17 +52,17 @@ first-under b (c ∷ cs) l h u = go (c .applies) refl (first-under b cs l h (u .
     go true e r = u .0 e
     go false e r = r
 
-reading-inside : (d : ℕ) (o : List ℕ) → 2 ≤ length o → readingFor d o .pointer < length o
-unfolding readingFor readingBy tagChecks
-reading-inside d o h = ⊎-elim short long (less-or (length o) 10)
+reading-inside : (strict : Bool) (d : ℕ) (o : List ℕ) → 2 ≤ length o → strictReading strict d o .pointer < length o
+unfolding strictReading
+reading-inside strict d o h = ⊎-elim short long (less-or (length o) 10)
   where
-    short : length o < 10 → readingFor d o .pointer < length o
-    short k = rw (for-port d o ∙ stops7 o (not (eqb (domainOf o) d)) k) h
+    short : length o < 10 → strictReading strict d o .pointer < length o
+    short k = rw (lt-ltb (length o) 10 k) (omega arith)
 
-    long : 10 ≤ length o → readingFor d o .pointer < length o
+    long : 10 ≤ length o → strictReading strict d o .pointer < length o
     long k =
         let few : length (categoriesIn o) ≤ length o - 10 = simp (length-take, length-drop) (omega arith) in
-        first-under (length o) (check (ltb (length o) 10) 7 1 ∷ check (not (eqb (domainOf o) d)) 8 2 ∷ tagChecks o) (labelIn o) (omega arith) (
+        first-under (length o) (strictChecks strict d o) (labelIn o) (omega arith) (
           λ e. omega arith,
           (
             λ e. omega arith,
@@ -72,7 +74,7 @@ reading-inside d o h = ⊎-elim short long (less-or (length o) 10)
                   λ e. omega arith,
                   (
                     λ e. (let b : badPlace (tagOf o) (categoriesIn o) < length (categoriesIn o) = ltb-true _ _ e in omega arith),
-                    (λ e. ltb-true _ _ e, tt),
+                    (λ e. slack-long o (and-right strict (slack o) e), (λ e. ltb-true _ _ e, tt)),
                   ),
                 ),
               ),
@@ -117,9 +119,9 @@ option-points on p area (Refused n at) e = tt
 option-points on p area (Sound Nowhere b) e = tt
 option-points on p area (Sound (At i) b) e =
     let f = placed-framed area i (sound-placed on area (At i) b e .0) in
-    let h : readingFor (p .domain) (optionAt i area) .pointer < length (optionAt i area) = reading-inside (p .domain) (optionAt i area) (omega (arith, f .size, f .least)) in
-    points-when area (not (eqb (readingFor (p .domain) (optionAt i area) .number) 0))
-    (faulty (readingFor (p .domain) (optionAt i area) .number) (i + readingFor (p .domain) (optionAt i area) .pointer))
+    let h : readAt p (optionAt i area) .pointer < length (optionAt i area) = reading-inside (p .strict) (p .domain) (optionAt i area) (omega (arith, f .size, f .least)) in
+    points-when area (not (eqb (readAt p (optionAt i area) .number) 0))
+    (faulty (readAt p (optionAt i area) .number) (i + readAt p (optionAt i area) .pointer))
     (λ k c. omega (arith, f .size, f .inside))
 
 bad-points : (on : Bool) (area : List ℕ) (w : Walk) → walkOf on area ≡ w → Points area (badBasicBy (basicIn w) area)

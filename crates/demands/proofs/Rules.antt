@@ -13,9 +13,10 @@ use borrow.Author.Tests.{eqb-true}
 use Rattle.label.specs.declared.Label.{Label}
 use Rattle.option.specs.Option.{domainOf, isEven}
 use Rattle.option.specs.Index.{firstTrue, pairsOf}
-use Rattle.option_read.specs.Reading.{Check, check, notRead, badIn, countIn, badPlace, tagChecks, labelIn, readingBy, readingFor}
+use Rattle.option_read.specs.Reading.{Check, notRead, badIn, countIn, badPlace, labelIn}
 use Rattle.option_read.specs.Reading as reading
 use Rattle.option_read.specs.declared.Reading.{Reading}
+use Rattle.option_slack.specs.Strict.{strictChecks, strictReading}
 use Rattle.area.specs.declared.Kind.{Kind}
 use Rattle.area.specs.declared.Kind.the-variants.{End, NoOperation, Basic, Extended, Cipso, Other}
 use Rattle.area.specs.declared.Size.{Size}
@@ -31,7 +32,7 @@ use Rattle.basic.specs.Alone.{basicFound, basicBad, basicReading}
 use Rattle.area_leaving.specs.Kept.{keptOf}
 use Rattle.port.specs.declared.Port.{Port}
 use Rattle.decision.specs.Decision.{Refusal, silenced, decided}
-use Rattle.arrive.specs.Checks.{faulty, when, firstOf, walkAt, walkRefusal, walkCheck, placeIn, basicIn, optionAt, requiredBy, requiredCheck, optionBy, optionCheck, badBasicBy, badBasicCheck, arrivingBasic, missingBasicBy, missingBasicCheck, basicRangeCheck, rangeCheck}
+use Rattle.arrive.specs.Checks.{faulty, when, firstOf, walkAt, walkRefusal, walkCheck, placeIn, basicIn, optionAt, readAt, requiredBy, requiredCheck, optionBy, optionCheck, badBasicBy, badBasicCheck, arrivingBasic, missingBasicBy, missingBasicCheck, basicRangeCheck, rangeCheck}
 use Rattle.deliver.specs.Delivery.{Delivery, deliverySizes, deliveryRecords, hostCheck, deliverChecks, deliverOf}
 use Rattle.arrive.proofs.First.{orElse, first-append}
 use Rattle.forward_rules.specs.Crossing.{Forwarding, sizes, records, leavingBasicCheck, crossing, numberCheck, leavingCheck, spellingCheck}
@@ -105,7 +106,7 @@ area-rules : (port : Port) (area : List ℕ) → firstOf (checks (byOption three
 unfolding walkCheck walkOf
 area-rules port area = walk-rules (port .basic .on) (metOf area) Nowhere Nowhere
 
--- 7 to 13.
+-- 7 to 12, 23 and 13.
 abbrev ruleAt : ℕ → Check → Rule
 ruleAt p c = rule (c .number) (c .applies) 12 0 (20 + (p + c .pointer))
 
@@ -125,13 +126,12 @@ read-rules p (c ∷ cs) l n = go (c .applies) (read-rules p cs l (n .1))
     go true h = rw (n .0)
     go false h = h
 
-label-rules : (o : List ℕ) (p : ℕ) (port : Port) → firstOf (checks (labelRules true o p port)) ≡ blamed p (readingFor (port .domain) o)
-unfolding readingFor readingBy tagChecks
+label-rules : (o : List ℕ) (p : ℕ) (port : Port) → firstOf (checks (labelRules true o p port)) ≡ blamed p (readAt port o)
+unfolding strictReading
 label-rules o p port =
-    read-rules p (check (ltb (length o) 10) 7 1 ∷ check (not (eqb (domainOf o) (port .domain))) 8 2 ∷ tagChecks o) (labelIn o)
-    (refl, (refl, (refl, (refl, (refl, (refl, (refl, tt)))))))
+    read-rules p (strictChecks (port .strict) (port .domain) o) (labelIn o) (refl, (refl, (refl, (refl, (refl, (refl, (refl, (refl, tt))))))))
 
--- 6 to 13, and what follows
+-- 6 to 13 with 23, and what follows
 shared-rules : (q : Place) (port : Port) (area : List ℕ) (rest : List Rule) (ds : List (Option Refusal)) → firstOf (checks rest) ≡ firstOf ds
     → firstOf (checks (rule 6 (not (isAt q) && port .required) 12 1 134 ∷ (labelRules (isAt q) (optionAt (octetAt q) area) (octetAt q) port ++ rest)))
     ≡ firstOf (requiredBy q port ∷ optionBy q port area ∷ ds)

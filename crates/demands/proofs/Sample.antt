@@ -18,6 +18,8 @@ use Rattle.option.specs.Permitted.{usual}
 use Rattle.option.specs.Spelling.{leastForm, formFor, bodyFor, spelledBy, spellingOf, spelledOf}
 use Rattle.option.proofs.OneSpelling.{one-spelling}
 use Rattle.option_read.specs.Reading.{readingOf, readingFor, readingBy, tagChecks, labelIn}
+use Rattle.option_slack.specs.Slack.{slackBody, slack}
+use Rattle.option_slack.specs.Strict.{strictReading}
 use Rattle.option_read.proofs.Theorems.{reads}
 use Rattle.area.specs.Area.{metFrom, metOf, walkOf}
 use Rattle.area_leaving.specs.Kept.{keptOf}
@@ -113,7 +115,7 @@ conditions =
       arriving = refl;
       leaving = refl;
       table = λ d. refl;
-      label = own 0 Nowhere refl means refl;
+      label = own 0 Nowhere refl means refl (λ e. absurd (true≢false (sym e)));
       basic = neither refl refl;
       arrives = refl;
       stays = λ e. absurd (apart e);
@@ -132,7 +134,7 @@ unfolding metFrom metOf keptOf
 nothing-kept = refl
 
 pub sample-lines : SampleLines
-unfolding subset allBelow wellFormed labelTyped atMost leq inRange isZero pieces readingFor readingBy tagChecks labelIn metFrom metOf walkOf keptOf rangeSound wayZero basicSound assignedSound defaultSound portSound tables.typed rowsSound levelsSound tableSound walkCheck requiredCheck optionCheck badBasicCheck arrivingBasic missingBasicCheck basicRangeCheck leavingBasicCheck arrivingLabel rangeCheck sizes records numberCheck silenced forwardOf
+unfolding subset allBelow wellFormed labelTyped atMost leq inRange isZero pieces readingFor readingBy tagChecks labelIn strictReading slackBody slack metFrom metOf walkOf keptOf rangeSound wayZero basicSound assignedSound defaultSound portSound tables.typed rowsSound levelsSound tableSound walkCheck requiredCheck optionCheck badBasicCheck arrivingBasic missingBasicCheck basicRangeCheck leavingBasicCheck arrivingLabel rangeCheck sizes records numberCheck silenced forwardOf
 sample-lines =
     record {
       forward = demand2 .always (sample first) near far spelling [] conditions .0;

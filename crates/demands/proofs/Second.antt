@@ -19,6 +19,8 @@ use Rattle.option.proofs.OneSpelling.{one-spelling}
 use Rattle.option_read.specs.declared.Reading.{Reading}
 use Rattle.option_read.specs.Reading.{found, readingFor}
 use Rattle.option_read.proofs.Theorems.{reads}
+use Rattle.option_slack.specs.Slack.{slack}
+use Rattle.option_slack.proofs.Strict.{strict-reads, strictly-reads}
 use Rattle.area.specs.declared.Place.{Place}
 use Rattle.area.specs.declared.Place.the-variants.{Nowhere, At}
 use Rattle.area.specs.declared.Walk.{Walk}
@@ -36,7 +38,7 @@ use Rattle.renumber.proofs.Theorems.{renumbering, agrees}
 use Rattle.decision.specs.declared.Decision.{Decision}
 use Rattle.decision.specs.Decision.{Refusal, silenced, refused, decided}
 use Rattle.area.specs.Area.{badArea}
-use Rattle.arrive.specs.Checks.{silent, barred, firstOf, NoneApplies, walkAt, walkCheck, optionAt, requiredBy, requiredCheck, optionBy, optionCheck, labelBy, arrivingLabel, rangeCheck, arrivalChecks}
+use Rattle.arrive.specs.Checks.{silent, barred, firstOf, NoneApplies, walkAt, walkCheck, optionAt, readAt, requiredBy, requiredCheck, optionBy, optionCheck, labelBy, arrivingLabel, rangeCheck, arrivalChecks}
 use Rattle.deliver.specs.Delivery.{Delivery, deliverySizes, deliveryRecords, hostCheck, deliverChecks, deliverOf}
 use Rattle.decision.specs.Decision as decision
 use Rattle.arrive.proofs.First.{Real, real-first, real-when, first-none, none-first, when-none, first-append, not-false-yes, real-else}
@@ -77,9 +79,10 @@ passed-label p area code oct s e = go (walkAt p area) refl
     at-place Nowhere b w r o l = assigned b w (when-none (p .required) _ r) l
     at-place (At i) b w r o l =
         let f = placed-framed area i (sound-placed (p .basic .on) area (At i) b w .0) in
-        let z : readingFor (p .domain) (optionAt i area) .number ≡ 0 = eqb-true _ _ (not-false-yes _ (when-none _ _ o)) in
-        let m = reads .for (p .domain) .means (optionAt i area) (octets-part (getD area (i + 1) 0) i area (octets-at area oct)) (f .framed) (sound p s .owned) z in
-        own i b w (rw l at m) (arrival-held p area code s e .domain)
+        let z : readAt p (optionAt i area) .number ≡ 0 = eqb-true _ _ (not-false-yes _ (when-none _ _ o)) in
+        let q = strictly-reads .exactly (p .strict) (p .domain) (optionAt i area) .0 z in
+        let m = reads .for (p .domain) .means (optionAt i area) (octets-part (getD area (i + 1) 0) i area (octets-at area oct)) (f .framed) (sound p s .owned) (q .0) in
+        own i b w (rw l at m) (arrival-held p area code s e .domain) (λ t. ap (λ (x : Bool). x && slack (optionAt i area)) (sym t) ∙ q .1)
 
     go : (w : Walk) → walkAt p area ≡ w → LabelOf p area (arrivingLabel p area)
     go (Sound q b) w = at-place q b w (rw w at (n .1 .0)) (rw w at (n .1 .1 .0)) (rw w)
@@ -93,11 +96,18 @@ pub record Reads (p : Port) (area : List ℕ) (l : Label) : Type 0 where
   pub required : requiredCheck p area ≡ none
   pub option : optionCheck p area ≡ none
 
+-- 23, of an option that passes it
+not-stopped : (s z : Bool) → (s ≡ true → z ≡ false) → (s && z) ≡ false
+not-stopped true z h = h refl
+not-stopped false z h = refl
+
 pub label-reads : (p : Port) (area : List ℕ) (l : Label) → LabelOf p area l → Reads p area l
 unfolding walkCheck requiredCheck optionCheck arrivingLabel
-label-reads p area l (own i b w m d) =
+label-reads p area l (own i b w m d t) =
     let r : readingFor (p .domain) (optionAt i area) ≡ found l = reads .for (p .domain) .back (optionAt i area) l m d in
-    record { label = rw w (ap (λ (x : Reading). x .label) r); sound = (At i, b, w); walk = rw w; required = rw w; option = rw w (rw r) }
+    let q : readAt p (optionAt i area) ≡ found l =
+    strict-reads (p .strict) (p .domain) (optionAt i area) (ap (λ (x : Reading). x .number) r) (not-stopped (p .strict) (slack (optionAt i area)) t) ∙ r in
+    record { label = rw w (ap (λ (x : Reading). x .label) r); sound = (At i, b, w); walk = rw w; required = rw w; option = rw w (rw q) }
 label-reads p area l (assigned b w r e) = record { label = rw w e; sound = (Nowhere, b, w); walk = rw w; required = rw w (rw r); option = rw w }
 
 label-within : (p : Port) (area : List ℕ) (code : ℕ) (l : Label) → Reads p area l → inRange (p .lowest) (p .highest) l ≡ true → rangeCheck p area code ≡ none

@@ -173,7 +173,7 @@ decisionOf quiet p q o l x kept =
 module _ (f : Forwarding) (l : Label) (s : sizes f ≡ none) (r : records f ≡ none) (o : MeansAt (f .arriving) (f .area) l)
     (good : badBasicCheck (f .arriving) (f .area) ≡ none) (d : l .domain ≡ f .arriving .domain) where
   read : Reads (f .arriving) (f .area) l
-  read = label-reads (f .arriving) (f .area) l (own (o .0) (o .1) (o .2) (o .3) d)
+  read = label-reads (f .arriving) (f .area) l (own (o .0) (o .1) (o .2) (o .3) d (o .4))
 
   pub label-is : arrivingLabel (f .arriving) (f .area) ≡ l
   label-is = read .label
@@ -251,7 +251,7 @@ delivery-is : (d : Delivery) (l : Label) → deliverySizes d ≡ none → delive
     → deliverOf d ≡ decided (silenced (d .facts)) (heldOf (d .port) (d .host) (arrivingBasic (d .port) (d .area)) l) l 0
 unfolding missingBasicCheck basicRangeCheck rangeCheck hostCheck deliverOf
 delivery-is d l s r o good e =
-    let q = label-reads (d .port) (d .area) l (own (o .0) (o .1) (o .2) (o .3) e) in
+    let q = label-reads (d .port) (d .area) l (own (o .0) (o .1) (o .2) (o .3) e (o .4)) in
     rw (s, r, q .walk, q .required, q .option, good)
     (ap (λ (z : Label). decided (silenced (d .facts)) (heldOf (d .port) (d .host) (arrivingBasic (d .port) (d .area)) z) z 0) (q .label))
 

@@ -16,6 +16,7 @@ use Rattle.option.specs.Permitted.{usual, Permitted}
 use Rattle.option.specs.Spelling.{padded}
 use Rattle.option.specs.Theorems.{Spells, Shortest}
 use Rattle.option_read.specs.Reading.{found, readingOf}
+use Rattle.option_slack.specs.Slack.{slack}
 use Rattle.option_spell.specs.Spelling.{spellingAnswer, spellingOut}
 use Rattle.area.specs.declared.Place.{Place}
 use Rattle.area.specs.declared.Place.the-variants.{Nowhere, At}
@@ -58,10 +59,19 @@ pub record AreaSound (area : List ℕ) : Type 0 where
   pub few : length area ≤ 40
   pub fourfold : length area % 4 ≡ 0
 
--- its options are sound, and this is its label: its walk refuses nothing and meets a valid option 134 that means the label in the port's domain,
--- or meets none where none is required and the label is the port's
+-- Wish 10, "demand 2's sound options pass it": 23, which a strict port asks
+abbrev pub PassesStrict : Port → List ℕ → Type 0
+PassesStrict p o = p .strict ≡ true → slack o ≡ false
+
+-- its options are sound, and this is its label: its walk refuses nothing and meets a valid option 134 that means the label in the port's domain and passes
+-- 23, or meets none where none is required and the label is the port's
 pub data LabelOf (p : Port) (area : List ℕ) (l : Label) : Type 0 where
-  own : (at : ℕ) (basic : Place) → walkAt p area ≡ Sound (At at) basic → Means (optionAt at area) l → l .domain ≡ p .domain → LabelOf p area l
+  own : (at : ℕ) (basic : Place)
+      → walkAt p area ≡ Sound (At at) basic
+      → Means (optionAt at area) l
+      → l .domain ≡ p .domain
+      → PassesStrict p (optionAt at area)
+      → LabelOf p area l
   assigned : (basic : Place) → walkAt p area ≡ Sound Nowhere basic → p .required ≡ false → p .assigned ≡ l → LabelOf p area l
 
 -- Wish 3, "the 130 option passes too". At the port where it arrives: the port has it switched off, so that the walk above meets none; or on, and the
@@ -157,11 +167,13 @@ pub record Demand2 : Type 0 where
 -- Demand 3: "One label, one spelling." As document 02, Wish 5, has it: "shortest among the permitted ones, ties in the order just listed;
 -- refused a spelling exactly if no permitted one means the label; equal octets exactly for equal labels under the same set".
 
--- an area past 3 to 5 at the port whose option 134 is valid and means the label
+-- an area past 3 to 5 at the port whose option 134 is valid and means the label; Wish 10: "On a strict port demand 3's equal decision is claimed only for
+-- options that pass 23"
 abbrev pub MeansAt : Port → List ℕ → Label → Type 0
-MeansAt p area l = (at : ℕ) × (basic : Place) × (walkAt p area ≡ Sound (At at) basic) × Means (optionAt at area) l
+MeansAt p area l =
+    (at : ℕ) × (basic : Place) × (walkAt p area ≡ Sound (At at) basic) × Means (optionAt at area) l × PassesStrict p (optionAt at area)
 
--- two forwardings of areas past checks 1 to 5 and 19 (Wish 3) whose options 134 are valid and mean one label of the arriving port's domain, with kept
+-- two forwardings of areas past checks 1 to 5 and 19 (Wish 3), and 23 at a strict port, whose options 134 are valid and mean one label of the arriving port's domain, with kept
 -- options in order, records and facts alike; the outputs may differ
 pub record Alike (f g : Forwarding) (l : Label) : Type 0 where
   pub arriving : f .arriving ≡ g .arriving
@@ -229,7 +241,7 @@ pub record Demand3 : Type 0 where
       → spellingAnswer p a (length out) .number ≡ 0
       → spellingAnswer p b (length out′) .number ≡ 0
       → (take 40 (spellingOut p a out) ≡ take 40 (spellingOut p b out′)) ↔ (a ≡ b)
-  -- "Take any two areas past checks 1 to 5 [and 19] whose options 134 are valid and mean one label .. they are decided alike: the same number, type, code,
+  -- "Take any two areas past checks 1 to 5 [and 19, and 23 on a strict port] whose options 134 are valid and mean one label .. they are decided alike: the same number, type, code,
   -- pointer, label and count and, if forwarded, the same first 40 octets of output."
   pub decided : (f g : Forwarding) (l : Label) → Alike f g l → forwardOf f ≡ forwardOf g
   pub written : (f g : Forwarding) (l : Label) (out out′ : List ℕ) → Alike f g l → 40 ≤ length out → 40 ≤ length out′ → forwardOf f .number ≡ 0

@@ -32,7 +32,7 @@ pub record Counts (n s k : ℕ) : Type 0 where
   pub fits : n ≤ 40
 
 -- an area that a datagram with this label, this option 130 and these kept options may leave with, toward a port of a domain that reads option 130 or
--- does not (`on`), with permitted spellings: it passes check 1 and, at any such port, 3 to 13; its option 134 is the spelling of the label; its label,
+-- does not (`on`), with permitted spellings: it passes check 1 and, at any such port, strict or not, 3 to 13 and 23; its option 134 is the spelling of the label; its label,
 -- option 130 and kept options are these
 pub record Reads (a : List ℕ) (on : Bool) (domain : ℕ) (permitted : Spellings) (l : Label) (c : Option (List ℕ)) (ks : List ℕ) : Type 0 where
   pub area : AreaSound a

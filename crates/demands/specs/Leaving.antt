@@ -23,6 +23,7 @@ permitting s p =
       spellings = s;
       unlabelled = p .unlabelled;
       default = p .default;
+      strict = p .strict;
     }
 
 -- a port that faces unlabelled hosts with this label, or a labelled one that has a default label
@@ -38,6 +39,7 @@ facing u l p =
       spellings = p .spellings;
       unlabelled = u;
       default = l;
+      strict = p .strict;
     }
 
 -- forwarded between two ports into 41 octets: the count, the label and what the first 40 hold

@@ -11,6 +11,7 @@ use Rattle.label.specs.Label.{inRange}
 use Rattle.label_keys.specs.Range.{setInRange}
 use Rattle.option.specs.Option.{domainOf, tagOf, tagLengthOf, isEven}
 use Rattle.option_read.specs.Reading.{knownTag, goodLength, categoriesIn, badIn, badPlace}
+use Rattle.option_slack.specs.Slack.{slack}
 use Rattle.area.specs.declared.Kind.{Kind}
 use Rattle.area.specs.declared.Kind.the-variants.{End, NoOperation, Basic, Extended, Cipso, Other}
 use Rattle.area.specs.declared.Size.{Size}
@@ -62,6 +63,9 @@ tagLength p = p + 7
 abbrev pub alignment : ℕ → ℕ
 alignment p = p + 8
 
+abbrev pub firstCategory : ℕ → ℕ
+firstCategory p = p + 10
+
 -- the first octet of the first bad number or pair of the option o, which begins at p; the categories stand from its octet 10 on
 abbrev pub firstBad : List ℕ → ℕ → ℕ
 firstBad o p = p + (10 + badPlace (tagOf o) (categoriesIn o))
@@ -110,7 +114,7 @@ optionRules on label basic m =
     ∷ rule 5 ((isLabel (m .kind) && label) || (isBasic (m .kind) && basic)) 12 0 (20 + typeOctet (m .at))
     ∷ []
 
--- 6 to 14 and 19 to 21, which both jobs share; the area's options 134 and 130 are those its walk meets
+-- 6 to 14, 19 to 21 and 23, which both jobs share; the area's options 134 and 130 are those its walk meets
 abbrev pub isAt : Place → Bool
 isAt Nowhere = false
 isAt (At p) = true
@@ -134,6 +138,8 @@ labelRules there o p port =
     ∷ rule 11 (there && not (eqb (getD o 8 0) 0)) 12 0 (20 + alignment p)
     -- 12: bad category or pair
     ∷ rule 12 (there && ltb (badPlace (tagOf o) (categoriesIn o)) (length (categoriesIn o))) 12 0 (20 + firstBad o p)
+    -- 23: a slack spelling at a strict port (Wish 10)
+    ∷ rule 23 (there && (port .strict && slack o)) 12 0 (20 + firstCategory p)
     -- 13: octets after the tag
     ∷ rule 13 (there && ltb (tagLengthOf o + 6) (length o)) 12 0 (20 + afterTag o p)
     ∷ []
@@ -213,10 +219,10 @@ pub data Test : Type 0 where
   each : List ℕ → Test
 
 -- "The lowest number wins, save that 3, 4 and 5 come from one walk: the earliest option decides, and within it 3, then 4, then 5." Wish 3: 19, 20 and
--- 21 "after 13, in that order". Wish 7: 22 is "tested after 15"; of two ports no line has it
+-- 21 "after 13, in that order". Wish 7: 22 is "tested after 15"; of two ports no line has it. Wish 10: 23 is "tested right after 12"
 abbrev pub order : List Test
 order =
-    one 1 ∷ one 2 ∷ each (3 ∷ 4 ∷ 5 ∷ []) ∷ one 6 ∷ one 7 ∷ one 8 ∷ one 9 ∷ one 10 ∷ one 11 ∷ one 12 ∷ one 13 ∷ one 19 ∷ one 20 ∷ one 21 ∷ one 14 ∷ one 15 ∷ one 22 ∷ one 16 ∷ one 17 ∷ one 18 ∷ []
+    one 1 ∷ one 2 ∷ each (3 ∷ 4 ∷ 5 ∷ []) ∷ one 6 ∷ one 7 ∷ one 8 ∷ one 9 ∷ one 10 ∷ one 11 ∷ one 12 ∷ one 23 ∷ one 13 ∷ one 19 ∷ one 20 ∷ one 21 ∷ one 14 ∷ one 15 ∷ one 22 ∷ one 16 ∷ one 17 ∷ one 18 ∷ []
 
 -- the lines of a table that have the number
 abbrev pub withNumber : ℕ → List Rule → List Rule

@@ -1,4 +1,4 @@
--- Document 01, "The order of checks, and each number", "The leaving area" and "Numbers to try", and document 02, Wish 3: worked decisions, in one table.
+-- Document 01, "The order of checks, and each number", "The leaving area" and "Numbers to try", and document 02, Wishes 3 and 10: worked decisions, in one table.
 -- Both ports are of domain 5, so the renumbering table is not read. Every case is asked with no fact that silences, and as an ICMP error message.
 use mathlib.Core.Path.{_≡_}
 use mathlib.Core.Bool.{true, false}
@@ -75,6 +75,7 @@ readsBasic way =
       spellings = usual;
       unlabelled = false;
       default = nothing;
+      strict = false;
     }
 
 abbrev pub marked : Port
@@ -96,6 +97,23 @@ lesser =
       spellings = usual;
       unlabelled = false;
       default = nothing;
+      strict = false;
+    }
+
+-- a port that stops slack spellings
+abbrev pub strict : Port → Port
+strict p =
+    record {
+      domain = p .domain;
+      lowest = p .lowest;
+      highest = p .highest;
+      required = p .required;
+      assigned = p .assigned;
+      basic = p .basic;
+      spellings = p .spellings;
+      unlabelled = p .unlabelled;
+      default = p .default;
+      strict = true;
     }
 
 -- in a domain of four octets, 1, 2, 3 and 4
@@ -261,6 +279,14 @@ refusals =
     ∷ bad requires (1 ∷ option 15 5 2 8 0 3 (0 ∷ 7 ∷ 0 ∷ 7 ∷ 0 ∷ [])) (drop 12 12 0 33)
     ∷ bad requires (option 18 5 5 12 0 3 (0 ∷ 9 ∷ 0 ∷ 8 ∷ 0 ∷ 8 ∷ 0 ∷ 1 ∷ 0 ∷ 0 ∷ [])) (drop 12 12 0 34)
     ∷ bad requires (option 11 5 1 4 0 9 (0 ∷ 0 ∷ [])) (drop 13 12 0 30)
+    -- 23: a trailing zero octet, touching pairs, a last bottom of 0 written out; 12 before it, 13 and 19 after it, 13 of a spelling that is not slack
+    ∷ bad (strict requires) (option 12 5 1 6 0 3 (128 ∷ 0 ∷ [])) (drop 23 12 0 30)
+    ∷ bad (strict assigns) (option 18 5 5 12 0 3 (1 ∷ 44 ∷ 1 ∷ 43 ∷ 1 ∷ 42 ∷ 1 ∷ 41 ∷ 0 ∷ 0 ∷ [])) (drop 23 12 0 30)
+    ∷ bad (strict requires) (1 ∷ option 14 5 5 8 0 3 (0 ∷ 7 ∷ 0 ∷ 0 ∷ 0 ∷ [])) (drop 23 12 0 31)
+    ∷ bad (strict requires) (option 18 5 5 12 0 3 (0 ∷ 7 ∷ 0 ∷ 5 ∷ 0 ∷ 9 ∷ 0 ∷ 0 ∷ 0 ∷ 0 ∷ [])) (drop 12 12 0 34)
+    ∷ bad (strict requires) (option 13 5 1 6 0 9 (128 ∷ 0 ∷ 7 ∷ 0 ∷ 0 ∷ 0 ∷ [])) (drop 23 12 0 30)
+    ∷ bad (strict requires) (option 12 5 1 5 0 9 (128 ∷ 0 ∷ [])) (drop 13 12 0 31)
+    ∷ bad (strict marked) (option 12 5 1 6 0 3 (128 ∷ 0 ∷ 130 ∷ 3 ∷ 91 ∷ 0 ∷ [])) (drop 23 12 0 30)
     -- with option 130 read: 2, a level that is none of the four; 3; 4 is 133 alone; 5, a second one
     ∷ bad unranked (130 ∷ 3 ∷ 90 ∷ 0 ∷ []) (drop 2 0 0 0)
     ∷ bad marked (130 ∷ 5 ∷ 90 ∷ 0 ∷ []) (drop 3 12 0 20)
@@ -343,6 +369,17 @@ others =
     ∷ sent requires (option 13 5 1 7 0 3 (0 ∷ 0 ∷ 128 ∷ 0 ∷ 0 ∷ 0 ∷ [])) 12 (one 3 16 16) (option 12 5 2 6 0 3 (0 ∷ 16 ∷ replicate 28 0))
     ∷ sent requires (option 18 5 5 12 0 3 (1 ∷ 44 ∷ 1 ∷ 43 ∷ 1 ∷ 42 ∷ 1 ∷ 41 ∷ 1 ∷ 1 ∷ [])) 16 (one 3 297 300) (option 14 5 5 8 0 3 (1 ∷ 44 ∷ 1 ∷ 41 ∷ replicate 26 0))
     ∷ sent requires (option 10 5 5 4 0 5 (0 ∷ 0 ∷ [])) 12 (bare 5) (empty 5 (replicate 30 0))
+    -- past a strict port: ten octets of bitmap, a last bottom that is left out; the mark of the port that it leaves by is not read
+    ∷ sent (strict requires) (option 20 5 1 14 0 3 (128 ∷ replicate 9 0)) 12 (one 3 0 0) (option 11 5 1 5 0 3 (128 ∷ replicate 29 0))
+    ∷ sent (strict requires) (option 12 5 5 6 0 3 (0 ∷ 16 ∷ [])) 12 (one 3 0 16) (option 12 5 5 6 0 3 (0 ∷ 16 ∷ replicate 28 0))
+    ∷ handed (strict requires) hostBehind (option 12 5 2 6 0 3 (1 ∷ 0 ∷ [])) (pass 0 (one 3 256 256))
+    ∷ record {
+      job = leave (strict beyond) 41;
+      port = requires;
+      area = option 12 5 1 6 0 3 (128 ∷ 0 ∷ []);
+      answer = pass 12 (one 3 0 0);
+      output = option 11 5 1 5 0 3 (128 ∷ (replicate 29 0 ++ (9 ∷ [])));
+    }
     ∷ []
 
 abbrev pub inGateway : Bad → Case

@@ -3,6 +3,7 @@ use Prim.Native.Nat.{ℕ, _+_, _≤_}
 use mathlib.Core.Path.{_≡_, refl, sym, ap, _∙_}
 use mathlib.Core.Bool.{Bool, true, false, not, _&&_, _||_}
 use mathlib.Core.List.{List, [], _∷_}
+use mathlib.Core.Logic.{⊎-elim}
 use mathlib.Core.Option.{Option, none, some}
 use native.Mathlib.Omega.{arith}
 use borrow.Author.Tests.{le-leb, eqb-true, eqb-false}
@@ -11,17 +12,17 @@ use lib.ListN.{getD, drop}
 use Rattle.label.specs.declared.Label.{Label}
 use Rattle.decision.specs.Decision.{Refusal, decided}
 use Rattle.option.specs.Option.{Octets}
-use Rattle.option_read.specs.Reading.{readingFor}
 use Rattle.option_read.proofs.Theorems.{reads}
+use Rattle.option_slack.proofs.Strict.{strictly-reads}
 use Rattle.area.specs.declared.Place.{Place}
 use Rattle.area.specs.declared.Place.the-variants.{Nowhere, At}
 use Rattle.area.specs.declared.Walk.{Walk}
 use Rattle.area.specs.declared.Walk.the-variants.{Sound, Refused}
 use Rattle.port.specs.declared.Port.{Port}
 use Rattle.area.proofs.Laws.{area-refused, sound-placed}
-use Rattle.arrive.specs.Checks.{silent as silentAs, faulty, optionAt, when, firstOf, walkAt, walkRefusal, walkCheck, placeIn, requiredBy, requiredCheck, optionBy, optionCheck}
+use Rattle.arrive.specs.Checks.{silent as silentAs, faulty, optionAt, readAt, when, firstOf, walkAt, walkRefusal, walkCheck, placeIn, requiredBy, requiredCheck, optionBy, optionCheck}
 use Rattle.arrive.proofs.Arrival.{placed-framed}
-use Rattle.arrive.proofs.Pointer.{reading-number}
+use Rattle.arrive.proofs.Pointer.{strict-number}
 use Rattle.option.proofs.Octets.{octets-take, octets-drop}
 use Rattle.message_reply.specs.Reply.{padded, replyArea}
 use Rattle.area.proofs.Open.{sound-open}
@@ -56,18 +57,19 @@ module _ (port : Port) (area : List ℕ) where
   unfolding walkCheck optionCheck
   past-both oct w o n = go (walkAt port area) refl w o
     where
-      by : (p : ℕ) (b : Place) (t : Bool) → eqb (readingFor (port .domain) (optionAt p area) .number) 0 ≡ t → walkAt port area ≡ Sound (At p) b
-          → when (not t) (faulty (readingFor (port .domain) (optionAt p area) .number) (p + readingFor (port .domain) (optionAt p area) .pointer)) ≡ none → ⊥
+      by : (p : ℕ) (b : Place) (t : Bool) → eqb (readAt port (optionAt p area) .number) 0 ≡ t → walkAt port area ≡ Sound (At p) b
+          → when (not t) (faulty (readAt port (optionAt p area) .number) (p + readAt port (optionAt p area) .pointer)) ≡ none → ⊥
       by p b false q e o = let z : _≡_ {A = ℕ} 0 1 = cc in omega arith
       by p b true q e o =
           let f = placed-framed area p (sound-placed (port .basic .on) area (At p) b e .0) in
-          let v = reads .for (port .domain) .exactly (optionAt p area) (octets-take (getD area (p + 1) 0) (drop p area) (octets-drop p area oct)) (f .framed) .0 (eqb-true _ _ q) in
+          let z = strictly-reads .exactly (port .strict) (port .domain) (optionAt p area) .0 (eqb-true _ _ q) in
+          let v = reads .for (port .domain) .exactly (optionAt p area) (octets-take (getD area (p + 1) 0) (drop p area) (octets-drop p area oct)) (f .framed) .0 (z .0) in
           never (padded (optionAt p area)) (replyArea area) (replies .copied area p b (sound-open (port .basic .on) area (At p) b e) (v .0)) n
 
       go : (x : Walk) → walkAt port area ≡ x → walkRefusal (walkAt port area) ≡ none → optionBy (placeIn (walkAt port area)) port area ≡ none → ⊥
       go (Refused m at) e w o = let k : some (faulty m at) ≡ none = sym (ap walkRefusal e) ∙ w in let z : _≡_ {A = ℕ} 0 1 = cc in omega arith
       go (Sound Nowhere b) e w o = never [] (replyArea area) (replies .bare area b (sound-open (port .basic .on) area Nowhere b e)) n
-      go (Sound (At p) b) e w o = by p b (eqb (readingFor (port .domain) (optionAt p area) .number) 0) refl e (sym (ap (λ (x : Walk). optionBy (placeIn x) port area) e) ∙ o)
+      go (Sound (At p) b) e w o = by p b (eqb (readAt port (optionAt p area) .number) 0) refl e (sym (ap (λ (x : Walk). optionBy (placeIn x) port area) e) ∙ o)
 
   -- a walk's refusal, and an option's, is one that is not answered
   walk-quiet : (r : Refusal) → walkCheck port area ≡ some r → unanswered (r .number) ≡ true
@@ -86,17 +88,17 @@ module _ (port : Port) (area : List ℕ) where
   unfolding optionCheck
   option-quiet r o = go (placeIn (walkAt port area)) o
     where
-      by : (p : ℕ) (t : Bool) → eqb (readingFor (port .domain) (optionAt p area) .number) 0 ≡ t
-          → when (not t) (faulty (readingFor (port .domain) (optionAt p area) .number) (p + readingFor (port .domain) (optionAt p area) .pointer)) ≡ some r → unanswered (r .number) ≡ true
+      by : (p : ℕ) (t : Bool) → eqb (readAt port (optionAt p area) .number) 0 ≡ t
+          → when (not t) (faulty (readAt port (optionAt p area) .number) (p + readAt port (optionAt p area) .pointer)) ≡ some r → unanswered (r .number) ≡ true
       by p true q o = absurd (let z : _≡_ {A = ℕ} 0 1 = cc in omega arith)
       by p false q o =
-          let k = reading-number (port .domain) (optionAt p area) (eqb-false _ _ q) in
-          let i : readingFor (port .domain) (optionAt p area) .number ≡ r .number = cc in
-          quiet-option (r .number) (omega (arith, k .0)) (omega (arith, k .1))
+          let i : readAt port (optionAt p area) .number ≡ r .number = cc in
+          ⊎-elim (λ k. quiet-option (r .number) (omega (arith, k .0)) (omega (arith, k .1))) (λ k. ap unanswered (sym i ∙ k))
+          (strict-number (port .strict) (port .domain) (optionAt p area) (eqb-false _ _ q))
 
       go : (x : Place) → optionBy x port area ≡ some r → unanswered (r .number) ≡ true
       go Nowhere o = absurd (let z : _≡_ {A = ℕ} 0 1 = cc in omega arith)
-      go (At p) o = by p (eqb (readingFor (port .domain) (optionAt p area) .number) 0) refl o
+      go (At p) o = by p (eqb (readAt port (optionAt p area) .number) 0) refl o
 
   -- where a label is required and none is there, there is no option to be checked
   required-none : (r : Refusal) → requiredCheck port area ≡ some r → optionCheck port area ≡ none

@@ -3,6 +3,7 @@ use Prim.Native.Nat.{ℕ, _+_, _≤_, _<_}
 use mathlib.Core.Path.{_≡_, refl, sym, ap, _∙_}
 use mathlib.Core.Bool.{Bool, true, false, not, _&&_, _||_}
 use mathlib.Core.List.{List, [], _∷_}
+use mathlib.Core.Logic.{⊎-elim}
 use mathlib.Core.Option.{Option, none, some}
 use native.Mathlib.Omega.{arith}
 use borrow.Author.Tests.{eqb-false}
@@ -11,7 +12,6 @@ use lib.ListN.{length}
 use Rattle.label.specs.declared.Label.{Label}
 use Rattle.label.specs.Label.{inRange}
 use Rattle.option.specs.Option.{Octets}
-use Rattle.option_read.specs.Reading.{readingFor}
 use Rattle.basic.specs.Alone.{basicReading}
 use Rattle.area.specs.declared.Place.{Place}
 use Rattle.area.specs.declared.Place.the-variants.{Nowhere, At}
@@ -24,8 +24,8 @@ use Rattle.port.specs.declared.Port.{Port}
 use Rattle.port.specs.Port.{portSound, hostSound, lowestOut, highestOut}
 use Rattle.label_keys.specs.Range.{setInRange}
 use Rattle.decision.specs.Decision.{Refusal, silenced, decided}
-use Rattle.arrive.specs.Checks.{silent as silentAs, faulty, barred, optionAt, basicPasses, arrivingLabel, when, firstOf, walkAt, walkRefusal, walkCheck, placeIn, basicIn, requiredBy, requiredCheck, optionBy, optionCheck, badBasicBy, badBasicCheck, arrivingBasic, missingBasicBy, missingBasicCheck, basicRangeCheck, rangeCheck}
-use Rattle.arrive.proofs.Pointer.{reading-number}
+use Rattle.arrive.specs.Checks.{silent as silentAs, faulty, barred, optionAt, readAt, basicPasses, arrivingLabel, when, firstOf, walkAt, walkRefusal, walkCheck, placeIn, basicIn, requiredBy, requiredCheck, optionBy, optionCheck, badBasicBy, badBasicCheck, arrivingBasic, missingBasicBy, missingBasicCheck, basicRangeCheck, rangeCheck}
+use Rattle.arrive.proofs.Pointer.{strict-number}
 use Rattle.forward_rules.specs.Crossing.{Forwarding, sizes, records, leavingBasicCheck, Crossing, crossing, stays, hasNumbers, numberCheck, leavingLevel, leavingRuns, leavingCheck, noRoom, leavingLabel, leavingOption, spellingCheck}
 use Rattle.forward_rules.specs.Forward.{forwardChecks, leavingCount, forwardOf}
 use Rattle.forward_rules.proofs.Forwards.{recordsTest}
@@ -66,8 +66,8 @@ when-fine true r h = h
 when-fine false r h = tt
 
 -- the refusals by what they report
-faulty-fine : (n at : ℕ) → 0 < n → n < 22 → Carried (faulty n at)
-faulty-fine n at h k = record { real = h; known = refl; routed = λ e. absurd (omega arith) }
+faulty-fine : (n at : ℕ) → 0 < n → (n ≡ 22 → ⊥) → Carried (faulty n at)
+faulty-fine n at h k = record { real = h; known = refl; routed = λ e. absurd (k e) }
 
 barred-fine : (n code : ℕ) → 0 < n → n < 22 → Carried (barred n code)
 barred-fine n code h k = record { real = h; known = refl; routed = λ e. absurd (omega arith) }
@@ -88,7 +88,7 @@ module _ (port : Port) (area : List ℕ) where
       go (Sound label basic) e = tt
       go (Refused n at) e =
           let q = area-refused (port .basic .on) area n at e in
-          faulty-fine n at (omega (arith, q .0)) (omega (arith, q .1))
+          faulty-fine n at (omega (arith, q .0)) (λ z. omega (arith, q .1))
 
   required-fine : Fine (requiredCheck port area)
   unfolding requiredCheck
@@ -104,14 +104,15 @@ module _ (port : Port) (area : List ℕ) where
     where
       go : (p : Place) → Fine (optionBy p port area)
       go Nowhere = tt
-      go (At p) = by (eqb (readingFor (port .domain) (optionAt p area) .number) 0) refl
+      go (At p) = by (eqb (readAt port (optionAt p area) .number) 0) refl
         where
-          by : (t : Bool) → eqb (readingFor (port .domain) (optionAt p area) .number) 0 ≡ t
-              → Fine (when (not t) (faulty (readingFor (port .domain) (optionAt p area) .number) (p + readingFor (port .domain) (optionAt p area) .pointer)))
+          by : (t : Bool) → eqb (readAt port (optionAt p area) .number) 0 ≡ t
+              → Fine (when (not t) (faulty (readAt port (optionAt p area) .number) (p + readAt port (optionAt p area) .pointer)))
           by true e = tt
           by false e =
-              let n = reading-number (port .domain) (optionAt p area) (eqb-false _ _ e) in
-              faulty-fine (readingFor (port .domain) (optionAt p area) .number) (p + readingFor (port .domain) (optionAt p area) .pointer) (omega (arith, n .0)) (omega (arith, n .1))
+              ⊎-elim (λ n. faulty-fine (readAt port (optionAt p area) .number) (p + readAt port (optionAt p area) .pointer) (omega (arith, n .0)) (λ z. omega (arith, n .1)))
+              (λ n. faulty-fine (readAt port (optionAt p area) .number) (p + readAt port (optionAt p area) .pointer) (omega (arith, n)) (λ z. omega (arith, n)))
+              (strict-number (port .strict) (port .domain) (optionAt p area) (eqb-false _ _ e))
 
   bad-basic-fine : Fine (badBasicCheck port area)
   unfolding badBasicCheck
@@ -119,7 +120,7 @@ module _ (port : Port) (area : List ℕ) where
     where
       go : (p : Place) → Fine (badBasicBy p area)
       go Nowhere = tt
-      go (At p) = when-fine (not (eqb (basicReading (optionAt p area) .number) 0)) (faulty 19 p) (faulty-fine 19 p (omega arith) (omega arith))
+      go (At p) = when-fine (not (eqb (basicReading (optionAt p area) .number) 0)) (faulty 19 p) (faulty-fine 19 p (omega arith) (λ z. omega arith))
 
   missing-basic-fine : Fine (missingBasicCheck port area)
   unfolding missingBasicCheck

@@ -1,5 +1,5 @@
 -- Document 02, Wish 9, over what the box decides, with two ports, at a host, and with many ports (Wish 7): about a whole header, no report of the box is 2;
--- nothing is sent for a datagram that is forwarded, delivered or silenced; and every other refusal but 3 to 5 and 7 to 13 is answered.
+-- nothing is sent for a datagram that is forwarded, delivered or silenced; and every other refusal but 3 to 5, 7 to 13 and 23 is answered.
 use Prim.Native.Nat.{ℕ}
 use mathlib.Core.Path.{_≡_}
 use mathlib.Core.Bool.{true, false}
@@ -49,7 +49,7 @@ pub record Reports : Type 0 where
   pub done : (j : Job) (header : List ℕ) → decisionOf j .number ≡ 0 → sent (reportOf (decisionOf j)) header ≡ none
   -- one of the five facts holds
   pub quiet : (j : Job) (header : List ℕ) → silenced (factsOf j) ≡ true → sent (reportOf (decisionOf j)) header ≡ none
-  -- a refusal that is not silent, and none of 3 to 5 and 7 to 13, is sent: an option 134 that got so far is valid
+  -- a refusal that is not silent, and none of 3 to 5, 7 to 13 and 23, is sent: an option 134 that got so far is valid
   pub answers : (j : Job) (header : List ℕ) → areaOf header ≡ areaIn j → Octets (areaIn j)
       → silent (reportOf (decisionOf j)) ≡ false → unanswered (decisionOf j .number) ≡ false → sent (reportOf (decisionOf j)) header ≡ none → ⊥
   -- no matching route is 22, 3/0/0

@@ -5,6 +5,8 @@ use Rattle.label.specs.Label.{wellFormed, labelTyped, atMost, leq, inRange, isZ
 use Rattle.option.specs.Reading.{pieces}
 use Rattle.option.specs.Spelling.{leastForm, formFor, bodyFor, spelledBy, spellingOf}
 use Rattle.option_read.specs.Reading.{readingFor, readingBy, tagChecks, labelIn}
+use Rattle.option_slack.specs.Slack.{slackBody, slack}
+use Rattle.option_slack.specs.Strict.{strictReading}
 use Rattle.area.specs.Area.{metFrom, metOf, walkOf}
 use Rattle.area_leaving.specs.Kept.{keptOf}
 use Rattle.basic.specs.Levels.{isLevel, rankOf}
@@ -26,5 +28,5 @@ use Rattle.route_decide.specs.Routing.{boxSound, chosen, setCheck, routeCheck, 
 use Rattle.demands_routed.specs.Worked.{WorkedBoxes}
 
 pub worked-boxes : WorkedBoxes
-unfolding subset allBelow wellFormed labelTyped atMost leq inRange isZero pieces leastForm formFor bodyFor spelledBy spellingOf readingFor readingBy tagChecks labelIn metFrom metOf walkOf keptOf isLevel rankOf basicValid basicReading levels.atMost waySound wayZero basicSound passesWay rangeSound assignedSound defaultSound portSound setInRange walkCheck requiredCheck optionCheck badBasicCheck arrivingBasic missingBasicCheck basicRangeCheck leavingBasicCheck arrivingLabel rangeCheck silenced sizes numberCheck leavingLevel leavingRuns leavingCheck spellingCheck levelsSound rowsSound typed tableSound longest routesSound portAt portsSound tablesSound boxSound chosen setCheck routeCheck routingOf routedOutput
+unfolding subset allBelow wellFormed labelTyped atMost leq inRange isZero pieces leastForm formFor bodyFor spelledBy spellingOf readingFor readingBy tagChecks labelIn strictReading slackBody slack metFrom metOf walkOf keptOf isLevel rankOf basicValid basicReading levels.atMost waySound wayZero basicSound passesWay rangeSound assignedSound defaultSound portSound setInRange walkCheck requiredCheck optionCheck badBasicCheck arrivingBasic missingBasicCheck basicRangeCheck leavingBasicCheck arrivingLabel rangeCheck silenced sizes numberCheck leavingLevel leavingRuns leavingCheck spellingCheck levelsSound rowsSound typed tableSound longest routesSound portAt portsSound tablesSound boxSound chosen setCheck routeCheck routingOf routedOutput
 worked-boxes = (refl, refl, refl)

@@ -231,7 +231,7 @@ pub fn read_file(octets: &[u8], rows: &mut [u16]) -> FileRead
     let total = n as u32;
     let mut work = [0u16; MAX_NUMBERS];
     let length = read_two(octets, true, 0, total, total);
-    let version = read_octet(octets, length.ok, length.at, 1, 2);
+    let version = read_octet(octets, length.ok, length.at, 1, 3);
     let kind = version.value as u8;
     let head = judge(version.ok, version.at, 0, total <= most_octets(kind));
     let ports = read_ports(octets, head.ok, head.at, kind);

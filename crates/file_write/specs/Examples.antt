@@ -34,7 +34,7 @@ sampleSet =
 abbrev pub sampleRows : List ℕ
 sampleRows = 0 ∷ 99 ∷ 1000 ∷ 100 ∷ 300 ∷ 0 ∷ []
 
--- a port with every field of version 2, and domains whose four octets differ
+-- a port with every field of version 3, and domains whose four octets differ
 abbrev pub fullSet : Set
 fullSet =
     record {
@@ -55,6 +55,7 @@ fullSet =
             spellings = usual;
             unlabelled = true;
             default = labelOf 16909060 2 [];
+            strict = true;
           }
           ∷ replicate 15 noPort;
       tablecount = 1;
@@ -97,9 +98,13 @@ later = 0 ∷ 0 ∷ 0 ∷ 0 ∷ 0 ∷ 0 ∷ 0 ∷ 0 ∷ 0 ∷ 13 ∷ 0 ∷ 0 ∷
 abbrev pub second : List ℕ
 second = 0 ∷ 123 ∷ 2 ∷ 2 ∷ (take 27 (drop 4 first) ++ (later ++ (take 27 (drop 31 first) ++ (later ++ drop 58 first))))
 
+-- version 3 adds an octet: not strict
+abbrev pub third : List ℕ
+third = 0 ∷ 125 ∷ 3 ∷ 2 ∷ (take 27 (drop 4 first) ++ (later ++ (0 ∷ (take 27 (drop 31 first) ++ (later ++ (0 ∷ drop 58 first))))))
+
 abbrev pub full : List ℕ
 full =
-    0 ∷ 91 ∷ 2 ∷ 1
+    0 ∷ 92 ∷ 3 ∷ 1
     -- 4: domain; 8: lowest; 14: highest, its runs at 20 and 24
     ∷ 1 ∷ 2 ∷ 3 ∷ 4
     ∷ 1 ∷ 2 ∷ 3 ∷ 4 ∷ 1 ∷ 0
@@ -107,14 +112,15 @@ full =
     -- 28: required; 29: assigned
     ∷ 0
     ∷ 1 ∷ 2 ∷ 3 ∷ 4 ∷ 3 ∷ 1 ∷ 0 ∷ 10 ∷ 0 ∷ 10
-    -- 39: Basic Security on; 40: receiving; 48: sending; 54: spellings; 55: unlabelled; 56: default
+    -- 39: Basic Security on; 40: receiving; 48: sending; 54: spellings; 55: unlabelled; 56: default; 62: strict
     ∷ 1
     ∷ 171 ∷ 90 ∷ 0 ∷ 2 ∷ 0 ∷ 0 ∷ 32 ∷ 0
     ∷ 150 ∷ 90 ∷ 0 ∷ 1 ∷ 0 ∷ 0
     ∷ 13
     ∷ 1
     ∷ 1 ∷ 2 ∷ 3 ∷ 4 ∷ 2 ∷ 0
-    -- 62: one table; 63: from; 67: to; 71: pairs; 77: rows
+    ∷ 1
+    -- 63: one table; 64: from; 68: to; 72: pairs; 78: rows
     ∷ 1
     ∷ 0 ∷ 0 ∷ 0 ∷ 5
     ∷ 0 ∷ 0 ∷ 0 ∷ 9
@@ -127,7 +133,8 @@ full =
 pub record Files : Type 0 where
   pub sample-first : fileOctets 1 sampleSet sampleRows ≡ first
   pub sample-second : fileOctets 2 sampleSet sampleRows ≡ second
-  pub all-fields : fileOctets 2 fullSet sampleRows ≡ full
+  pub sample-third : fileOctets 3 sampleSet sampleRows ≡ third
+  pub all-fields : fileOctets 3 fullSet sampleRows ≡ full
 
 -- 3. What the reader says: 0 accepted, 101 refused with the place that it blames, 102 a version that is not known, 103 rows that outgrow the room.
 
@@ -152,11 +159,11 @@ abbrev pub broken : List (List (ℕ × ℕ) × (ℕ × ℕ))
 broken =
     ([], (0, 0))
     -- the length; the version
-    ∷ ((1, 90) ∷ [], (101, 0))
-    ∷ ((1, 92) ∷ [], (101, 0))
+    ∷ ((1, 91) ∷ [], (101, 0))
+    ∷ ((1, 93) ∷ [], (101, 0))
     ∷ ((0, 1) ∷ [], (101, 0))
     ∷ ((2, 0) ∷ [], (102, 2))
-    ∷ ((2, 3) ∷ [], (102, 2))
+    ∷ ((2, 4) ∷ [], (102, 2))
     -- the count of ports; a port's domain; its lowest and highest label
     ∷ ((3, 17) ∷ [], (101, 3))
     ∷ ((4, 0) ∷ (5, 0) ∷ (6, 0) ∷ (7, 0) ∷ [], (101, 4))
@@ -198,22 +205,25 @@ broken =
     ∷ ((60, 6) ∷ [], (101, 56))
     ∷ ((55, 0) ∷ [], (101, 56))
     ∷ ((55, 0) ∷ (56, 0) ∷ (57, 0) ∷ (58, 0) ∷ (59, 0) ∷ [], (101, 60))
+    -- strict
+    ∷ ((62, 2) ∷ [], (101, 62))
+    ∷ ((62, 0) ∷ [], (0, 0))
     -- the count of tables; from, to; pairs; rows
-    ∷ ((62, 9) ∷ [], (101, 62))
-    ∷ ((66, 0) ∷ [], (101, 63))
-    ∷ ((70, 0) ∷ [], (101, 67))
-    ∷ ((71, 1) ∷ (72, 1) ∷ [], (101, 71))
-    ∷ ((75, 1) ∷ [], (101, 75))
-    ∷ ((76, 2) ∷ [], (101, 76))
-    ∷ ((77, 4) ∷ (78, 1) ∷ [], (101, 77))
-    ∷ ((86, 99) ∷ [], (101, 85))
-    ∷ ((87, 0) ∷ [], (101, 87))
-    ∷ ((87, 255) ∷ (88, 255) ∷ [], (101, 87))
-    ∷ ((89, 255) ∷ (90, 54) ∷ [], (0, 0))
-    ∷ ((89, 255) ∷ (90, 55) ∷ [], (101, 89))
-    ∷ ((89, 3) ∷ (90, 232) ∷ [], (101, 89))
+    ∷ ((63, 9) ∷ [], (101, 63))
+    ∷ ((67, 0) ∷ [], (101, 64))
+    ∷ ((71, 0) ∷ [], (101, 68))
+    ∷ ((72, 1) ∷ (73, 1) ∷ [], (101, 72))
+    ∷ ((76, 1) ∷ [], (101, 76))
+    ∷ ((77, 2) ∷ [], (101, 77))
+    ∷ ((78, 4) ∷ (79, 1) ∷ [], (101, 78))
+    ∷ ((87, 99) ∷ [], (101, 86))
+    ∷ ((88, 0) ∷ [], (101, 88))
+    ∷ ((88, 255) ∷ (89, 255) ∷ [], (101, 88))
+    ∷ ((90, 255) ∷ (91, 54) ∷ [], (0, 0))
+    ∷ ((90, 255) ∷ (91, 55) ∷ [], (101, 90))
+    ∷ ((90, 3) ∷ (91, 232) ∷ [], (101, 90))
     -- fewer tables than there are: the first octet behind the last
-    ∷ ((62, 0) ∷ [], (101, 63))
+    ∷ ((63, 0) ∷ [], (101, 64))
     ∷ []
 
 -- where it is cut off, and the field that is blamed
@@ -223,14 +233,17 @@ cuts =
     ∷ (4, 4) ∷ (7, 4) ∷ (8, 8) ∷ (11, 8) ∷ (12, 12) ∷ (13, 13) ∷ (14, 14) ∷ (18, 18) ∷ (19, 19) ∷ (20, 20) ∷ (21, 20) ∷ (22, 22) ∷ (23, 22) ∷ (24, 24) ∷ (26, 26) ∷ (27, 26)
     ∷ (28, 28) ∷ (29, 29) ∷ (33, 33) ∷ (34, 34) ∷ (35, 35) ∷ (37, 37) ∷ (38, 37)
     ∷ (39, 39) ∷ (40, 40) ∷ (41, 41) ∷ (42, 42) ∷ (43, 42) ∷ (44, 44) ∷ (45, 44) ∷ (46, 46) ∷ (48, 48) ∷ (49, 49) ∷ (50, 50) ∷ (52, 52) ∷ (54, 54) ∷ (55, 55) ∷ (56, 56) ∷ (59, 56) ∷ (60, 60) ∷ (61, 61)
-    ∷ (62, 62) ∷ (63, 63) ∷ (66, 63) ∷ (67, 67) ∷ (71, 71) ∷ (72, 71) ∷ (73, 73) ∷ (74, 74) ∷ (75, 75) ∷ (76, 76) ∷ (77, 77) ∷ (78, 77)
-    ∷ (79, 79) ∷ (81, 81) ∷ (83, 83) ∷ (84, 83) ∷ (85, 85) ∷ (87, 87) ∷ (89, 89) ∷ (90, 89)
+    ∷ (62, 62) ∷ (63, 63) ∷ (64, 64) ∷ (67, 64) ∷ (68, 68) ∷ (72, 72) ∷ (73, 72) ∷ (74, 74) ∷ (75, 75) ∷ (76, 76) ∷ (77, 77) ∷ (78, 78) ∷ (79, 78)
+    ∷ (80, 80) ∷ (82, 82) ∷ (84, 84) ∷ (85, 84) ∷ (86, 86) ∷ (88, 88) ∷ (90, 90) ∷ (91, 90)
     ∷ []
 
 pub record Readings : Type 0 where
-  -- both files of the sample say its records; what lies behind their rows in the room stays
+  -- the three files of the sample say its records; what lies behind their rows in the room stays
   pub sample-first : fileReading first 24576 ≡ record { verdict = 0; at = 0; used = 6; set = sampleSet }
   pub sample-second : fileReading second 24576 ≡ record { verdict = 0; at = 0; used = 6; set = sampleSet }
+  pub sample-third : fileReading third 24576 ≡ record { verdict = 0; at = 0; used = 6; set = sampleSet }
+  -- all fields, the strict mark among them
+  pub all-fields : fileReading full 24576 ≡ record { verdict = 0; at = 0; used = 6; set = fullSet }
   pub rows-first : fileRoom first (replicate 8 7) ≡ 0 ∷ 99 ∷ 1000 ∷ 100 ∷ 300 ∷ 0 ∷ 7 ∷ 7 ∷ []
   pub rows-second : fileRoom second (replicate 8 7) ≡ 0 ∷ 99 ∷ 1000 ∷ 100 ∷ 300 ∷ 0 ∷ 7 ∷ 7 ∷ []
   -- each rule
@@ -240,7 +253,7 @@ pub record Readings : Type 0 where
   pub nothing : told [] 24576 ≡ (101, 0)
   pub half : told (0 ∷ []) 24576 ≡ (101, 0)
   -- an octet behind the last table
-  pub behind : told (changed ((1, 92) ∷ []) full ++ (0 ∷ [])) 24576 ≡ (101, 91)
+  pub behind : told (changed ((1, 93) ∷ []) full ++ (0 ∷ [])) 24576 ≡ (101, 92)
   -- the example's three changes
   pub assigned : told (changed ((55, 1) ∷ []) first) 24576 ≡ (101, 52)
   pub target : told (changed ((87, 3) ∷ (88, 232) ∷ []) first) 24576 ≡ (101, 87)
@@ -250,9 +263,11 @@ pub record Readings : Type 0 where
   pub rows : told (changed ((76, 65) ∷ []) first) 24576 ≡ (101, 75)
   -- the room is looked at last
   pub outgrown : told full 5 ≡ (103, 0)
-  pub last : told (changed ((89, 3) ∷ (90, 232) ∷ []) full) 5 ≡ (101, 89)
+  pub last : told (changed ((90, 3) ∷ (91, 232) ∷ []) full) 5 ≡ (101, 90)
   -- 32 KiB and 60 KiB, and one octet more: no ports, no tables, and octets behind them
   pub held-first : told (128 ∷ 0 ∷ 1 ∷ replicate 32765 0) 24576 ≡ (101, 5)
   pub long-first : told (128 ∷ 1 ∷ 1 ∷ replicate 32766 0) 24576 ≡ (101, 0)
   pub held-second : told (240 ∷ 0 ∷ 2 ∷ replicate 61437 0) 24576 ≡ (101, 5)
   pub long-second : told (240 ∷ 1 ∷ 2 ∷ replicate 61438 0) 24576 ≡ (101, 0)
+  pub held-third : told (240 ∷ 0 ∷ 3 ∷ replicate 61437 0) 24576 ≡ (101, 5)
+  pub long-third : told (240 ∷ 1 ∷ 3 ∷ replicate 61438 0) 24576 ≡ (101, 0)

@@ -1,5 +1,5 @@
--- Document 02, Wishes 1 and 8: "A sound set has one file, and what the writer wrote the reader gives back", in each of the two versions.
-use mathlib.Core.Bool.{Bool, true, false, _&&_}
+-- Document 02, Wishes 1, 8 and 10: "A sound set has one file, and what the writer wrote the reader gives back", in each of the three versions.
+use mathlib.Core.Bool.{Bool, true, false, not, _&&_}
 use mathlib.Core.List.{List, [], _∷_}
 use mathlib.Core.Path.{_≡_}
 use Prim.Native.Nat.{ℕ, _≤_, _<_}
@@ -40,6 +40,7 @@ OneFileIn version = (s : Set) (rows : List ℕ) → setSound s rows ≡ true →
 pub record OneFileEach : Type 0 where
   pub first : OneFileIn 1
   pub second : OneFileIn 2
+  pub third : OneFileIn 3
   -- and an unsound set, or one that a version cannot say, has none in it
   pub others : (o : List ℕ) → Octets o → (s : Set) (rows : List ℕ) → Tells o s rows → (setSound s rows ≡ true) × (sayable (getD o 2 0) s rows ≡ true)
 
@@ -50,6 +51,11 @@ abbrev pub allPlain : List Port → Bool
 allPlain [] = true
 allPlain (p ∷ ps) = isPlain p && allPlain ps
 
+-- no port is strict
+abbrev pub noneStrict : List Port → Bool
+noneStrict [] = true
+noneStrict (p ∷ ps) = not (p .strict) && noneStrict ps
+
 -- every table keeps to 16 level pairs and 64 rows
 abbrev pub allSmall : List LentTable → Bool
 allSmall [] = true
@@ -59,17 +65,19 @@ pub record Sayable : Type 0 where
   -- version 1: these, and none of them is too long for it
   pub first : (s : Set) (rows : List ℕ) → setSound s rows ≡ true
       → sayable 1 s rows ≡ (allPlain (take (s .portcount) (s .ports)) && allSmall (tablesFrom (take (s .tablecount) (s .tables)) rows))
-  -- version 2: all that are not too long for it
-  pub second : (s : Set) (rows : List ℕ) → setSound s rows ≡ true → sayable 2 s rows ≡ leb (totalOf 2 s rows) 61440
+  -- version 2: those without a strict port that are not too long for it
+  pub second : (s : Set) (rows : List ℕ) → setSound s rows ≡ true → sayable 2 s rows ≡ (noneStrict (take (s .portcount) (s .ports)) && leb (totalOf 2 s rows) 61440)
+  -- version 3: all that are not too long for it
+  pub third : (s : Set) (rows : List ℕ) → setSound s rows ≡ true → sayable 3 s rows ≡ leb (totalOf 3 s rows) 61440
 
 -- 4. The writer's answers by document 01's numbers, in their order, and what it leaves as it was.
 
 pub record Answers : Type 0 where
   pub unsound : (s : Set) (rows : List ℕ) (room : ℕ) → setSound s rows ≡ false → numberOf (writtenOf s rows room) ≡ 2 ∷ []
   -- refused by name, with none of document 01's numbers
-  pub long : (s : Set) (rows : List ℕ) (room : ℕ) → setSound s rows ≡ true → 61440 < totalOf 2 s rows → numberOf (writtenOf s rows room) ≡ []
-  pub short : (s : Set) (rows : List ℕ) (room : ℕ) → setSound s rows ≡ true → totalOf 2 s rows ≤ 61440 → room < totalOf 2 s rows → numberOf (writtenOf s rows room) ≡ 1 ∷ []
-  pub done : (s : Set) (rows : List ℕ) (room : ℕ) → setSound s rows ≡ true → totalOf 2 s rows ≤ 61440 → totalOf 2 s rows ≤ room → writtenOf s rows room ≡ Done (totalOf 2 s rows)
+  pub long : (s : Set) (rows : List ℕ) (room : ℕ) → setSound s rows ≡ true → 61440 < totalOf 3 s rows → numberOf (writtenOf s rows room) ≡ []
+  pub short : (s : Set) (rows : List ℕ) (room : ℕ) → setSound s rows ≡ true → totalOf 3 s rows ≤ 61440 → room < totalOf 3 s rows → numberOf (writtenOf s rows room) ≡ 1 ∷ []
+  pub done : (s : Set) (rows : List ℕ) (room : ℕ) → setSound s rows ≡ true → totalOf 3 s rows ≤ 61440 → totalOf 3 s rows ≤ room → writtenOf s rows room ≡ Done (totalOf 3 s rows)
   -- a refusal writes nothing, and octets past the file are kept
   pub refused : (s : Set) (rows out : List ℕ) → (numberOf (writtenOf s rows (length out)) ≡ 0 ∷ [] → ⊥) → fileOutput s rows out ≡ out
   pub past : (s : Set) (rows out : List ℕ) (n : ℕ) → writtenOf s rows (length out) ≡ Done n → drop n (fileOutput s rows out) ≡ drop n out

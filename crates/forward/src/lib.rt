@@ -62,7 +62,7 @@ pub fn forward(
     forward_any(arriving, leaving, table, rows, levels, facts, area, out)
 }
 
-// The same between two usual ports: neither reads option 130, so 19 to 21 are not asked, and the first look at a range is the last.
+// The same between two usual ports: neither reads option 130 or is strict, so 19 to 21 and 23 are not asked, and the first look at a range is the last.
 fn forward_usual(
     arriving: Port,
     leaving: Port,

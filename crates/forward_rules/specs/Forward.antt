@@ -23,7 +23,7 @@ abbrev pub forwardChecks : Forwarding → List (Option Refusal)
 forwardChecks f =
     sizes f  -- 1
     ∷ records f  -- 2
-    ∷ (optionChecks (f .arriving) (f .area) 9  -- 3 to 13, 19 to 21 at the arriving port
+    ∷ (optionChecks (f .arriving) (f .area) 9  -- 3 to 13 with 23, 19 to 21 at the arriving port
     ++ (leavingBasicCheck f  -- 21, the leaving port
     ∷ rangeCheck (f .arriving) (f .area) 9  -- 14
     ∷ numberCheck (crossing f)  -- 16

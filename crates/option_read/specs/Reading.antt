@@ -1,7 +1,7 @@
 -- Document 01, "Asked alone" and rows 3 and 7 to 13 of the table: what reading one option answers, for any octets.
 -- Pointers count from the option's own start.
 use Prim.Native.Nat.{ℕ, _+_, _-_, _*_, _/_}
-use mathlib.Core.List.{List, [], _∷_}
+use mathlib.Core.List.{List, [], _∷_, _++_}
 use mathlib.Core.Bool.{Bool, true, false, not, _&&_, _||_, cond}
 use lib.ListN.{length, getD, take, drop}
 use lib.Dec.{leb, ltb, eqb}
@@ -59,15 +59,22 @@ badIn t b k = cond (eqb t 2) (badNumber b k) (badPair b k)
 abbrev pub badPlace : ℕ → List ℕ → ℕ
 badPlace t b = cond (eqb t 1) (length b) (cond (eqb t 2) 2 4 * firstTrue (badIn t b) (countIn t b))
 
--- rows 9 to 13
-unfoldable pub tagChecks : List ℕ → List Check
-tagChecks o =
+-- rows 9 to 12
+abbrev pub categoryChecks : List ℕ → List Check
+categoryChecks o =
     check (not (knownTag (tagOf o))) 9 6
     ∷ check (not (goodLength (tagOf o) (tagLengthOf o) && leb (tagLengthOf o + 6) (length o))) 10 7
     ∷ check (not (eqb (getD o 8 0) 0)) 11 8
     ∷ check (ltb (badPlace (tagOf o) (categoriesIn o)) (length (categoriesIn o))) 12 (10 + badPlace (tagOf o) (categoriesIn o))
-    ∷ check (ltb (tagLengthOf o + 6) (length o)) 13 (tagLengthOf o + 6)
     ∷ []
+
+-- row 13
+abbrev pub afterCheck : List ℕ → Check
+afterCheck o = check (ltb (tagLengthOf o + 6) (length o)) 13 (tagLengthOf o + 6)
+
+-- rows 9 to 13
+unfoldable pub tagChecks : List ℕ → List Check
+tagChecks o = categoryChecks o ++ (afterCheck o ∷ [])
 
 -- the label of an option to which no check applies
 unfoldable pub labelIn : List ℕ → Label

@@ -1,13 +1,13 @@
 -- Laws of sound ports and ranges, for whoever calls with one.
 use mathlib.Core.Path.{_≡_, refl, sym, _∙_, ap}
-use mathlib.Core.Bool.{Bool, true, false, cond, not, _&&_, and-true, and-false}
+use mathlib.Core.Bool.{Bool, true, false, cond, not, _&&_, _||_, and-true, and-false}
 use Prim.Native.Nat.{ℕ}
 use lib.Dec.{eqb}
 use native.Mathlib.Nat.{le-refl}
 use borrow.Author.Tests.{eqb-true, eqb-false, not-true, eq-eqb, ne-eqb}
 use Rattle.label.specs.declared.Label.{Label}
 use Rattle.label.specs.Label.{wellFormed, atMost, leq, inRange, isZero}
-use Rattle.label.proofs.Bools.{and-left, and-right}
+use Rattle.label.proofs.Bools.{and-left, and-right, or-none}
 use Rattle.label.proofs.Labels.{leq-at-most, leq-says, leq-said}
 use lib.ListN.{length}
 use Rattle.basic.specs.Settings.{isOff, basicSound}
@@ -135,13 +135,13 @@ default-ill p e =
 third-no : (a b c z : Bool) → (c && z) ≡ false → false ≡ (a && (b && (c && z)))
 third-no a b c z e = sym (rw (e, and-false b, and-false a))
 
-pub facing-unlabelled : (p : Port) → p .unlabelled ≡ true → false ≡ isPlain p
+pub later-flag : (p : Port) → (p .unlabelled || p .strict) ≡ true → false ≡ isPlain p
 unfolding isPlain
-facing-unlabelled p e = third-no (isOff (p .basic)) (isUsual (p .spellings)) (not (p .unlabelled)) (isZero (p .default)) (rw e)
+later-flag p e = third-no (isOff (p .basic)) (isUsual (p .spellings)) (not (p .unlabelled || p .strict)) (isZero (p .default)) (rw e)
 
 pub default-given : (p : Port) → isZero (p .default) ≡ false → false ≡ isPlain p
 unfolding isPlain
-default-given p e = third-no (isOff (p .basic)) (isUsual (p .spellings)) (not (p .unlabelled)) (isZero (p .default)) (rw (e, and-false (not (p .unlabelled))))
+default-given p e = third-no (isOff (p .basic)) (isUsual (p .spellings)) (not (p .unlabelled || p .strict)) (isZero (p .default)) (rw (e, and-false (not (p .unlabelled || p .strict))))
 
 -- The assigned label is the last to be looked at.
 
@@ -163,8 +163,10 @@ plain-is p m n k e =
     let e2 = and-right (isUsual (p .spellings)) _ e1 in
     let b = off-is (p .basic) m n (and-left (isOff (p .basic)) _ e) in
     let s = usual-is (p .spellings) (and-left (isUsual (p .spellings)) _ e1) in
-    let u = not-true (p .unlabelled) (and-left (not (p .unlabelled)) _ e2) in
-    let l = is-zero (p .default) k (and-right (not (p .unlabelled)) _ e2) in
+    let f = or-none (p .unlabelled) (p .strict) (not-true (p .unlabelled || p .strict) (and-left (not (p .unlabelled || p .strict)) _ e2)) in
+    let u = f .0 in
+    let t = f .1 in
+    let l = is-zero (p .default) k (and-right (not (p .unlabelled || p .strict)) _ e2) in
     λ i. record {
       domain = p .domain;
       lowest = p .lowest;
@@ -175,6 +177,7 @@ plain-is p m n k e =
       spellings = s i;
       unlabelled = u i;
       default = l i;
+      strict = t i;
     }
 
 -- The tests of a range, in the order in which they are made.

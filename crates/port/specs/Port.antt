@@ -1,5 +1,5 @@
 -- Document 01, "Records": what makes a port and a host's range sound.
-use mathlib.Core.Bool.{Bool, false, cond, not, _&&_}
+use mathlib.Core.Bool.{Bool, false, cond, not, _&&_, _||_}
 use Prim.Native.Nat.{ℕ}
 use lib.Dec.{eqb}
 use Rattle.label.specs.declared.Label.{Label}
@@ -22,11 +22,12 @@ plainPort domain lowest highest required assigned =
       spellings = usual;
       unlabelled = false;
       default = zeroLabel;
+      strict = false;
     }
 
 -- document 01's record says it: every later field has the value that `plainPort` gives
 unfoldable pub isPlain : Port → Bool
-isPlain p = isOff (p .basic) && (isUsual (p .spellings) && (not (p .unlabelled) && isZero (p .default)))
+isPlain p = isOff (p .basic) && (isUsual (p .spellings) && (not (p .unlabelled || p .strict) && isZero (p .default)))
 
 -- both labels are well formed and of the domain, and lowest ≤ highest
 unfoldable pub rangeSound : Label → Label → ℕ → Bool

@@ -21,6 +21,8 @@ pub struct Port {
     // whether it faces unlabelled hosts, and the label that all of them have (Wish 6)
     pub unlabelled: bool,
     pub default: Label,
+    // whether slack spellings are stopped (Wish 10)
+    pub strict: bool,
 }
 
 pub struct Host {
@@ -49,6 +51,7 @@ impl Port {
             spellings: Spellings::usual(),
             unlabelled: false,
             default: Label::empty(0, 0),
+            strict: false,
         }
     }
 
@@ -60,7 +63,7 @@ impl Port {
         if !spellings.is_usual() {
             return false;
         }
-        if self.unlabelled {
+        if self.unlabelled | self.strict {
             return false;
         }
         let default = self.default;

@@ -38,6 +38,7 @@ usual-sound p e = and-right (looksUsual p) _ e
 pub record Usual (p : Port) : Type 0 where
   pub required : p .required ≡ true
   pub labelled : p .unlabelled ≡ false
+  pub loose : p .strict ≡ false
   pub off : p .basic .on ≡ false
   pub low : p .lowest .count ≡ 0
   pub high : p .highest .count ≤ 1
@@ -47,13 +48,15 @@ unfolding looksUsual
 looks p e =
     let e1 = and-right (p .required) _ e in
     let e2 = and-right (not (p .unlabelled)) _ e1 in
-    let e3 = and-right (not (p .basic .on)) _ e2 in
+    let e3 = and-right (not (p .strict)) _ e2 in
+    let e4 = and-right (not (p .basic .on)) _ e3 in
     record {
       required = and-left (p .required) _ e;
       labelled = not-true _ (and-left (not (p .unlabelled)) _ e1);
-      off = not-true _ (and-left (not (p .basic .on)) _ e2);
-      low = eqb-true _ _ (and-left (eqb (p .lowest .count) 0) _ e3);
-      high = leb-true _ _ (and-right (eqb (p .lowest .count) 0) _ e3);
+      loose = not-true _ (and-left (not (p .strict)) _ e2);
+      off = not-true _ (and-left (not (p .basic .on)) _ e3);
+      low = eqb-true _ _ (and-left (eqb (p .lowest .count) 0) _ e4);
+      high = leb-true _ _ (and-right (eqb (p .lowest .count) 0) _ e4);
     }
 
 pub usual : (p : Port) → usualPort p ≡ true → Usual p
@@ -265,25 +268,27 @@ in-turn true true true true true true true true = refl
 in-turn true true true true true false true true = refl
 
 -- the assigned and the default label and the settings of option 130 as the first three tests leave them
-settled : (q u b : Bool) (d n o r a z w s ia iz ww : Bool)
-    → (((((((d && (n && (o && r))) && (a && z)) && w) && q) && not u) && not b) && s)
-    ≡ ((q && (not u && (not b && (n && o)))) && (d && (r && (cond q a ia && (cond b ww w && (s && cond u iz z))))))
-settled false u b d n o r a z w s ia iz ww = simp and-false
-settled true true b d n o r a z w s ia iz ww = simp and-false
-settled true false true d n o r a z w s ia iz ww = simp and-false
-settled true false false d n o r a z w s ia iz ww = simp and-true (in-turn d n o r a z w s)
+settled : (q u t b : Bool) (d n o r a z w s ia iz ww : Bool)
+    → ((((((((d && (n && (o && r))) && (a && z)) && w) && q) && not u) && not t) && not b) && s)
+    ≡ ((q && (not u && (not t && (not b && (n && o))))) && (d && (r && (cond q a ia && (cond b ww w && (s && cond u iz z))))))
+settled false u t b d n o r a z w s ia iz ww = simp and-false
+settled true true t b d n o r a z w s ia iz ww = simp and-false
+settled true false true b d n o r a z w s ia iz ww = simp and-false
+settled true false false true d n o r a z w s ia iz ww = simp and-false
+settled true false false false d n o r a z w s ia iz ww = simp and-true (in-turn d n o r a z w s)
 
 pub usual-is : (p : Port)
-    → ((((((rangeUsual (p .lowest) (p .highest) (p .domain) && (isZero (p .assigned) && isZero (p .default)))
+    → (((((((rangeUsual (p .lowest) (p .highest) (p .domain) && (isZero (p .assigned) && isZero (p .default)))
     && (wayZero (p .basic .receiving) && wayZero (p .basic .sending)))
     && p .required)
     && not (p .unlabelled))
+    && not (p .strict))
     && not (p .basic .on))
     && someOf (p .spellings))
     ≡ usualPort p
 unfolding usualPort looksUsual portSound assignedSound defaultSound basicSound rangeUsual
 usual-is p =
-    settled (p .required) (p .unlabelled) (p .basic .on)
+    settled (p .required) (p .unlabelled) (p .strict) (p .basic .on)
     (not (eqb (p .domain) 0))
     (eqb (p .lowest .count) 0)
     (leb (p .highest .count) 1)

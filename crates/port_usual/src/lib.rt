@@ -16,14 +16,15 @@ ghost use Rattle.option.specs.Permitted.{someOf};
 ghost use Rattle.port_usual.specs.Usual.{looksUsual, usualPort};
 ghost use Rattle.port_usual.specs.Stages.{rangeUsual};
 
-// Whether the port is as most are: a label is required, no option 130 is read, it faces labelled hosts, and its range goes from no categories to those
-// of at most one run.
+// Whether the port is as most are: a label is required, no option 130 is read, it faces labelled hosts, it is not strict, and its range goes from no
+// categories to those of at most one run.
 pub fn looks_usual(port: Port) -> bool
     ensures { λ r. ⌜ r ≡ looksUsual port ⌝ }
 {
     let low = port.lowest.count;
     let high = port.highest.count;
-    port.required & (!port.unlabelled & (!port.basic.on & ((low == 0) & (high <= 1))))
+    port.required
+        & (!port.unlabelled & (!port.strict & (!port.basic.on & ((low == 0) & (high <= 1)))))
 }
 
 // Whether it is, and is sound. Every place is fixed and no test ends it early, so that nothing is copied and all of the port is read at once;
@@ -35,7 +36,7 @@ pub fn is_usual(port: Port) -> bool
     let zero = labels_zero(port.assigned, port.default);
     let off = ways_zero(port.basic.receiving, port.basic.sending);
     let some = some_of(port.spellings);
-    formed & zero & off & port.required & !port.unlabelled & !port.basic.on & some
+    formed & zero & off & port.required & !port.unlabelled & !port.strict & !port.basic.on & some
 }
 
 // Whether two labels are a sound range of the domain, which is not 0, from no categories to those of at most one run.

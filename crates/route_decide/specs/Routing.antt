@@ -107,7 +107,7 @@ abbrev pub routingChecks : Routing → List (Option Refusal)
 routingChecks b =
     sizes (chosenPair b)  -- 1
     ∷ setCheck b  -- 2
-    ∷ (optionChecks (arrivingPort b) (b .area) 9  -- 3 to 13, 19 to 21 at the arriving port
+    ∷ (optionChecks (arrivingPort b) (b .area) 9  -- 3 to 13 with 23, 19 to 21 at the arriving port
     ++ (leavingBasicBy (chosen b) (chosenPair b)  -- 21, the leaving port
     ∷ rangeCheck (arrivingPort b) (b .area) 9  -- 14
     ∷ routeCheck b  -- 22

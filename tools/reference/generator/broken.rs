@@ -6,7 +6,7 @@ use crate::cases::{
     FORWARD_FACTS, FORWARD_WIDE, IN_BOX, MAX_OUTPUT, MAX_ROOM, MEMORY, READ, READ_AND_WRITE, READ_BASIC, READ_FILE, READ_MESSAGE, RENUMBER,
     RENUMBER_WIDE, REVERSE, SPELL, SPELL_PERMITTED, WITHIN, WRITE_BASIC, WRITE_FILE,
 };
-use crate::entries::{Entries, BASIC_GROUP, DEFAULT_GROUP, GROUPS, SPELLINGS_GROUP};
+use crate::entries::{Entries, BASIC_GROUP, DEFAULT_GROUP, GROUPS, SPELLINGS_GROUP, STRICT_GROUP};
 use crate::file::{SetRecord, FIRST};
 use crate::label::HeldLabel;
 use crate::messages::Report;
@@ -165,9 +165,11 @@ fn bad_basic_group(round: usize) -> Vec<u8> {
 fn spoil_groups(octets: &mut Vec<u8>, groups_at: usize, round: usize) {
     if round % 5 == 4 {
         let mut groups = vec![SPELLINGS_GROUP, [16, 255, 29, 128][round / 5 % 4]];
-        if round % 2 == 0 {
-            // `unlabelled` is neither 0 nor 1.
+        // `unlabelled` or `strict` is neither 0 nor 1.
+        if round % 3 == 0 {
             groups = vec![DEFAULT_GROUP, [2, 255, 3, 128][round / 5 % 4], 0, 0, 0, 0, 0, 0, 0];
+        } else if round % 3 == 1 {
+            groups = vec![STRICT_GROUP, [2, 255, 3, 128][round / 5 % 4]];
         }
         octets.splice(groups_at..groups_at + 1, groups);
     } else if round % 5 == 3 {

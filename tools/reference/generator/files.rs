@@ -2,7 +2,7 @@
 
 use crate::basic::{rank, WayRecord, LEVELS, MAX_FLAG_FIELDS};
 use crate::cases::{Case, Output};
-use crate::file::{file_of, SetRecord, Version, FIRST, MAX_PORTS, MAX_TABLES, SECOND, VERSION_AT, WRITTEN};
+use crate::file::{file_of, SetRecord, Version, MAX_PORTS, MAX_TABLES, SECOND, VERSIONS, VERSION_AT, WRITTEN};
 use crate::label::{HeldLabel, Run, HIGHEST_CATEGORY, MAX_RUNS};
 use crate::records::{PortRecord, Row, TableRecord, FIRST_LEVEL_PAIRS, MAX_LEVEL_PAIRS, MAX_ROWS};
 
@@ -19,7 +19,7 @@ use super::Made;
 /// Files of this many octets are laid out by the first 16 bits of their length.
 const LONGEST: usize = 65_000;
 /// The first version that there is not.
-const UNKNOWN: u8 = 3;
+const UNKNOWN: u8 = 4;
 
 // Sound sets.
 
@@ -83,8 +83,9 @@ pub fn largest_set(random: &mut Random) -> SetRecord {
     SetRecord::of(&several(random, MAX_PORTS, port_of_most_runs), &several(random, MAX_TABLES, fullest_table))
 }
 
-/// Gives a sound port later fields.
-fn later_fields(random: &mut Random, port: &mut PortRecord) {
+/// Gives a sound port later fields that the version can say.
+fn later_fields(random: &mut Random, port: &mut PortRecord, version: &Version) {
+    port.strict = version.mark && random.chance(1, 2);
     if random.chance(1, 2) {
         let (receiving, sending) = (any_way(random), any_way(random));
         switch_on(port, receiving, sending);
@@ -119,9 +120,10 @@ fn largest_port(random: &mut Random) -> PortRecord {
 }
 
 /// A sound set whose file of the version that is written has exactly `length` octets, with as many rows as a room has that is lent for a
-/// file: 16 of the largest ports, tables of 1,024 rows and 256 level pairs, and level pairs that make up the rest.
+/// file: 16 of the largest ports (or 15, where the length is even), tables of 1,024 rows and 256 level pairs, and level pairs that make up
+/// the rest.
 pub fn set_of_length(random: &mut Random, length: usize) -> SetRecord {
-    let ports = several(random, MAX_PORTS, largest_port);
+    let ports = several(random, MAX_PORTS - 1 + length % 2, largest_port);
     let table = |random: &mut Random, pairs: usize, rows: usize| {
         let (label, to) = (HeldLabel::empty(random_domain(random), 3), random_domain(random));
         long_table_for(random, &label, to, pairs, rows, Order::Scattered)
@@ -130,9 +132,11 @@ pub fn set_of_length(random: &mut Random, length: usize) -> SetRecord {
     let mut left = length.saturating_sub(file_of(&SetRecord::of(&ports, &tables), &WRITTEN).len());
     // A table of no pairs and no rows has 12 octets, each pair two more.
     while left >= 12 {
-        let pairs = ((left - 12) / 2).min(MAX_LEVEL_PAIRS);
-        tables.push(table(random, pairs, 0));
-        left -= 12 + 2 * pairs;
+        // More than six tables of level pairs can have takes rows.
+        let rows = if left > 3100 { 50 } else { 0 };
+        let pairs = ((left - 12 - 6 * rows) / 2).min(MAX_LEVEL_PAIRS);
+        tables.push(table(random, pairs, rows));
+        left -= 12 + 2 * pairs + 6 * rows;
     }
     SetRecord::of(&ports, &tables)
 }
@@ -165,7 +169,7 @@ pub fn sound_set(random: &mut Random, turn: usize, version: &Version) -> SetReco
     }
     for port in &mut set.ports[..set.port_count as usize] {
         if random.chance(3, 4) {
-            later_fields(random, port);
+            later_fields(random, port, version);
         }
     }
     match turn % 16 {
@@ -219,6 +223,7 @@ pub fn rich_set(random: &mut Random, version: &Version) -> SetRecord {
         face_unlabelled(random, &mut ports[unlabelled]);
         for port in &mut ports {
             port.spellings = random.between(1, 15) as u8;
+            port.strict = version.mark && random.chance(1, 2);
         }
     }
     random.shuffle(&mut ports);
@@ -274,6 +279,9 @@ pub fn ruled(version: &Version) -> Vec<&'static str> {
     let mut names = RULED.to_vec();
     if version.later_fields {
         names.extend(LATER_RULED);
+    }
+    if version.mark {
+        names.push("strict");
     }
     names
 }
@@ -418,6 +426,9 @@ impl Layout {
             if version.later_fields {
                 layout.later_fields(port);
             }
+            if version.mark {
+                layout.field(1, port.strict as u32, "strict", Rule::ZeroOrOne);
+            }
         }
         layout.field(1, set.table_count as u32, "table count", Rule::Count(MAX_TABLES as u32));
         for table in &set.tables[..set.table_count as usize] {
@@ -516,12 +527,12 @@ pub fn break_range(random: &mut Random, port: &mut PortRecord, turn: usize) -> &
 
 /// The versions in turn.
 fn version_of(turn: usize) -> &'static Version {
-    [&FIRST, &SECOND][turn % 2]
+    &VERSIONS[turn % VERSIONS.len()]
 }
 
 /// The octets of a file with one broken rule; `pairs` breaks a second one too.
 fn broken_file(random: &mut Random, turn: usize, pairs: bool) -> Vec<u8> {
-    let (version, turn) = (version_of(turn), turn / 2);
+    let (version, turn) = (version_of(turn), turn / VERSIONS.len() + turn % VERSIONS.len() / 2 * 19);
     let names = ruled(version);
     let mut set = rich_set(random, version);
     let (way, round) = (turn % (names.len() + 4), turn / (names.len() + 4));
@@ -557,7 +568,7 @@ fn broken_file(random: &mut Random, turn: usize, pairs: bool) -> Vec<u8> {
 pub fn file_accepted(random: &mut Random, turn: usize, _number: u8) -> Made {
     let version = version_of(turn);
     // The longest file that there is, once.
-    let set = if turn == 11 { set_of_length(random, SECOND.max_file - 1) } else { sound_set(random, turn / 2, version) };
+    let set = if turn == 11 { set_of_length(random, WRITTEN.max_file - 1) } else { sound_set(random, turn / VERSIONS.len(), version) };
     Made::Case(Case::ReadFile(file_of(&set, version)))
 }
 
@@ -599,7 +610,7 @@ pub fn file_rules_broken(random: &mut Random, turn: usize, _number: u8) -> Made 
 
 /// Good files cut at every octet, with a length that agrees.
 pub fn file_cut(random: &mut Random, turn: usize, _number: u8) -> Made {
-    let (version, turn) = (version_of(turn), turn / 2);
+    let (version, turn) = (version_of(turn), turn / VERSIONS.len() + turn % VERSIONS.len() / 2 * 21);
     let layout = Layout::of(&rich_set(random, version), version);
     let mut octets = layout.octets;
     // Cut off inside a field, at every field in turn, and anywhere.
@@ -631,11 +642,11 @@ pub fn file_length_wrong(random: &mut Random, turn: usize, _number: u8) -> Made 
         8 => octets.push(0),
         9 => {
             // Its version is not known either.
-            octets[VERSION_AT] = random.pick(&[0, UNKNOWN, 4, 255]);
+            octets[VERSION_AT] = random.pick(&[0, UNKNOWN, UNKNOWN + 1, 255]);
             octets[1] = octets[1].wrapping_add(1);
         }
         // A length over the limit comes after the version and before all else; at the limit it is no fault.
-        10 | 11 if turn % 48 < 24 => {
+        10 | 11 if turn % 48 < 36 => {
             let limit = version.max_file;
             let length = if turn % 2 == 0 { limit } else { [limit + 1, LONGEST, limit + 2][turn / 48 % 3] };
             octets = file_of(&rich_set(random, version), version);
@@ -706,14 +717,29 @@ fn short_output(random: &mut Random, turn: usize, needed: usize) -> Output {
 /// Files of every version are written as files of one.
 pub fn file_written(random: &mut Random, turn: usize, _number: u8) -> Made {
     let version = version_of(turn);
-    let set = sound_set(random, turn / 2, version);
+    let set = sound_set(random, turn / VERSIONS.len(), version);
     let output = output_about(random, turn / 16 + turn, file_of(&set, &WRITTEN).len());
     Made::Case(Case::ReadAndWrite(file_of(&set, version), output))
 }
 
+/// A file with one octet changed, or as it was; and once each, a set read from a file of version 2 whose file of version 3 is just not too
+/// long, or too long by one octet.
+pub fn file_changed_and_written(random: &mut Random, turn: usize, _number: u8) -> Made {
+    if turn % 50 == 3 || turn % 50 == 13 {
+        let set = set_of_length(random, if turn % 50 == 3 { WRITTEN.max_file - 1 } else { WRITTEN.max_file + 1 });
+        let output = if turn % 50 == 3 { Output { length: WRITTEN.max_file, fill: 0x55 } } else { Output { length: 9, fill: 0xaa } };
+        return Made::Case(Case::ReadAndWrite(file_of(&set, &SECOND), output));
+    }
+    let version = version_of(turn);
+    let mut octets = file_of(&rich_set(random, version), version);
+    let place = random.between(3, octets.len() - 1);
+    octets[place] = octets[place].wrapping_add(random.pick(&[1, 255, 2, 16]));
+    Made::Case(Case::ReadAndWrite(octets, Output { length: 1200, fill: 0xaa }))
+}
+
 pub fn file_written_short(random: &mut Random, turn: usize, _number: u8) -> Made {
     let version = version_of(turn);
-    let set = sound_set(random, turn / 2 + 5, version);
+    let set = sound_set(random, turn / VERSIONS.len() + 5, version);
     let output = short_output(random, turn, file_of(&set, &WRITTEN).len());
     Made::Case(Case::ReadAndWrite(file_of(&set, version), output))
 }
@@ -737,7 +763,7 @@ pub fn file_not_written_version(random: &mut Random, turn: usize, _number: u8) -
 pub fn set_written(random: &mut Random, turn: usize, _number: u8) -> Made {
     // The longest there is, once; the room past it is short, since it is printed.
     if turn == 9 {
-        let set = set_of_length(random, WRITTEN.max_file - 1);
+        let set = set_of_length(random, WRITTEN.max_file);
         return Made::Case(Case::WriteFile(Box::new(set), Output { length: WRITTEN.max_file, fill: 0x55 }));
     }
     let set = sound_set(random, turn, &WRITTEN);
@@ -829,7 +855,7 @@ pub fn set_unsound(random: &mut Random, turn: usize, _number: u8) -> Made {
 /// "A set that would be longer is refused by name after 2". The refusal by name comes before 1. Long sets make large cases, so most of them
 /// are made of few records.
 pub fn set_named(random: &mut Random, turn: usize, _number: u8) -> Made {
-    let length = [WRITTEN.max_file + 1, WRITTEN.max_file + 3, 62_001, 64_001][turn % 4];
+    let length = [WRITTEN.max_file + 1, WRITTEN.max_file + 2, 62_001, 64_001][turn % 4];
     let output = if turn % 2 == 0 { Output { length: random.below(60), fill: 0xaa } } else { Output { length: 0, fill: 0 } };
     Made::Case(Case::WriteFile(Box::new(set_of_length(random, length)), output))
 }

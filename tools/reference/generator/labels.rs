@@ -192,6 +192,11 @@ pub fn renumbered(random: &mut Random, turn: usize, _number: u8) -> Made {
     };
     let label = random_label(random, domain, shape);
     let targets = random.pick(&[Targets::Small, Targets::Anywhere, Targets::High, Targets::Parted]);
+    // One row of zeros, which is counted and not stored, or stored too.
+    if turn % 12 == 9 {
+        let label = held(domain, random_level(random), &[Run { low: 0, high: 0 }]);
+        return Made::Case(Case::Renumber(label.clone(), table_of(domain, far_domain, &[[label.level, 7]], &[Row::ZERO])));
+    }
     let table = if turn % 12 == 6 {
         full_table_for(random, &label, far_domain, targets)
     } else {

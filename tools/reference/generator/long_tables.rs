@@ -49,7 +49,7 @@ pub fn any_long_table(random: &mut Random, turn: usize) -> TableRecord {
 }
 
 /// Ways in which a long table is unsound.
-pub const LONG_CLAUSES: usize = 14;
+pub const LONG_CLAUSES: usize = 15;
 
 /// Breaks one clause of a sound long table.
 pub fn break_long_table(random: &mut Random, table: &mut TableRecord, clause: usize) {
@@ -69,6 +69,10 @@ pub fn break_long_table(random: &mut Random, table: &mut TableRecord, clause: us
         4 => table.row_count = 0,
         5 if rows < MAX_ROWS => table.rows.push(Row::ZERO),
         5 => table.row_count = 1,
+        // Zeros past the count, in front of which nothing stands.
+        13 => {
+            (table.row_count, table.rows) = (0, vec![Row::ZERO; random.pick(&[1, 2, 64])]);
+        }
         // 1,025 rows are counted, and all that can be lent are.
         6 => {
             *table = long_table_for(random, &HeldLabel::empty(table.from, 3), table.to, pairs, MAX_ROWS, Order::Ascending);

@@ -125,7 +125,7 @@ fn random_report(random: &mut Random) -> Report {
 
 /// Numbers for which a message is sent; some of them are not the box's.
 const SENT: [u8; 18] = [6, 14, 15, 16, 17, 18, 19, 20, 21, 22, 0, 1, 2, 24, 25, 26, 128, 255];
-const NOT_SENT: [u8; 10] = [3, 4, 5, 7, 8, 9, 10, 11, 12, 13];
+const NOT_SENT: [u8; 11] = [3, 4, 5, 7, 8, 9, 10, 11, 12, 13, 23];
 
 // Building.
 

@@ -30,6 +30,7 @@ pub mod sample_files;
 pub mod sample_records;
 mod sets;
 mod spellings;
+mod strict;
 mod tables;
 mod unsound;
 mod wide;
@@ -58,6 +59,7 @@ use memories::*;
 use messages::*;
 use reading::*;
 use reverse::*;
+use strict::*;
 use wide::*;
 
 pub use files::{agree, break_range, largest_set, rich_set, ruled, set_of_length, sound_set, Layout};
@@ -75,11 +77,11 @@ pub const TRIES: usize = 20_000;
 const FORWARD_ANSWERS: &[&str] = &["0", "1", "2", "3", "4", "5", "6", "7", "8", "9", "10", "11", "12", "13", "14", "16", "17", "18"];
 const DELIVER_ANSWERS: &[&str] = &["0", "1", "2", "3", "4", "5", "6", "7", "8", "9", "10", "11", "12", "13", "14", "15"];
 const WIDE_FORWARD_ANSWERS: &[&str] =
-    &["0", "1", "2", "3", "4", "5", "6", "7", "8", "9", "10", "11", "12", "13", "14", "16", "17", "18", "19", "20", "21"];
+    &["0", "1", "2", "3", "4", "5", "6", "7", "8", "9", "10", "11", "12", "13", "14", "16", "17", "18", "19", "20", "21", "23"];
 const BOX_ANSWERS: &[&str] =
-    &["0", "1", "2", "3", "4", "5", "6", "7", "8", "9", "10", "11", "12", "13", "14", "16", "17", "18", "19", "20", "21", "22"];
+    &["0", "1", "2", "3", "4", "5", "6", "7", "8", "9", "10", "11", "12", "13", "14", "16", "17", "18", "19", "20", "21", "22", "23"];
 const WIDE_DELIVER_ANSWERS: &[&str] =
-    &["0", "1", "2", "3", "4", "5", "6", "7", "8", "9", "10", "11", "12", "13", "14", "15", "19", "20", "21"];
+    &["0", "1", "2", "3", "4", "5", "6", "7", "8", "9", "10", "11", "12", "13", "14", "15", "19", "20", "21", "23"];
 const ANSWERS: &[(u8, &str, &[&str])] = &[
     (CONTAINS, "contains", &["YES", "NO"]),
     (WITHIN, "within", &["YES", "NO"]),
@@ -254,7 +256,7 @@ fn all_slots() -> Vec<Slot> {
         slot(DELIVER_FACTS, 1, "14", deliver_broken),
         slot(DELIVER_FACTS, 1, "15", deliver_broken),
         slot(READ_FILE, 4, "ACCEPTED", file_accepted),
-        slot(READ_FILE, 4, "REFUSED", file_rule_broken),
+        slot(READ_FILE, 5, "REFUSED", file_rule_broken),
         slot(READ_FILE, 2, "REFUSED", file_rules_broken),
         slot(READ_FILE, 4, "REFUSED", file_cut),
         slot(READ_FILE, 2, "REFUSED", file_length_wrong),
@@ -264,6 +266,7 @@ fn all_slots() -> Vec<Slot> {
         free_slot(READ_FILE, 2, file_changed),
         slot(READ_AND_WRITE, 2, "0", file_written),
         slot(READ_AND_WRITE, 1, "ROOM", file_not_written_room),
+        free_slot(READ_AND_WRITE, 1, file_changed_and_written),
         slot(READ_AND_WRITE, 1, "1", file_written_short),
         slot(READ_AND_WRITE, 1, "REFUSED", file_not_written),
         slot(READ_AND_WRITE, 1, "VERSION", file_not_written_version),
@@ -279,6 +282,12 @@ fn all_slots() -> Vec<Slot> {
         slot(FORWARD_WIDE, 1, "2", long_forward_unsound),
         slot(IN_BOX, 1, "0", long_box_forwarded),
         slot(IN_BOX, 1, "2", long_box_unsound),
+        slot(FORWARD_WIDE, 2, "23", strict_forward_slack),
+        slot(FORWARD_WIDE, 1, "0", strict_forwarded),
+        free_slot(FORWARD_WIDE, 2, strict_forward_near),
+        slot(DELIVER_WIDE, 1, "23", strict_deliver_slack),
+        slot(DELIVER_WIDE, 1, "0", strict_delivered),
+        slot(IN_BOX, 1, "23", strict_box_slack),
         slot(BUILD_MESSAGE, 4, "0", message_built),
         slot(BUILD_MESSAGE, 1, "0", message_built_checksum_zero),
         slot(BUILD_MESSAGE, 2, "2", message_unsound),
@@ -416,15 +425,19 @@ fn with_facts(made: Made, entry: Option<u8>, random: &mut Random, turn: usize) -
         (Made::Case(Case::InBox(mut case)), _) => {
             case.facts = facts(random);
             case.records.tables.iter_mut().for_each(|table| lengthen_some(random, table));
+            case.records.ports.iter_mut().for_each(|port| port.strict |= port.domain != 0 && strict_some(random));
             Made::Case(Case::InBox(case))
         }
         (Made::Case(Case::Forward(mut case)), Some(FORWARD_WIDE)) => {
             case.facts = facts(random);
             lengthen_some(random, &mut case.table);
+            case.arriving.strict |= strict_some(random);
+            case.leaving.strict |= strict_some(random);
             Made::Case(Case::ForwardWide(case))
         }
         (Made::Case(Case::Deliver(mut case)), Some(DELIVER_WIDE)) => {
             case.facts = facts(random);
+            case.port.strict |= strict_some(random);
             Made::Case(Case::DeliverWide(case))
         }
         (made, _) => made,

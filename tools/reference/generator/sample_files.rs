@@ -1,6 +1,6 @@
 // Files for the sample program: the one that says what document 01's sample says, and variants of it.
 
-use crate::file::{file_of, SetRecord, FIRST, MAX_PORTS, SECOND, VERSION_AT};
+use crate::file::{file_of, SetRecord, FIRST, MAX_PORTS, VERSIONS, VERSION_AT};
 use crate::label::HeldLabel;
 use crate::sample;
 
@@ -76,9 +76,12 @@ pub fn variant(number: usize, seed: u64) -> Vec<u8> {
         _ => {}
     }
     // The same in every version; the later ones can say more.
-    let version = if number / VARIANTS % 2 == 0 { FIRST } else { SECOND };
+    let version = VERSIONS[number / VARIANTS % VERSIONS.len()];
     if version.later_fields {
         say_more(&mut random, &mut set, number % VARIANTS);
+    }
+    if version.mark && [0, 5, 7, 11].contains(&(number % VARIANTS)) {
+        set.ports[0].strict = true;
     }
     let mut octets = file_of(&set, &version);
     match number % VARIANTS {
@@ -92,7 +95,7 @@ pub fn variant(number: usize, seed: u64) -> Vec<u8> {
             }
             octets = layout.octets;
         }
-        13 => octets[VERSION_AT] = random.pick(&[0, 3, 4, 255]),
+        13 => octets[VERSION_AT] = random.pick(&[0, 4, 5, 255]),
         14 => octets.truncate(random.below(octets.len())),
         // Octets behind the file, few or more than a buffer is likely to hold.
         15 => {

@@ -16,6 +16,14 @@ const SAMPLE_FILE: &str = "00 84 01 02
     01
     00000005 00000009  0003 0102 0304 0506  0002 0000 0063 03e8  0064 012c 0000";
 
+/// The same as a file of version 3, which is the one that is written: not strict.
+fn third_file() -> Vec<u8> {
+    let mut octets =
+        octets_without_breaks(&SECOND_FILE.replacen("02 02", "03 02", 1).replace("0d  00  00000000 00 00", "0d  00  00000000 00 00  00"));
+    agree(&mut octets);
+    octets
+}
+
 /// The same as a file of version 2: no Basic Security, tags 1, 2 and 5, labelled hosts.
 const SECOND_FILE: &str = "00 ac 02 02
     00000005  00000005 01 00  00000005 05 01 0000 012c  01  00000000 00 00  00  00 00 0000  00 00 0000  0d  00  00000000 00 00
@@ -60,11 +68,14 @@ fn vectors(tally: &mut Tally) {
     agree(&mut second);
     tally.equal("the sample's file, version 2", hex(&file_of(&set, &SECOND)), hex(&second));
     tally.equal("the sample's set, version 2", read(&second, 2).ok() == Some(set), true);
-    let written = format!("0 {} {}{}", second.len(), hex(&second), hex(&[FILL; 2]));
-    tally.equal("entry 11", line(11, &sample, &format!("{:04x} ee", second.len() + 2)), written.clone());
-    tally.equal("entry 11, version 2", line(11, &second, &format!("{:04x} ee", second.len() + 2)), written);
-    let short = format!("1 0 {}", "ee".repeat(second.len() - 1));
-    tally.equal("entry 11, one octet short", line(11, &sample, &format!("{:04x} ee", second.len() - 1)), short);
+    let third = third_file();
+    tally.equal("the sample's file, version 3", read(&third, 2).ok() == read(&second, 2).ok(), true);
+    let written = format!("0 {} {}{}", third.len(), hex(&third), hex(&[FILL; 2]));
+    for file in [&sample, &second, &third] {
+        tally.equal("entry 11", line(11, file, &format!("{:04x} ee", third.len() + 2)), written.clone());
+    }
+    let short = format!("1 0 {}", "ee".repeat(third.len() - 1));
+    tally.equal("entry 11, one octet short", line(11, &sample, &format!("{:04x} ee", third.len() - 1)), short);
     tally.equal("entry 11, no output", line(11, &sample, "0000 ee"), "1 0 -".to_string());
 
     tally.equal("the empty set", line(10, &octets_of("0005 01 00 00"), ""), "ACCEPTED 0 0".to_string());
@@ -77,13 +88,14 @@ fn vectors(tally: &mut Tally) {
     tally.equal("a length too small", line(10, &octets_of("0004 01 00 00"), ""), "REFUSED 0".to_string());
     tally.equal("version 0", line(10, &octets_of("0003 00"), ""), "VERSION 0".to_string());
     tally.equal("version 2", line(10, &octets_of("0005 02 00 00"), ""), "ACCEPTED 0 0".to_string());
-    tally.equal("version 3", line(10, &octets_of("0005 03 ff ff"), ""), "VERSION 3".to_string());
-    tally.equal("a wrong length before the version", line(10, &octets_of("0006 03 00 00"), ""), "REFUSED 0".to_string());
+    tally.equal("version 3", line(10, &octets_of("0005 03 00 00"), ""), "ACCEPTED 0 0".to_string());
+    tally.equal("version 4", line(10, &octets_of("0005 04 ff ff"), ""), "VERSION 4".to_string());
+    tally.equal("a wrong length before the version", line(10, &octets_of("0006 04 00 00"), ""), "REFUSED 0".to_string());
     tally.equal("17 ports", line(10, &octets_of("0005 01 11 00"), ""), "REFUSED 3".to_string());
     tally.equal("9 tables", line(10, &octets_of("0005 01 00 09"), ""), "REFUSED 4".to_string());
     tally.equal("entry 10, octets left over", line(10, &octets_of("0005 01 00 00"), "00"), "BROKEN".to_string());
 
-    for (file, limit) in [(&sample, 32_768), (&second, 61_440)] {
+    for (file, limit) in [(&sample, 32_768), (&second, 61_440), (&third, 61_440)] {
         let mut long = file.clone();
         long.resize(limit, 0);
         agree(&mut long);
@@ -97,14 +109,14 @@ fn vectors(tally: &mut Tally) {
 
     // Entry 12: no ports, no tables; then a place past the count; then a table of one row with nothing lent, which is sound.
     let write_line = |case: &str| line_of(&octets_without_breaks(case), &Entries::known());
-    tally.equal("entry 12, nothing", write_line("0c 00 00 00 00 0006 ee"), "0 5 0005020000ee".to_string());
+    tally.equal("entry 12, nothing", write_line("0c 00 00 00 00 0006 ee"), "0 5 0005030000ee".to_string());
     tally.equal("entry 12, a port too many", write_line("0c 01 00 00 00 0006 ee"), format!("2 0 {}", "ee".repeat(6)));
     let zero_port = format!("{} {} 00 {} 00", "00000000", "00000000000000".repeat(2), "00000000000000");
     // Without its group a stored port permits tags 1, 2 and 5, and is not all zero.
     let plain = write_line(&format!("0c 00 01 {} 00 00 0005 ee", zero_port));
     tally.equal("entry 12, a stored port without spellings", plain, "2 0 eeeeeeeeee".to_string());
     let all_zero = write_line(&format!("0c 00 01 {}02 00 00 00 0005 ee", &zero_port[..zero_port.len() - 2]));
-    tally.equal("entry 12, a stored zero port", all_zero, "0 5 0005020000".to_string());
+    tally.equal("entry 12, a stored zero port", all_zero, "0 5 0005030000".to_string());
     let other_port = format!("{} {} 01 {} 00", "00000000", "00000000000000".repeat(2), "00000000000000");
     let unused = write_line(&format!("0c 00 01 {} 00 00 0005 ee", other_port));
     tally.equal("entry 12, a place past the count", unused, "2 0 eeeeeeeeee".to_string());
@@ -116,7 +128,7 @@ fn vectors(tally: &mut Tally) {
     let table = write_line("0c 00 00 01 01 00000005 00000009 0000 0000 0001 0000 0005 ee");
     tally.equal("entry 12, no row lent", table, "2 0 eeeeeeeeee".to_string());
     let table = write_line("0c 00 00 01 01 00000005 00000009 0000 0000 0001 0001 000000000000 0018 ee");
-    tally.equal("entry 12, a row of zeros", table, "0 23 001702000100000005000000090000000100000000000".to_string() + "0ee");
+    tally.equal("entry 12, a row of zeros", table, "0 23 001703000100000005000000090000000100000000000".to_string() + "0ee");
     let past = write_line("0c 00 00 00 01 00000000 00000000 0000 0000 0000 0001 000000000000 0005 ee");
     tally.equal("entry 12, a row lent past the count", past, "2 0 eeeeeeeeee".to_string());
     tally.equal(
@@ -225,13 +237,17 @@ pub fn files(tally: &mut Tally) {
     let largest = largest_set(&mut random);
     written_and_read(tally, &largest, &FIRST);
     cut_everywhere(tally, &largest, &FIRST);
-    let longest = set_of_length(&mut random, 61_439);
-    tally.equal("the longest file", file_of(&longest, &WRITTEN).len(), 61_439);
-    written_and_read(tally, &longest, &WRITTEN);
+    for length in [61_439, 61_440] {
+        let longest = set_of_length(&mut random, length);
+        tally.equal("the longest file", file_of(&longest, &WRITTEN).len(), length);
+        written_and_read(tally, &longest, &WRITTEN);
+    }
     let longer = set_of_length(&mut random, 61_441);
     tally.equal("a set that is too long", (longer.sound(), file_of(&longer, &WRITTEN).len()), (true, 61_441));
     tally.equal("it is refused by name", write(&longer, &mut [0; 65_535]), Err(Unwritten::Named));
     tally.equal("before 1", write(&longer, &mut []), Err(Unwritten::Named));
+    let second = file_of(&longer, &SECOND);
+    tally.equal("a file of version 2 says it", (second.len(), read(&second, ALL_ROWS).ok() == Some(longer)), (61_425, true));
     let unused = SetRecord { table_count: 0, ..SetRecord::of(&[], &[sample::table()]) };
     tally.equal("a table past the count", write(&unused, &mut [0; 500]), Err(Unwritten::Unsound));
     let zero = SetRecord::of(&[PortRecord::ALL_ZERO], &[TableRecord::ALL_ZERO]);

@@ -67,7 +67,7 @@ fn with_options(options: &str) -> String {
 
 fn decisions(tally: &mut Tally) {
     for number in 0..=255 {
-        let silent = matches!(number, 3..=5 | 7..=13);
+        let silent = matches!(number, 3..=5 | 7..=13 | 23);
         let expected = if silent { (0, 0, 0) } else { (0, 28, 0) };
         tally.equal("which numbers are sent", counts(number, (12, 1, 134), PLAIN), expected);
         tally.equal("a silent report", counts(number, (0, 0, 0), PLAIN), (0, 0, 0));

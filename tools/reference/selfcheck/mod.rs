@@ -7,6 +7,7 @@ mod memories;
 mod messages;
 mod permitted;
 mod renumbering;
+mod strict;
 
 use crate::cases::{self, hex};
 use crate::decision::{deliver, forward, Decision, Facts};
@@ -412,6 +413,7 @@ pub fn run() -> bool {
     boxes::boxes(&mut tally);
     messages::messages(&mut tally);
     memories::memories(&mut tally);
+    strict::strict_ports(&mut tally);
     renumbering::renumbering(&mut tally);
     walks(&mut tally);
     parsing(&mut tally);

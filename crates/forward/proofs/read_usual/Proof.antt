@@ -1,8 +1,8 @@
 -- `forward::read_usual` meets its contract.
 use borrow.Author.Needs.{needs}
 use borrow.Author.Tests.{not-true, not-false}
-use mathlib.Core.Path.{sym, _∙_, ap}
-use mathlib.Core.Bool.{cond}
+use mathlib.Core.Path.{_≡_, sym, _∙_, ap}
+use mathlib.Core.Bool.{false, cond}
 use mathlib.Core.List.{List}
 use native.Mathlib.Omega.{arith}
 use Prim.Native.Nat.{ℕ, _+_, _≤_, _<_}
@@ -14,6 +14,8 @@ use Rattle.decision.specs.Verdict.{going, stopped}
 use Rattle.arrive.specs.Stages.{ArrivesAt, heldBetween}
 use Rattle.option.proofs.Octets.{octets-part}
 use Rattle.arrive.proofs.Arrival.{Framed, placed-framed, keys-refused, keys-point, keys-held}
+use Rattle.option_slack.specs.Strict.{stopsSlack}
+use Rattle.option_slack.proofs.Strict.{stops-loose}
 use Rattle.port_usual.proofs.Usual.{usual, usual-sound}
 use Rattle.forward.proofs.read_usual.Statement.{statement}
 use Rattle.forward.proofs.read_usual.Tie as tie
@@ -73,13 +75,17 @@ stop-requires c κs = search needs
 same-length : tie.Need-same-length
 same-length c = search needs
 
+-- 23 is not tested: a usual port is not strict
+loose : (c : tie.Start) (n : ℕ) (o : List ℕ) → stopsSlack (c .args .port .strict) n o ≡ false
+loose c n o = stops-loose (c .args .port .strict) n o (usual (c .args .port) (c .pre .1 .1 .0) .loose)
+
 returns : tie.Need-returns
 returns c =
     let t = c .before .before in
     let r = t .before .before .before .before in
     let s = r .before .before .before .before .before .before in
     rw (c .stop .ensures)
-    (keys-refused (s .args .port) (s .args .area .now) (s .args .keys .now) _ (s .args .at) 9 (r .read-keys .result) (r .read-keys .ensures) (s .pre .1 .1 .1) (t .if1 .taken))
+    (keys-refused (s .args .port) (s .args .area .now) (s .args .keys .now) _ (s .args .at) 9 (r .read-keys .result) (r .read-keys .ensures) (s .pre .1 .1 .1) (loose s (r .read-keys .result .number) _) (t .if1 .taken))
 
 go-on-requires : tie.Need-go-on-requires
 go-on-requires c κs = search needs
@@ -110,6 +116,7 @@ held e =
     let octet : (i : ℕ) → getD (s .args .area .now) i 0 < 256 = λ i. omega (arith, k .shared-slice-known2 .given i) in
     keys-held (s .args .port) (s .args .area .now) (s .args .keys .now) (keys-of e) (s .args .at) 9 (r .read-keys .result) (r .read-keys .ensures) (s .pre .1 .1 .1)
     (s .pre .1 .0) (octets-part (getD (s .args .area .now) (s .args .at + 1) 0) (s .args .at) (s .args .area .now) octet) (usual-sound (s .args .port) (s .pre .1 .1 .0)) (e .if1 .left)
+    (loose s (r .read-keys .result .number) _)
 
 stop-requires-2 : tie.Need-stop-requires-2
 stop-requires-2 c κs = search needs

@@ -18,7 +18,7 @@ some-of-requires c κs = search needs
 
 returns : tie.Need-returns
 returns c =
-    let s = c .before .before .before in
+    let s = c .before .before .before .before in
     let w = s .before in
     let z = w .before in
     let r = z .before in

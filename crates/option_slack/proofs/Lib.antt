@@ -1,0 +1,4 @@
+pub mod Theorems
+pub mod Strict
+pub mod Pairs
+pub mod Examples

@@ -1,0 +1,4 @@
+pub mod Slack
+pub mod Strict
+pub mod Theorems
+pub mod Examples
