@@ -1,2 +1,5 @@
 pub mod Laws
 pub mod Held
+pub mod Outputs
+pub mod Digits
+pub mod Theorems

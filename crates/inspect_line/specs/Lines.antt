@@ -28,9 +28,13 @@ use Rattle.inspect_line.specs.declared.Inspected.{Inspected}
 abbrev pub portsIn : Set → List Port
 portsIn s = take (s .portcount) (s .ports)
 
--- from the arriving to the leaving port, with the five facts and the arriving area; "the table is chosen as in Wish 7": the first for the two domains; an output of 40 octets
+-- from the arriving to the leaving port, with the five facts and the arriving area, into an output of so many octets; "the table is chosen as in Wish 7": the first for the two domains
+abbrev pub forwardingInto : ℕ → Set → List ℕ → Claim → Forwarding
+forwardingInto room s rows c = between (portAt (portsIn s) (c .arriving)) (portAt (portsIn s) (c .leaving)) (tablesIn s) rows (c .facts) (c .area) room
+
+-- House: an output of 40 octets, all 0 before; a longer one, or one that held something else, makes no difference (`AnyOutput`)
 abbrev pub forwardingFor : Set → List ℕ → Claim → Forwarding
-forwardingFor s rows c = between (portAt (portsIn s) (c .arriving)) (portAt (portsIn s) (c .leaving)) (tablesIn s) rows (c .facts) (c .area) 40
+forwardingFor s rows c = forwardingInto 40 s rows c
 
 -- what it decides, and what its output holds at the end
 abbrev pub decisionFor : Set → List ℕ → Claim → Decision
