@@ -130,7 +130,6 @@ module _ (s : Set) (rows before : List ℕ) (p : Place) where
       (lb : length before ≡ 69632) (lo : length out ≡ 22528) (lf : length filled ≡ length out) (z : wholeOf (held before (p .window)) ≡ 0) (ew : w ≡ p .window)
       (h : HoldsPiece before w 4096 after v) (k : v .at < v .end) (octets : (i : ℕ) → getD after i 0 < 256)
       (i : Inspects s rows (take (v .end) after) out 0 filled d) where
-
     abbrev came : List ℕ
     came = take (v .end - v .at) (h .rest)
 

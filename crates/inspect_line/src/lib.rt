@@ -37,13 +37,7 @@ pub struct Inspected {
 
 // The lines of all whole records of what is held, put from place n on. What stands behind the octets used is kept: it is no whole record. The two ports of a record are picked where
 // they lie, so that the set is not copied for each.
-pub fn inspect_held(
-    set: Set,
-    rows: &[u16],
-    held: &[u8],
-    out: &mut [u8],
-    n: usize,
-) -> Inspected
+pub fn inspect_held(set: Set, rows: &[u16], held: &[u8], out: &mut [u8], n: usize) -> Inspected
     ensures { λ r. ⌜ Inspects set (now (rows .entry)) (now (held .entry)) (now (out .entry)) n (now (out .exit)) r ⌝ }
 {
     let kept = set.tables;
@@ -123,15 +117,7 @@ fn find_claimed(
     requires { ⌜ (9 ≤ at) × (at ≤ length (now octets)) ⌝ }
     ensures { λ r. ⌜ r ≡ findingBy (between a l tables (now (rows .entry)) facts (take (at - 9) (drop 9 (now (octets .entry)))) 40) (drop at (now (octets .entry))) ⌝ }
 {
-    find_difference(
-        a,
-        l,
-        tables,
-        rows,
-        facts,
-        &octets[AREA..at],
-        &octets[at..],
-    )
+    find_difference(a, l, tables, rows, facts, &octets[AREA..at], &octets[at..])
 }
 
 // What the box decides and writes from one port to another, held against a claim. The records are asked anew for each: a decision by records that were checked once has its place here.
