@@ -1,8 +1,8 @@
--- `sample::load` meets its contract.
+-- `file_load::load_file` meets its contract.
 use borrow.Author.Needs.{needs}
 use Rattle.file_read.proofs.Answers.{used-fits}
-use Rattle.sample.proofs.load.Statement.{statement}
-use Rattle.sample.proofs.load.Tie as tie
+use Rattle.file_load.proofs.load_file.Statement.{statement}
+use Rattle.file_load.proofs.load_file.Tie as tie
 
 slice-aggregate-open-read : tie.Need-slice-aggregate-open-read
 slice-aggregate-open-read c = search needs
@@ -23,7 +23,9 @@ same-length : tie.Need-same-length
 same-length c = search needs
 
 returns : tie.Need-returns
-returns c = rw (c .before .before .read-file .ensures .0) (used-fits _ _)
+returns c =
+    let e = c .before .before .read-file .ensures in
+    record { octets = _; read = e .0; room = e .1; within = rw (e .0) (used-fits _ _) }
 
 slice-aggregate-read-full : tie.Need-slice-aggregate-read-full
 slice-aggregate-read-full c = search needs
@@ -47,10 +49,12 @@ same-length-2 : tie.Need-same-length-2
 same-length-2 c = search needs
 
 returns-2 : tie.Need-returns-2
-returns-2 c = rw (c .before .before .read-file2 .ensures .0) (used-fits _ _)
+returns-2 c =
+    let e = c .before .before .read-file2 .ensures in
+    record { octets = _; read = e .0; room = e .1; within = rw (e .0) (used-fits _ _) }
 
-pub load-spec : {M : Type 1} → statement M
-load-spec =
+pub load-file-spec : {M : Type 1} → statement M
+load-file-spec =
     tie.close
     (tie.spec
     slice-aggregate-open-read
