@@ -38,7 +38,7 @@ module _ (l : Label) (t : Lent) (w : wellFormed l ≡ true) where
       below-all 65535 (λ c. not (covers (used l) c) || hasNumber (usedRows t) c)
       (λ c k. yes-implies (covers (used l) c) (hasNumber (usedRows t) c) (λ e. h c (rw (w, e))))
 
-module _ (l : Label) (t : Table) (ls : List (List ℕ)) (s : tableSound t ls ≡ true) (w : wellFormed l ≡ true) where
+module _ (l : Label) (t : Lent) (ls : List (List ℕ)) (s : tableSound t ls ≡ true) (w : wellFormed l ≡ true) where
   -- the three ways it goes
   data Way : Type 0 where
     missing : (Numbered l t ls → ⊥) → renumberedOf l t ls ≡ notRenumbered 16 → Way

@@ -144,14 +144,14 @@ module _ (b : Routing) (e : boxSound b ≡ true) where
 
   tableless-is : (r : Route) → Decides (b .destination) (routesOf (b .routes)) r
       → (arrivingPort b .domain ≡ portAt (b .ports) (r .port) .domain → ⊥)
-      → NoneFor (arrivingPort b .domain) (portAt (b .ports) (r .port) .domain) (usedTables (b .tables))
+      → NoneFor (arrivingPort b .domain) (portAt (b .ports) (r .port) .domain) (tablesFrom (usedTables (b .tables)) (b .rows))
       → NoneApplies (beforeNumbers (pairBy b r))
       → routingOf b .number ≡ 16
   tableless-is r d apart without n =
       let from : ℕ = arrivingPort b .domain in
-      let t = first-table .missing from (portAt (b .ports) (r .port) .domain) (usedTables (b .tables)) without in
+      let t = first-table .missing from (portAt (b .ports) (r .port) .domain) (tablesFrom (usedTables (b .tables)) (b .rows)) without in
       ap (λ (z : Decision). z .number) (routed-of b e r (decides-chosen r d))
-      ∙ crosses .sixteen (pairBy b r) apart n .1 (λ v h. first-table .other from (sym (ap (λ (z : Renumbering). z .table .from) t) ∙ h .from))
+      ∙ crosses .sixteen (pairBy b r) apart n .1 (λ v h. first-table .other from (sym (ap (λ (z : LentTable). z .item .table .from) t) ∙ h .from))
 
 refused-first : (b : Routing) (x : Refusal) (out : List ℕ) → firstOf (routingChecks b) ≡ some x → (routingOf b ≡ refused (silenced (b .facts)) x) × (routedOutput b out ≡ out)
 unfolding routingOf routedOutput

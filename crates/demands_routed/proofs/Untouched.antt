@@ -16,9 +16,8 @@ use Rattle.option_read.specs.Keys.{keyReadingFor, keysAfter}
 use Rattle.option_spell.specs.Spelling.{spellingNumber, spellingAnswer, spellingOut}
 use Rattle.basic.specs.Alone.{basicWriting, basicOut}
 use Rattle.basic.proofs.OptionTheorems.{writes-basic}
-use Rattle.table.specs.declared.Table.{Table}
-use Rattle.table.specs.Table.{tableSound}
-use Rattle.renumber_reverse.specs.Reverse.{reverseHead, withRows}
+use Rattle.table.specs.Table.{Lent, tableSound}
+use Rattle.renumber_reverse.specs.Reverse.{reversedOf, withRows}
 use Rattle.decision.specs.Decision.{Refusal, silenced, decided}
 use Rattle.arrive.specs.Checks.{firstOf}
 use Rattle.forward_rules.specs.Crossing.{Forwarding}
@@ -54,11 +53,11 @@ early-untouched d o keys = go (ltb (length keys) 120) refl
         let h′ : readingFor d o .number ≤ 11 = rw e at h in
         rw (e, le-leb 7 (readingFor d o .number) l′, le-leb (readingFor d o .number) 11 h′)
 
-reverse-untouched : (t : Table) (ls : List (List ℕ)) (room : List ℕ) → (reverseHead t ls (length room / 3) .number ≡ 0 → ⊥) → withRows t ls room ≡ room
-unfolding reverseHead withRows
+reverse-untouched : (t : Lent) (ls : List (List ℕ)) (room : List ℕ) → (reversedOf t ls (length room / 3) .number ≡ 0 → ⊥) → withRows t ls room ≡ room
+unfolding reversedOf withRows
 reverse-untouched t ls room = go (tableSound t ls) refl (leb (t .count) (length room / 3)) refl
   where
-    go : (s : Bool) → tableSound t ls ≡ s → (b : Bool) → leb (t .count) (length room / 3) ≡ b → (reverseHead t ls (length room / 3) .number ≡ 0 → ⊥) → withRows t ls room ≡ room
+    go : (s : Bool) → tableSound t ls ≡ s → (b : Bool) → leb (t .count) (length room / 3) ≡ b → (reversedOf t ls (length room / 3) .number ≡ 0 → ⊥) → withRows t ls room ≡ room
     go false p b q h = rw p
     go true p false q h = rw (p, q)
     go true p true q h = absurd (h (rw (p, q)))

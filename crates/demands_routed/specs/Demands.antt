@@ -16,7 +16,7 @@ use Rattle.route.specs.declared.Route.{Route}
 use Rattle.route.specs.Route.{routesOf, matches}
 use Rattle.route.specs.Theorems.{Listed, Decides}
 use Rattle.route_ports.specs.Ports.{portAt}
-use Rattle.table_choose.specs.Tables.{usedTables}
+use Rattle.table_choose.specs.Tables.{usedTables, tablesFrom}
 use Rattle.table_choose.specs.Theorems.{NoneFor}
 use Rattle.route_decide.specs.Routing.{Routing, boxSound, arrivingPort, pairBy, chosenPair, routingChecks, routingOf, routedOutput}
 use Rattle.demands.specs.Demands.{FirstIs, MeansAt, Forwards}
@@ -57,7 +57,7 @@ pub record BoxDemands : Type 0 where
   -- "no table for differing domains is 16": of the decision, past the checks before it
   pub tableless : (b : Routing) (r : Route) → boxSound b ≡ true → Decides (b .destination) (routesOf (b .routes)) r
       → (arrivingPort b .domain ≡ portAt (b .ports) (r .port) .domain → ⊥)
-      → NoneFor (arrivingPort b .domain) (portAt (b .ports) (r .port) .domain) (usedTables (b .tables))
+      → NoneFor (arrivingPort b .domain) (portAt (b .ports) (r .port) .domain) (tablesFrom (usedTables (b .tables)) (b .rows))
       → NoneApplies (beforeNumbers (pairBy b r))
       → routingOf b .number ≡ 16
   -- demand 2: forwarded only when the conditions hold, and always then, with that label, count and output

@@ -12,8 +12,8 @@ use Rattle.option_read_bitmap.specs.Bitmap.{bitmapFound, bitmapKeys}
 use Rattle.option_read.specs.Keys.{keyReadingFor, keysAfter}
 use Rattle.option_spell.specs.Spelling.{spellingAnswer, spellingOut}
 use Rattle.basic.specs.Alone.{basicWriting, basicOut}
-use Rattle.table.specs.declared.Table.{Table}
-use Rattle.renumber_reverse.specs.Reverse.{reverseHead, withRows}
+use Rattle.table.specs.Table.{Lent}
+use Rattle.renumber_reverse.specs.Reverse.{reversedOf, withRows}
 use Rattle.forward_rules.specs.Crossing.{Forwarding}
 use Rattle.forward_rules.specs.Forward.{forwardOf, outputOf}
 use Rattle.route_decide.specs.Routing.{Routing, routingOf, routedOutput}
@@ -26,7 +26,7 @@ pub record Untouched : Type 0 where
   -- of an option's keys: too short a list, and 3 and 7 to 11
   pub keys : (d : ℕ) (o keys : List ℕ) → length keys < 120 → keysAfter d o keys ≡ keys
   pub early : (d : ℕ) (o keys : List ℕ) → 7 ≤ keyReadingFor d o (length keys) .number → keyReadingFor d o (length keys) .number ≤ 11 → keysAfter d o keys ≡ keys
-  pub reverse : (t : Table) (ls : List (List ℕ)) (room : List ℕ) → (reverseHead t ls (length room / 3) .number ≡ 0 → ⊥) → withRows t ls room ≡ room
+  pub reverse : (t : Lent) (ls : List (List ℕ)) (room : List ℕ) → (reversedOf t ls (length room / 3) .number ≡ 0 → ⊥) → withRows t ls room ≡ room
   pub forward : (f : Forwarding) (out : List ℕ) → (forwardOf f .number ≡ 0 → ⊥) → outputOf f out ≡ out
   pub decide : (b : Routing) (out : List ℕ) → (routingOf b .number ≡ 0 → ⊥) → routedOutput b out ≡ out
   -- a slot of the batch: all but its head, the five numbers

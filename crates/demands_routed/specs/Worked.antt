@@ -1,9 +1,9 @@
--- Document 02, Wish 7: worked boxes, decided as the definitions compute it. The ports, areas and answers are those of the worked decisions of two ports
+-- Document 02, Wishes 7 and 8: worked boxes, decided as the definitions compute it. The ports, areas and answers are those of the worked decisions of two ports
 -- (the crate `demands`): an area with a label of level 3 and no categories arrives at port 0 of three, of the domains 5, 5 and 9.
 use mathlib.Core.Path.{_≡_}
 use mathlib.Core.Bool.{true}
 use mathlib.Core.List.{List, [], _∷_, _++_, map}
-use Prim.Native.Nat.{ℕ}
+use Prim.Native.Nat.{ℕ, _-_}
 use lib.ListN.{length, replicate}
 use Rattle.label.specs.declared.Label.{Label}
 use Rattle.label.specs.Label.{labelOf, zeroLabel}
@@ -13,19 +13,23 @@ use Rattle.port.specs.Port.{plainPort}
 use Rattle.decision.specs.declared.Facts.{Facts}
 use Rattle.decision.specs.declared.Decision.{Decision}
 use Rattle.decision.specs.Decision.{noFact}
-use Rattle.file_table.specs.declared.LevelPair.{LevelPair}
-use Rattle.file_table.specs.declared.Renumbering.{Renumbering}
-use Rattle.file_table.specs.TableFormat.{pair, renumberingOf}
+use Rattle.table_levels.specs.declared.LevelPair.{LevelPair}
+use Rattle.table_levels.specs.Levels.{pair, noPair}
+use Rattle.table.specs.declared.Renumbering.{Renumbering}
 use Rattle.table_choose.specs.declared.Tables.{Tables}
 use Rattle.route_decide.specs.Routing.{Routing, routingOf, routedOutput}
 use Rattle.demands.specs.Worked.{bare, requires, assigns, upside, beyond, marked, drop, pass, empty}
 
--- a table between two domains, without rows
-abbrev pub bareTable : ℕ → ℕ → List LevelPair → Renumbering
-bareTable from to pairs = renumberingOf from to pairs []
+-- a table between two domains, with so many rows; without rows
+abbrev pub rowTable : ℕ → ℕ → List LevelPair → ℕ → Renumbering
+rowTable from to pairs rows =
+    record { table = record { from = from; to = to; pairs = length pairs; count = rows }; levels = pairs ++ replicate (256 - length pairs) noPair }
 
-abbrev pub tablesFrom : List Renumbering → Tables
-tablesFrom ts = record { count = length ts; items = ts }
+abbrev pub bareTable : ℕ → ℕ → List LevelPair → Renumbering
+bareTable from to pairs = rowTable from to pairs 0
+
+abbrev pub listed : List Renumbering → Tables
+listed ts = record { count = length ts; items = ts }
 
 -- a port of domain 9
 abbrev pub nine : Port
@@ -40,22 +44,22 @@ levelThree = empty 3 (0 ∷ 0 ∷ [])
 -- a datagram that arrives at port 0, with an output of 41 octets
 abbrev pub box : List Port → List Renumbering → List ℕ → ℕ → List ℕ → Routing
 box ports tables routes destination area =
-    record { ports = ports; tables = tablesFrom tables; routes = routes; arriving = 0; destination = destination; facts = noFact; area = area; room = 41 }
+    record { ports = ports; tables = listed tables; rows = []; routes = routes; arriving = 0; destination = destination; facts = noFact; area = area; room = 41 }
 
 abbrev pub arrivingAt : ℕ → Routing → Routing
 arrivingAt n b =
-    record { ports = b .ports; tables = b .tables; routes = b .routes; arriving = n; destination = b .destination; facts = b .facts; area = b .area; room = b .room }
+    record { ports = b .ports; tables = b .tables; rows = b .rows; routes = b .routes; arriving = n; destination = b .destination; facts = b .facts; area = b .area; room = b .room }
 
 abbrev pub withRoom : ℕ → Routing → Routing
 withRoom n b =
-    record { ports = b .ports; tables = b .tables; routes = b .routes; arriving = b .arriving; destination = b .destination; facts = b .facts; area = b .area; room = n }
+    record { ports = b .ports; tables = b .tables; rows = b .rows; routes = b .routes; arriving = b .arriving; destination = b .destination; facts = b .facts; area = b .area; room = n }
 
 abbrev pub aFragment : Facts
 aFragment = record { error = noFact .error; group = noFact .group; link = noFact .link; fragment = true; source = noFact .source }
 
 abbrev pub silencedBox : Routing → Routing
 silencedBox b =
-    record { ports = b .ports; tables = b .tables; routes = b .routes; arriving = b .arriving; destination = b .destination; facts = aFragment; area = b .area; room = b .room }
+    record { ports = b .ports; tables = b .tables; rows = b .rows; routes = b .routes; arriving = b .arriving; destination = b .destination; facts = aFragment; area = b .area; room = b .room }
 
 -- routes alone: of three ports and no table, where a datagram of level 3 goes
 abbrev pub routed : List ℕ → ℕ → Routing
@@ -64,6 +68,21 @@ routed routes destination = box threePorts [] routes destination levelThree
 -- by routes and tables; by routes with another port behind the first two, unread; by tables, unread
 abbrev pub renumberedBy : List Renumbering → Routing
 renumberedBy tables = box threePorts tables (0 ∷ 0 ∷ 2 ∷ 9 ∷ []) 7 levelThree
+
+-- by tables whose rows are lent, unread
+abbrev pub lentBy : List Renumbering → List ℕ → Routing
+lentBy tables rows =
+    record {
+      ports = threePorts;
+      tables = listed tables;
+      rows = rows;
+      routes = 0 ∷ 0 ∷ 1 ∷ 5 ∷ [];
+      arriving = 0;
+      destination = 7;
+      facts = noFact;
+      area = levelThree;
+      room = 41;
+    }
 
 abbrev pub besidePort : Port → Routing
 besidePort p = box (requires ∷ beyond ∷ p ∷ []) [] (0 ∷ 0 ∷ 1 ∷ 5 ∷ []) 7 levelThree
@@ -112,6 +131,12 @@ boxes =
     ∷ is (renumberedBy []) (drop 16 3 9 0)
     ∷ is (renumberedBy (bareTable 9 5 (pair 3 4 ∷ []) ∷ bareTable 5 6 (pair 3 4 ∷ []) ∷ [])) (drop 16 3 9 0)
     ∷ is (renumberedBy (bareTable 5 9 (pair 1 2 ∷ []) ∷ bareTable 5 9 (pair 3 4 ∷ []) ∷ [])) (drop 16 3 9 0)
+    -- rows of several tables in one list: each table takes as many as it counts. Rows that only another share makes sound; a row too few; a number too few; a number left over
+    ∷ is (lentBy (rowTable 9 5 [] 1 ∷ rowTable 5 9 [] 1 ∷ []) (10 ∷ 20 ∷ 5 ∷ 0 ∷ 0 ∷ 7 ∷ [])) (pass 12 (bare 3))
+    ∷ is (lentBy (rowTable 9 5 [] 2 ∷ rowTable 5 9 [] 0 ∷ []) (10 ∷ 20 ∷ 5 ∷ 0 ∷ 0 ∷ 7 ∷ [])) (drop 2 0 0 0)
+    ∷ is (lentBy (rowTable 5 9 [] 1 ∷ rowTable 9 5 [] 1 ∷ []) (0 ∷ 0 ∷ 7 ∷ [])) (drop 2 0 0 0)
+    ∷ is (lentBy (rowTable 5 9 [] 1 ∷ []) (0 ∷ 0 ∷ [])) (drop 2 0 0 0)
+    ∷ is (lentBy (rowTable 5 9 [] 1 ∷ []) (0 ∷ 0 ∷ 7 ∷ 1 ∷ [])) (drop 2 0 0 0)
     -- 14 before 22, and 6; 22 before 16
     ∷ is (box threePorts [] [] 7 (empty 0 (0 ∷ 0 ∷ []))) (drop 14 3 9 0)
     ∷ is (box threePorts [] [] 7 []) (drop 6 12 1 134)

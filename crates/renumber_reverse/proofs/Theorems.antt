@@ -16,7 +16,7 @@ use Rattle.table.proofs.Numbers.{has-number, number-has, one-category}
 use Rattle.renumber.specs.Renumber.{renumberedAs, renumberedOf}
 use Rattle.renumber.specs.Theorems.{Far}
 use Rattle.renumber.proofs.Theorems.{Led, led, renumbering}
-use Rattle.renumber_reverse.specs.Reverse.{turnedRows, turnedLevels, reverseTable, reversedOf, reverseHead, withRows}
+use Rattle.renumber_reverse.specs.Reverse.{turnedRows, turnedLevels, reverseTable, reversedOf, withRows}
 use Rattle.renumber_reverse.specs.Theorems.{TurnedRound, Reversing, ReverseRefused}
 use Rattle.renumber_reverse.proofs.Rows.{sends-turned}
 use Rattle.renumber_reverse.proofs.Levels.{take-turned, partner-back, levels-twice}
@@ -66,10 +66,10 @@ pub reversing : Reversing
 reversing = record { sound = back-sound; twice = back-twice; pairs = levels-twice; turned = turned-round; back = out-and-back }
 
 pub reverse-refused : ReverseRefused
-unfolding reversedOf reverseHead withRows
+unfolding reversedOf withRows
 reverse-refused =
     record {
-      unsound = λ t ls was e. (rw e, rw e, rw e);
+      unsound = λ t ls was e. (rw e, rw e);
       short = λ t ls was e h. let k = lt-leb (t .count) (length was / 3) h in (rw (e, k), rw (e, k));
-      given = λ t ls was e. (rw e, λ h. rw (e, le-leb (t .count) (length was / 3) h));
+      given = λ t ls was e h. rw (e, le-leb (t .count) (length was / 3) h);
     }

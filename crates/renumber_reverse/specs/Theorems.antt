@@ -10,8 +10,8 @@ use Rattle.table.specs.Table.{Lent, usedRows, tableSound}
 use Rattle.table_levels.specs.Levels.{partnerOf}
 use Rattle.table.specs.Numbers.{sends}
 use Rattle.renumber.specs.Renumber.{renumberedAs, renumberedOf}
-use Rattle.renumber_reverse.specs.declared.Head.{Head}
-use Rattle.renumber_reverse.specs.Reverse.{inTwos, reverseTable, turnedLevels, reversedOf, reverseHead, withRows}
+use Rattle.renumber_reverse.specs.declared.Reversed.{Reversed}
+use Rattle.renumber_reverse.specs.Reverse.{inTwos, reverseTable, turnedLevels, reversedOf, withRows}
 
 -- a row of the reverse gives number d the category c exactly when one of the table gives c the number d; levels likewise
 pub record TurnedRound (t : Lent) (ls : List (List ℕ)) : Type 0 where
@@ -30,16 +30,16 @@ pub record Reversing : Type 0 where
       → renumberedOf l t ls ≡ renumberedAs m
       → renumberedOf m (reverseTable t) (turnedLevels ls) ≡ renumberedAs l
 
--- a number, and nothing else
-abbrev pub onlyNumber : ℕ → Head
-onlyNumber n = record { number = n; from = 0; to = 0; pairs = 0; count = 0 }
+-- a number, and an all-zero table
+abbrev pub onlyNumber : ℕ → Reversed
+onlyNumber n = record { number = n; table = record { from = 0; to = 0; pairs = 0; count = 0 } }
 
 -- "an unsound table is 2, then short lent room 24": three numbers of room a row; both leave the room as it was
 pub record ReverseRefused : Type 0 where
   pub unsound : (t : Lent) (ls : List (List ℕ)) (was : List ℕ) → tableSound t ls ≡ false
-      → (reversedOf t ls .number ≡ 2) × (reverseHead t ls (length was / 3) ≡ onlyNumber 2) × (withRows t ls was ≡ was)
+      → (reversedOf t ls (length was / 3) ≡ onlyNumber 2) × (withRows t ls was ≡ was)
   pub short : (t : Lent) (ls : List (List ℕ)) (was : List ℕ) → tableSound t ls ≡ true → length was / 3 < t .count
-      → (reverseHead t ls (length was / 3) ≡ onlyNumber 24) × (withRows t ls was ≡ was)
+      → (reversedOf t ls (length was / 3) ≡ onlyNumber 24) × (withRows t ls was ≡ was)
   -- nothing else is refused
-  pub given : (t : Lent) (ls : List (List ℕ)) (was : List ℕ) → tableSound t ls ≡ true
-      → (reversedOf t ls .number ≡ 0) × (t .count ≤ length was / 3 → reverseHead t ls (length was / 3) .number ≡ 0)
+  pub given : (t : Lent) (ls : List (List ℕ)) (was : List ℕ) → tableSound t ls ≡ true → t .count ≤ length was / 3
+      → reversedOf t ls (length was / 3) .number ≡ 0
