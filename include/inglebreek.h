@@ -96,6 +96,7 @@ static inline const char *inglebreek_words(unsigned number) {
 #define INGLEBREEK_FILE_REFUSED 101 /* refused at a place */
 #define INGLEBREEK_FILE_UNKNOWN_VERSION 102 /* its version is not known */
 #define INGLEBREEK_FILE_NO_ROOM 103 /* its rows outgrow their room */
+#define INGLEBREEK_MEMORY_MOST 64 /* the most addresses of a memory, and the places that are lent for it */
 
 /* A run of categories in a list of runs, as one number. */
 #define INGLEBREEK_RUN(low, high) ((uint32_t)(low) << 16 | (uint32_t)(high))
@@ -131,12 +132,21 @@ size_t inglebreek_forward_batch(const uint8_t *file, size_t file_count, size_t a
                                 const uint8_t *input, size_t input_count, uint8_t *output, size_t output_count);
 
 /* Builds the message of a refusal (its number, ICMP type, code and pointer) about a datagram with this header and
- * data, and the options area of the datagram that carries it: what 'build_message' answers and leaves, with both
- * counts in the last two places. Stack: 32 KiB. Writes: message, options, written, carried. */
+ * data, and the options area of the datagram that carries it. Answers 0, and 'written' and 'carried' get how many
+ * octets of 'message' and of 'options' are written: both 0 where nothing is sent. Or answers 2 for a header or a
+ * report that is not sound, 24 for too little room; both then get 0, and both buffers stay as they were. Stack: 32
+ * KiB. Writes: message, options, written, carried. */
 uint8_t inglebreek_build_message(uint8_t number, uint8_t kind, uint8_t code, uint8_t pointer, const uint8_t *header,
                                  size_t header_count, const uint8_t *payload, size_t payload_count, uint8_t *message,
                                  size_t message_count, uint8_t *options, size_t options_count, size_t *written,
                                  size_t *carried);
+
+/* Reads a message that reports a refusal. Answers 0: 'kind', 'code' and 'pointer' get its type, code and pointer,
+ * 'header' how many octets the quoted header has, which stands from octet 8 on, and 'payload' how many data octets
+ * stand behind it. Or answers 25 for any other octets, and all five get 0. Stack: 32 KiB. Writes: kind, code,
+ * pointer, header, payload. */
+uint8_t inglebreek_read_message(const uint8_t *octets, size_t octets_count, uint8_t *kind, uint8_t *code,
+                                uint8_t *pointer, size_t *header, size_t *payload);
 
 /* Checks a gateway file. Answers 0 where it is accepted: 'ports', 'tables' and 'rows' get how many it has, and
  * 'place' gets 0. Answers 101 where it is refused: 'place' gets the place of the first octet of the first bad
@@ -144,6 +154,32 @@ uint8_t inglebreek_build_message(uint8_t number, uint8_t kind, uint8_t code, uin
  * accepted the three counts are 0. Stack: 512 KiB. Writes: place, ports, tables, rows. */
 uint8_t inglebreek_check_file(const uint8_t *file, size_t file_count, size_t *place, size_t *ports, size_t *tables,
                               size_t *rows);
+
+/* Notes an address in the memory: it becomes the newest, and where it is new and the memory is full, the oldest is
+ * dropped. Answers 0, and 'known' gets whether it was there; or 1 for a list of under 64 places, 2 for a memory
+ * that stands for no list: 'known' then gets 0, and the memory stays as it was. Stack: 32 KiB. Writes: count,
+ * addresses, known. */
+uint8_t inglebreek_note_address(uint32_t address, size_t *count, uint32_t *addresses, size_t addresses_count,
+                                bool *known);
+
+/* Asks whether an address is in the memory, which stays as it was. Answers 0, and 'known' gets whether it is; or 1
+ * for a list of under 64 places, 2 for a memory that stands for no list: 'known' then gets 0. Stack: 32 KiB.
+ * Writes: known. */
+uint8_t inglebreek_ask_address(uint32_t address, size_t count, const uint32_t *addresses, size_t addresses_count,
+                               bool *known);
+
+/* Forgets an address. Answers 0, and 'known' gets whether it was in the memory; or 1 for a list of under 64
+ * places, 2 for a memory that stands for no list: 'known' then gets 0, and the memory stays as it was. Stack: 32
+ * KiB. Writes: count, addresses, known. */
+uint8_t inglebreek_forget_address(uint32_t address, size_t *count, uint32_t *addresses, size_t addresses_count,
+                                  bool *known);
+
+/* Notes the destination in the header that a missing-option message (12/1/134) quotes. Answers 0, and 'known' gets
+ * whether it was in the memory; or 1 for a list of under 64 places, 2 for a memory that stands for no list, 25 for
+ * any other octets: 'known' then gets 0, and the memory stays as it was. Stack: 32 KiB. Writes: count, addresses,
+ * known. */
+uint8_t inglebreek_note_message(const uint8_t *octets, size_t octets_count, size_t *count, uint32_t *addresses,
+                                size_t addresses_count, bool *known);
 
 /* Reads one option 134 alone. Answers 0 and the label that it means: its domain, its level, the count of its runs,
  * and the runs in 'runs', which stays as it was where it has fewer places than the count says (120 are always
