@@ -134,7 +134,7 @@ size_t inglebreek_forward_batch(const uint8_t *file, size_t file_count, size_t a
 /* Builds the message of a refusal (its number, ICMP type, code and pointer) about a datagram with this header and
  * data, and the options area of the datagram that carries it. Answers 0, and 'written' and 'carried' get how many
  * octets of 'message' and of 'options' are written: both 0 where nothing is sent. Or answers 2 for a header or a
- * report that is not sound, 24 for too little room; both then get 0, and both buffers stay as they were. Stack: 32
+ * report that is not sound, 24 for too little room; both then get 0, and both buffers stay as they were. Stack: 16
  * KiB. Writes: message, options, written, carried. */
 uint8_t inglebreek_build_message(uint8_t number, uint8_t kind, uint8_t code, uint8_t pointer, const uint8_t *header,
                                  size_t header_count, const uint8_t *payload, size_t payload_count, uint8_t *message,
@@ -143,7 +143,7 @@ uint8_t inglebreek_build_message(uint8_t number, uint8_t kind, uint8_t code, uin
 
 /* Reads a message that reports a refusal. Answers 0: 'kind', 'code' and 'pointer' get its type, code and pointer,
  * 'header' how many octets the quoted header has, which stands from octet 8 on, and 'payload' how many data octets
- * stand behind it. Or answers 25 for any other octets, and all five get 0. Stack: 32 KiB. Writes: kind, code,
+ * stand behind it. Or answers 25 for any other octets, and all five get 0. Stack: 16 KiB. Writes: kind, code,
  * pointer, header, payload. */
 uint8_t inglebreek_read_message(const uint8_t *octets, size_t octets_count, uint8_t *kind, uint8_t *code,
                                 uint8_t *pointer, size_t *header, size_t *payload);
@@ -151,39 +151,39 @@ uint8_t inglebreek_read_message(const uint8_t *octets, size_t octets_count, uint
 /* Checks a gateway file. Answers 0 where it is accepted: 'ports', 'tables' and 'rows' get how many it has, and
  * 'place' gets 0. Answers 101 where it is refused: 'place' gets the place of the first octet of the first bad
  * field. Answers 102 where its version is not known: that is octet 2, and 'place' gets 2. Of a file that is not
- * accepted the three counts are 0. Stack: 512 KiB. Writes: place, ports, tables, rows. */
+ * accepted the three counts are 0. Stack: 64 KiB. Writes: place, ports, tables, rows. */
 uint8_t inglebreek_check_file(const uint8_t *file, size_t file_count, size_t *place, size_t *ports, size_t *tables,
                               size_t *rows);
 
 /* Notes an address in the memory: it becomes the newest, and where it is new and the memory is full, the oldest is
  * dropped. Answers 0, and 'known' gets whether it was there; or 1 for a list of under 64 places, 2 for a memory
- * that stands for no list: 'known' then gets 0, and the memory stays as it was. Stack: 32 KiB. Writes: count,
+ * that stands for no list: 'known' then gets 0, and the memory stays as it was. Stack: 16 KiB. Writes: count,
  * addresses, known. */
 uint8_t inglebreek_note_address(uint32_t address, size_t *count, uint32_t *addresses, size_t addresses_count,
                                 bool *known);
 
 /* Asks whether an address is in the memory, which stays as it was. Answers 0, and 'known' gets whether it is; or 1
- * for a list of under 64 places, 2 for a memory that stands for no list: 'known' then gets 0. Stack: 32 KiB.
+ * for a list of under 64 places, 2 for a memory that stands for no list: 'known' then gets 0. Stack: 16 KiB.
  * Writes: known. */
 uint8_t inglebreek_ask_address(uint32_t address, size_t count, const uint32_t *addresses, size_t addresses_count,
                                bool *known);
 
 /* Forgets an address. Answers 0, and 'known' gets whether it was in the memory; or 1 for a list of under 64
- * places, 2 for a memory that stands for no list: 'known' then gets 0, and the memory stays as it was. Stack: 32
+ * places, 2 for a memory that stands for no list: 'known' then gets 0, and the memory stays as it was. Stack: 16
  * KiB. Writes: count, addresses, known. */
 uint8_t inglebreek_forget_address(uint32_t address, size_t *count, uint32_t *addresses, size_t addresses_count,
                                   bool *known);
 
 /* Notes the destination in the header that a missing-option message (12/1/134) quotes. Answers 0, and 'known' gets
  * whether it was in the memory; or 1 for a list of under 64 places, 2 for a memory that stands for no list, 25 for
- * any other octets: 'known' then gets 0, and the memory stays as it was. Stack: 32 KiB. Writes: count, addresses,
+ * any other octets: 'known' then gets 0, and the memory stays as it was. Stack: 16 KiB. Writes: count, addresses,
  * known. */
 uint8_t inglebreek_note_message(const uint8_t *octets, size_t octets_count, size_t *count, uint32_t *addresses,
                                 size_t addresses_count, bool *known);
 
 /* Reads one option 134 alone. Answers 0 and the label that it means: its domain, its level, the count of its runs,
  * and the runs in 'runs', which stays as it was where it has fewer places than the count says (120 are always
- * enough); or answers 3 or 7 to 13, and 'pointer' gets the place in the option, the label's numbers 0. Stack: 32
+ * enough); or answers 3 or 7 to 13, and 'pointer' gets the place in the option, the label's numbers 0. Stack: 16
  * KiB. Writes: pointer, domain, level, count, runs. */
 uint8_t inglebreek_read_option(const uint8_t *octets, size_t octets_count, size_t *pointer, uint32_t *domain,
                                uint8_t *level, size_t *count, uint32_t *runs, size_t runs_count);
@@ -192,17 +192,17 @@ uint8_t inglebreek_read_option(const uint8_t *octets, size_t octets_count, size_
  * permitted ones: tag 1 in its shortest form, tag 1 with exactly ten bitmap octets, tag 2, tag 5. Answers 0, and
  * 'count' gets the option's length; 'out' gets the option, with zeros up to octet 39. Or answers 1 for an 'out' of
  * under 40 octets, 2 for an ill-formed label, 18 for one that no permitted option means; 'count' then gets 0, and
- * 'out' stays as it was. Stack: 32 KiB. Writes: out, count. */
+ * 'out' stays as it was. Stack: 16 KiB. Writes: out, count. */
 uint8_t inglebreek_spell_label(uint32_t domain, uint8_t level, const uint32_t *runs, size_t runs_count, bool shortest,
                                bool ten, bool numbers, bool pairs, uint8_t *out, size_t out_count, size_t *count);
 
-/* Reads one option 130 alone. Answers 0, its level octet and its flag field; or 19, and both get 0. Stack: 32 KiB.
+/* Reads one option 130 alone. Answers 0, its level octet and its flag field; or 19, and both get 0. Stack: 16 KiB.
  * Writes: level, flags. */
 uint8_t inglebreek_read_basic(const uint8_t *octets, size_t octets_count, uint8_t *level, uint16_t *flags);
 
 /* Writes the shortest option 130 of a level octet and a flag field. Answers 0, and 'count' gets the option's
  * length: only so many octets of 'out' change. Or answers 1 for an 'out' of under 5 octets, 19 for a level that is
- * none of the four or flags over 16383; 'count' then gets 0, and 'out' stays as it was. Stack: 32 KiB. Writes:
+ * none of the four or flags over 16383; 'count' then gets 0, and 'out' stays as it was. Stack: 16 KiB. Writes:
  * out, count. */
 uint8_t inglebreek_write_basic(uint8_t level, uint16_t flags, uint8_t *out, size_t out_count, size_t *count);
 
