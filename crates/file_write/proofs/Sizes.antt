@@ -59,7 +59,7 @@ flat-map : {A C : Type 0} (g : C → List ℕ) (f : A → C) (xs : List A) → f
 flat-map g f [] = refl
 flat-map g f (x ∷ xs) = ap (λ (z : List ℕ). g (f x) ++ z) (flat-map g f xs)
 
-tables-length : (hs : List Renumbering) (ns : List ℕ) → length (tablesFrom hs ns) ≡ length hs
+pub tables-length : (hs : List Renumbering) (ns : List ℕ) → length (tablesFrom hs ns) ≡ length hs
 tables-length [] ns = refl
 tables-length (h ∷ hs) ns = ap suc (tables-length hs (drop (share h) ns))
 
@@ -73,12 +73,12 @@ tables-octets xs =
     flat-turn (λ st t. octets (alike (tableFormat 2) st) t) same (λ t. octets (tableFormat 2) t) (λ st t. refl) 0 (map fieldsOf xs)
     ∙ flat-map (λ t. octets (tableFormat 2) t) fieldsOf xs
 
-all-octets : (s : Set) (rows : List ℕ)
-    → octets (setFormat 2) (recordsOf s rows)
-    ≡ (digits 1 (length (recordsOf s rows .0)) ++ inTurn (λ st p. octets (alike (portFormat 2) st) p) same 0 (recordsOf s rows .0))
-    ++ (digits 1 (length (recordsOf s rows .1)) ++ inTurn (λ st t. octets (alike (tableFormat 2) st) t) same 0 (recordsOf s rows .1))
+pub all-octets : (version : ℕ) (s : Set) (rows : List ℕ)
+    → octets (setFormat version) (recordsOf s rows)
+    ≡ (digits 1 (length (recordsOf s rows .0)) ++ inTurn (λ st p. octets (alike (portFormat version) st) p) same 0 (recordsOf s rows .0))
+    ++ (digits 1 (length (recordsOf s rows .1)) ++ inTurn (λ st t. octets (alike (tableFormat version) st) t) same 0 (recordsOf s rows .1))
 unfolding octets setFormat portsFormat tablesFormat
-all-octets s rows = refl
+all-octets version s rows = refl
 
 module _ (s : Set) (rows : List ℕ) (p : Parts s rows) where
   pub set-octets : octets (setFormat 2) (recordsOf s rows)
@@ -88,7 +88,7 @@ module _ (s : Set) (rows : List ℕ) (p : Parts s rows) where
       let b : length (take (s .tablecount) (s .tables)) ≡ s .tablecount = length-take-le (s .tablecount) (s .tables) (omega (arith, p .tables-held, p .table-places)) in
       let c : length (map fieldsOf (tablesFrom (take (s .tablecount) (s .tables)) rows)) ≡ s .tablecount =
       length-map (tablesFrom (take (s .tablecount) (s .tables)) rows) fieldsOf ∙ tables-length (take (s .tablecount) (s .tables)) rows ∙ b in
-      all-octets s rows ∙ rw (ports-octets (take (s .portcount) (s .ports)), tables-octets (tablesFrom (take (s .tablecount) (s .tables)) rows), a, c)
+      all-octets 2 s rows ∙ rw (ports-octets (take (s .portcount) (s .ports)), tables-octets (tablesFrom (take (s .tablecount) (s .tables)) rows), a, c)
 
   pub total-is : totalOf 2 s rows ≡ 5 + length (flat portOctets (take (s .portcount) (s .ports))) + length (flat tableOctets (tablesFrom (take (s .tablecount) (s .tables)) rows))
   total-is =
