@@ -476,6 +476,10 @@ fn main() {
         println!("{}", options::USAGE);
         return;
     }
+    if words.iter().any(|w| w == "--version") {
+        println!("Inglebreek {}", include_str!("../../VERSION").trim());
+        return;
+    }
     let end = |why: &str| -> ! {
         eprintln!("box: {why}");
         std::process::exit(2)
