@@ -1,14 +1,16 @@
 -- Laws of the input's window and of places.
 use Prim.Native.Nat.{ℕ, suc, _+_, _-_, _≤_, _<_}
 use mathlib.Core.Path.{_≡_, refl, sym, ap, _∙_}
-use mathlib.Core.Bool.{Bool, true, false}
+use mathlib.Core.Bool.{Bool, true, false, cond, _&&_}
 use mathlib.Core.List.{List, [], _∷_, _++_}
 use native.Mathlib.Omega.{arith}
+use borrow.Author.Tests.{leb-true, le-leb}
+use lib.Dec.{leb}
 use lib.ListN.{length, take, drop, set, getD, length-take, length-drop, length-append, take-append-drop}
-use lib.Seq.{take-suc, drop-cons, append-snoc, set-at, getD-append-add, getD-drop, take-take, take-at}
+use lib.Seq.{take-suc, drop-cons, append-snoc, set-at, getD-append-add, getD-drop, take-take, take-at, length-take-le}
 use Rattle.stream.specs.declared.input.Window.{Window}
 use Rattle.stream.specs.declared.place.Place.{Place}
-use Rattle.stream.specs.Input.{lying, heldCount, held, Holds}
+use Rattle.stream.specs.Input.{lying, heldCount, held, Holds, HoldsPiece}
 use Rattle.stream.specs.Place.{goingPlace, stoppedPlace, flushed, Flushes, Spares, Feeds}
 
 -- a buffer whose octets from `at` on stand at the front too, `to` of them
@@ -82,6 +84,22 @@ module _ (xs : List ℕ) (w v : Window) (lies : v ≡ lying (length xs) w) (insi
         first = λ q. (refl, omega (arith, held-count));
       }
 
+  -- a piece behind what is held
+  pub holds-piece : (most : ℕ) (ys zs : List ℕ) (got : ℕ) → ys ≡ moved (v .at) (v .end - v .at) xs → length ys ≡ length xs
+      → v .end - v .at + got ≤ length zs → got ≤ most → length zs ≡ length ys → take (v .end - v .at) zs ≡ take (v .end - v .at) ys
+      → HoldsPiece xs w most zs (record { at = v .end - v .at; end = v .end - v .at + got })
+  holds-piece most ys zs got m l b g e t =
+      let h = holds-read (suc (v .end - v .at)) ys zs (v .end - v .at + got) (omega arith) m l (omega arith) b e t in
+      let k : heldCount xs w < suc (v .end - v .at) = omega (arith, held-count) in
+      record {
+        rest = h .rest;
+        sized = h .sized;
+        front = h .front k;
+        begins = sym held-count;
+        inside = (omega arith, b);
+        short = omega arith;
+      }
+
 -- what a place comes to
 module _ (xs : List ℕ) (p : Place) (v : Window) (lies : v ≡ lying (length xs) (p .window)) (inside : (v .at ≤ v .end) × (v .end ≤ length xs)) where
   pub feeds-enough : (n : ℕ) → n ≤ v .end - v .at → Feeds xs p n xs (goingPlace v (p .waiting))
@@ -128,3 +146,26 @@ pub spares-full : (out : List ℕ) (p : Place) (room : ℕ) (r : Place) → leng
 spares-full out p room r h f =
     let e : r .waiting ≡ 0 = ap (λ (q : Place). q .waiting) (f .place) ∙ flushed-waiting p (f .sent) in
     record { sent = f .sent; fits = λ k. absurd (omega arith); full = λ k. f .place; spare = λ k. omega arith }
+
+-- as many octets are held as the window has
+pub held-length : (xs : List ℕ) (w : Window) → length (held xs w) ≡ heldCount xs w
+unfolding held heldCount lying
+held-length xs w = go (leb (w .at) (w .end)) (leb (w .end) (length xs)) refl refl
+  where
+    go : (a b : Bool) → leb (w .at) (w .end) ≡ a → leb (w .end) (length xs) ≡ b
+        → length (take (cond (a && b) w (record { at = 0; end = 0 }) .end - cond (a && b) w (record { at = 0; end = 0 }) .at) (drop (cond (a && b) w (record { at = 0; end = 0 }) .at) xs))
+        ≡ cond (a && b) w (record { at = 0; end = 0 }) .end - cond (a && b) w (record { at = 0; end = 0 }) .at
+    go true true e f =
+        let h : w .end ≤ length xs = leb-true _ _ f in
+        length-take-le (w .end - w .at) (drop (w .at) xs) (omega (arith, length-drop (w .at) xs))
+    go true false e f = refl
+    go false b e f = refl
+
+-- a window that lies in its buffer
+pub held-lying : (xs : List ℕ) (at end : ℕ) → at ≤ end → end ≤ length xs → held xs (record { at = at; end = end }) ≡ take (end - at) (drop at xs)
+unfolding held heldCount lying
+held-lying xs at end h k = rw (le-leb at end h, le-leb end (length xs) k)
+
+-- nothing is held of an empty window
+pub held-none : (xs : List ℕ) → held xs (record { at = 0; end = 0 }) ≡ []
+held-none xs = held-lying xs 0 0 (omega arith) (omega arith)

@@ -1,5 +1,5 @@
 -- The octets that were read and are not yet used: a window of the input buffer.
-use Prim.Native.Nat.{ℕ, _-_, _≤_, _<_}
+use Prim.Native.Nat.{ℕ, _+_, _-_, _≤_, _<_}
 use mathlib.Core.Path.{_≡_}
 use mathlib.Core.Bool.{cond, _&&_}
 use mathlib.Core.List.{List, _++_}
@@ -30,3 +30,13 @@ pub record Holds (before : List ℕ) (w : Window) (n : ℕ) (after : List ℕ) (
   -- there are fewer: those that are held stand at the front in their order, and what was read stands behind them
   pub front : heldCount before w < n → after ≡ held before w ++ rest
   pub first : heldCount before w < n → (r .at ≡ 0) × (heldCount before w ≤ r .end)
+
+-- One piece of at most `most` octets behind what is held. `rest` is what the read left behind the octets that were held, a free answer; the window is that of the octets that came.
+pub record HoldsPiece (before : List ℕ) (w : Window) (most : ℕ) (after : List ℕ) (r : Window) : Type 0 where
+  pub rest : List ℕ
+  pub sized : length after ≡ length before
+  -- what is held stands at the front in its order, and the octets that came behind it
+  pub front : after ≡ held before w ++ rest
+  pub begins : r .at ≡ heldCount before w
+  pub inside : (r .at ≤ r .end) × (r .end ≤ length after)
+  pub short : r .end ≤ r .at + most

@@ -3,7 +3,7 @@ ghost use mathlib.Core.Path.{_≡_};
 ghost use mathlib.Core.List.{_++_};
 ghost use Prim.Native.Nat.{_+_, _-_, _≤_};
 ghost use lib.ListN.{length, take, drop};
-ghost use Rattle.stream.specs.Input.{lying, Holds};
+ghost use Rattle.stream.specs.Input.{lying, Holds, HoldsPiece};
 use libc::STDIN_FILENO;
 
 // The unused octets of a buffer: from `at` up to `end`, where the next ones go.
@@ -64,9 +64,10 @@ fn read_until(input: &mut [u8], held: usize, n: usize) -> usize
     ensures { λ r. ⌜ (held ≤ r) × (r ≤ length (now (input .exit))) ⌝ }
     ensures { λ _. ⌜ (length (now (input .exit)) ≡ length (now (input .entry))) × (take held (now (input .exit)) ≡ take held (now (input .entry))) ⌝ }
 {
+    let room = input.len();
     let mut end = held;
     while end < n {
-        let got = read_once(input, end);
+        let got = read_once(input, end, room);
         if got == 0 {
             return end;
         }
@@ -75,12 +76,41 @@ fn read_until(input: &mut [u8], held: usize, n: usize) -> usize
     end
 }
 
-// One read into the buffer from `end` on: how many octets came, 0 at the end of the input. The octets before `end` stay.
-fn read_once(input: &mut [u8], end: usize) -> usize
-    requires { ⌜ end ≤ length (now input) ⌝ }
-    ensures { λ r. ⌜ (end + r ≤ length (now (input .exit))) × (length (now (input .exit)) ≡ length (now (input .entry))) ⌝ }
+// One read into the buffer from `end` up to `to`: how many octets came, 0 at the end of the input. The octets before `end` stay.
+fn read_once(input: &mut [u8], end: usize, to: usize) -> usize
+    requires { ⌜ (end ≤ to) × (to ≤ length (now input)) ⌝ }
+    ensures { λ r. ⌜ (end + r ≤ to) × (length (now (input .exit)) ≡ length (now (input .entry))) ⌝ }
     ensures { λ _. ⌜ take end (now (input .exit)) ≡ take end (now (input .entry)) ⌝ }
 {
-    let got = libc::read(STDIN_FILENO, &mut input[end..]);
-    io::count(got, &input[end..])
+    let got = libc::read(STDIN_FILENO, &mut input[end..to]);
+    io::count(got, &input[end..to])
+}
+
+// One piece of at most `most` octets behind what is held, which goes to the front: the window of the octets that came. It is empty at the end of the input, and where there is no
+// room. A window that does not lie in the buffer counts as empty.
+pub fn hold_piece(input: &mut [u8], window: Window, most: usize) -> Window
+    ensures { λ r. ⌜ HoldsPiece (now (input .entry)) window most (now (input .exit)) r ⌝ }
+{
+    let w = lie(input.len(), window);
+    let at = w.at;
+    let end = w.end;
+    move_down(input, at, end);
+    let held = end - at;
+    let to = end_piece(held, most, input.len());
+    let got = read_once(input, held, to);
+    Window {
+        at: held,
+        end: held + got,
+    }
+}
+
+// Where a piece behind so many octets can end: behind `most` octets, or with the buffer.
+fn end_piece(held: usize, most: usize, room: usize) -> usize
+    requires { ⌜ held ≤ room ⌝ }
+    ensures { λ r. ⌜ (held ≤ r) × (r ≤ room) × (r ≤ held + most) ⌝ }
+{
+    if room - held < most {
+        return room;
+    }
+    held + most
 }

@@ -5,6 +5,7 @@ mod place;
 
 pub use input::Window;
 pub use input::hold;
+pub use input::hold_piece;
 pub use place::Place;
 pub use place::begin;
 pub use place::feed;

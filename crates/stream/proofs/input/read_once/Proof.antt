@@ -38,7 +38,7 @@ returns c =
     let read = c .before .before .before .before .before in
     let start = read .before .before .before in
     let h : start .args .end ≤ length (start .args .input .now) = search needs in
-    (search needs, take-put (start .args .end) (length (start .args .input .now) - start .args .end) (start .args .input .now) (read .read .last .1 .0) h)
+    (search needs, take-put (start .args .end) (start .args .to - start .args .end) (start .args .input .now) (read .read .last .1 .0) h)
 
 pub read-once-spec : {M : Type 1} → statement M
 read-once-spec =

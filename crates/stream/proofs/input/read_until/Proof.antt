@@ -8,11 +8,11 @@ use Rattle.stream.proofs.input.read_until.Statement.{statement}
 use Rattle.stream.proofs.input.read_until.Tie as tie
 
 abbrev Inv-loop : tie.InvT-loop
-Inv-loop input₀ held n end₀ input end =
+Inv-loop input₀ held n room end₀ input end =
     (length input ≡ length input₀) × (held ≤ end) × (end ≤ length input) × (take held input ≡ take held input₀)
 
 abbrev μ-loop : tie.MeasureT-loop
-μ-loop input₀ held n end₀ input end = length input - end
+μ-loop input₀ held n room end₀ input end = length input - end
 
 loop-holds : tie.Need-loop-holds Inv-loop μ-loop
 loop-holds c = (refl, search needs, search needs, refl)

@@ -1,0 +1,35 @@
+-- The rows of `specs/Examples.antt` are those that the definitions compute.
+use mathlib.Core.Path.{refl}
+use Rattle.inspect_claim.specs.Claim.{parses, claimOf}
+use Rattle.inspect_claim.specs.Compare.{findingOf}
+use Rattle.inspect_claim.specs.Examples.{Examples}
+
+pub examples : Examples
+unfolding parses claimOf findingOf
+examples =
+    record {
+      says = refl;
+      facts = refl;
+      back = refl;
+      claimed = refl;
+      four = refl;
+      three = refl;
+      turned = refl;
+      second = refl;
+      zeroth = refl;
+      error = refl;
+      group = refl;
+      link = refl;
+      fragment = refl;
+      source = refl;
+      short = refl;
+      long = refl;
+      none = refl;
+      agrees = refl;
+      number = refl;
+      pointer = refl;
+      length = refl;
+      octet = refl;
+      last = refl;
+      behind = refl;
+    }

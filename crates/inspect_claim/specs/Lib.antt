@@ -1,0 +1,4 @@
+pub mod Claim
+pub mod Compare
+pub mod Examples
+pub mod Theorems

@@ -1,0 +1,3 @@
+pub mod Records
+pub mod Examples
+pub mod Theorems
