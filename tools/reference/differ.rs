@@ -49,7 +49,16 @@ fn first_difference(
 
 /// The octets shown are those after the case's length; for a case cut off, all that is there.
 pub fn cases(input: &mut impl Read, expected: &mut impl BufRead, found: &mut impl BufRead) -> io::Result<bool> {
-    first_difference("case", expected, found, || {
+    led_by_two_octets("case", input, expected, found)
+}
+
+/// A recorded case has its length in two octets too.
+pub fn inspect(input: &mut impl Read, expected: &mut impl BufRead, found: &mut impl BufRead) -> io::Result<bool> {
+    led_by_two_octets("recorded case", input, expected, found)
+}
+
+fn led_by_two_octets(what: &str, input: &mut impl Read, expected: &mut impl BufRead, found: &mut impl BufRead) -> io::Result<bool> {
+    first_difference(what, expected, found, || {
         Ok(match cases::next_case(input)? {
             cases::Next::Whole(octets) | cases::Next::CutOff(octets) => Some(octets),
             cases::Next::End => None,

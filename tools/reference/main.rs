@@ -7,6 +7,7 @@
 //   file                  the house file             entries    which calls are built
 //   basic                 one Basic Security option  routes     a box of many ports
 //   messages              ICMP messages              memory     which destinations want labels
+//   inspect               the inspector's job
 //
 // The other files generate cases and compare answers.
 
@@ -23,6 +24,7 @@ mod fast;
 mod fastcheck;
 mod file;
 mod generator;
+mod inspect;
 mod label;
 mod memory;
 mod messages;
@@ -43,11 +45,14 @@ const USAGE: &str = "usage:
   reference cases [ENTRIES]                          cases from standard input, one line each
   reference sample [FILE]                            records from standard input, one line each; FILE has ports and table
   reference sample-file NUMBER SEED FILE             writes a file for the sample: document 01's as number 0, then variants
+  reference inspect FILE                             recorded cases from standard input, one line each; FILE has ports and tables
+  reference generate-records COUNT SEED VERSION RECORDS FILE   writes recorded cases for inspect and the file of that version for them
   reference built ENTRY                              says by its exit status whether an entry is built
   reference generate COUNT SEED CASES LINES [ENTRIES]   writes cases and their expected lines
   reference sample-records COUNT SEED RECORDS        writes records for the sample
   reference differ-cases CASES EXPECTED FOUND        shows the first difference of two files of lines
   reference differ-sample RECORDS EXPECTED FOUND
+  reference differ-inspect RECORDS EXPECTED FOUND
   reference selfcheck                                checks the reference against document 01's numbers
   reference fastcheck COUNT SEED                     compares the fast variant on generated cases
 ENTRIES are numbers and ranges as `1-9,24`; without them, those that entries.rs lists as built";
@@ -90,6 +95,25 @@ fn run(arguments: &[&str]) -> io::Result<bool> {
             output.flush()?;
             Ok(true)
         }
+        ["inspect", path] => {
+            let mut input = BufReader::with_capacity(BUFFER, io::stdin().lock());
+            let mut output = BufWriter::with_capacity(BUFFER, io::stdout().lock());
+            let inspector = std::fs::read(path).ok().and_then(|octets| inspect::Inspector::of_file(&octets));
+            inspect::run(&mut input, &mut output, inspector.as_ref())?;
+            output.flush()?;
+            Ok(true)
+        }
+        ["generate-records", count, seed, version, records, path] => {
+            let version = (number(version)? as usize).wrapping_sub(1);
+            if version >= file::VERSIONS.len() {
+                return Err(io::Error::new(io::ErrorKind::InvalidInput, "no such version"));
+            }
+            let mut records = writer(records)?;
+            let (enough, octets) = generator::recorded::recorded(number(count)? as usize, number(seed)?, version, &mut records)?;
+            records.flush()?;
+            std::fs::write(path, octets)?;
+            Ok(enough)
+        }
         ["generate", count, seed, cases, lines] | ["generate", count, seed, cases, lines, _] => {
             let entries = entries(arguments.get(5))?;
             let (mut cases, mut lines) = (writer(cases)?, writer(lines)?);
@@ -110,6 +134,7 @@ fn run(arguments: &[&str]) -> io::Result<bool> {
         }
         ["built", entry] => Ok(number(entry)? < 256 && Entries::built().has(number(entry)? as u8)),
         ["differ-cases", cases, expected, found] => differ::cases(&mut reader(cases)?, &mut reader(expected)?, &mut reader(found)?),
+        ["differ-inspect", records, expected, found] => differ::inspect(&mut reader(records)?, &mut reader(expected)?, &mut reader(found)?),
         ["differ-sample", records, expected, found] => differ::sample(&mut reader(records)?, &mut reader(expected)?, &mut reader(found)?),
         ["selfcheck"] => Ok(selfcheck::run()),
         ["fastcheck", count, seed] => Ok(fastcheck::run(number(count)? as usize, number(seed)?)),

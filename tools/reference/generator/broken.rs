@@ -77,6 +77,7 @@ const LATER_WAYS: &[(u8, Way)] = &[
     (MEMORY, bad_memory),
     (WRITE_BASIC, long_basic_output),
     (FORWARD_WIDE, bad_wide_forward),
+    (FORWARD_WIDE, bad_strict),
     (DELIVER_WIDE, bad_wide_deliver),
     (SPELL_PERMITTED, bad_spellings),
     (IN_BOX, long_lists),
@@ -178,6 +179,21 @@ fn spoil_groups(octets: &mut Vec<u8>, groups_at: usize, round: usize) {
     } else {
         octets.splice(groups_at..groups_at + 1, bad_basic_group(round / 5 * 3 + round % 5));
     }
+}
+
+/// The mark of the arriving or the leaving port is neither 0 nor 1.
+fn bad_strict(random: &mut Random, round: usize) -> Vec<u8> {
+    let mut case = forward_draft(random, &ANY).finish(random);
+    case.arriving.strict = true;
+    let mut before = Encoder { octets: vec![FORWARD_WIDE], spare: 0 };
+    before.wide_port(&case.arriving);
+    if round % 2 == 1 {
+        case.leaving.strict = true;
+        before.wide_port(&case.leaving);
+    }
+    let mut octets = encode(&Case::ForwardWide(Box::new(case)), 0);
+    octets[before.octets.len() - 1] = [2, 255, 3, 128][round % 4];
+    octets
 }
 
 /// The arriving or the leaving port of a forward has bad groups, or a fact is bad.

@@ -212,8 +212,10 @@ pub fn rich_set(random: &mut Random, version: &Version) -> SetRecord {
     if version.later_fields {
         let on = random.below(2);
         let few = |random: &mut Random| loop {
-            let way = any_way(random);
+            let mut way = any_way(random);
             if way.count < 6 {
+                // Levels that others are below.
+                (way.lowest, way.highest) = (LEVELS[random.between(1, 2)], LEVELS[random.between(2, 3)]);
                 return way;
             }
         };
@@ -466,7 +468,7 @@ fn bad_number(random: &mut Random, field: &Field, round: usize) -> Option<u32> {
         Rule::Count(limit) => Some([limit + 1, most, limit + 2, most / 2 + 1][round % 4]),
         Rule::NotZero => Some(0),
         Rule::Zero => Some([1, most, most / 2 + 1][round % 3]),
-        Rule::ZeroOrOne => Some([2, most, 3, most / 2 + 1][round % 4]),
+        Rule::ZeroOrOne => Some([2, 2, most, 3][round % 4]),
         Rule::LevelFrom(least) => {
             let below: Vec<u32> = LEVELS.iter().filter(|level| rank(**level) < rank(*least)).map(|level| *level as u32).collect();
             if round % 2 == 0 && !below.is_empty() {
@@ -542,7 +544,7 @@ fn broken_file(random: &mut Random, turn: usize, pairs: bool) -> Vec<u8> {
     }
     let mut layout = Layout::of(&set, version);
     if let Some(name) = names.get(way) {
-        layout.break_rule_by(random, name, round);
+        layout.break_rule_by(random, name, round + version.mark as usize);
     }
     if pairs {
         let name = random.pick(&names);
@@ -602,6 +604,24 @@ pub fn file_about_room(random: &mut Random, turn: usize, _number: u8) -> Made {
 
 pub fn file_rule_broken(random: &mut Random, turn: usize, _number: u8) -> Made {
     Made::Case(Case::ReadFile(broken_file(random, turn, false)))
+}
+
+/// A rule over a whole label is broken: each in turn, in the versions that have it.
+pub fn file_range_broken(random: &mut Random, turn: usize, _number: u8) -> Made {
+    let clauses = RANGE_CLAUSES.len() + DEFAULT_RANGE_CLAUSES.len();
+    let version = if turn % clauses < RANGE_CLAUSES.len() { version_of(turn) } else { [&SECOND, &WRITTEN][turn % 2] };
+    let mut set = rich_set(random, version);
+    match (turn % clauses).checked_sub(RANGE_CLAUSES.len()) {
+        None => {
+            let port = random.below(set.port_count as usize);
+            break_port(random, &mut set.ports[port], 3 * ILL_FORMED + RANGE_CLAUSES[turn % clauses]);
+        }
+        Some(place) => {
+            let port = set.ports.iter().position(|port| port.unlabelled).unwrap_or(0);
+            break_default(random, &mut set.ports[port], ILL_FORMED + DEFAULT_RANGE_CLAUSES[place]);
+        }
+    }
+    Made::Case(Case::ReadFile(Layout::of(&set, version).octets))
 }
 
 pub fn file_rules_broken(random: &mut Random, turn: usize, _number: u8) -> Made {
@@ -812,7 +832,7 @@ pub fn set_unsound(random: &mut Random, turn: usize, _number: u8) -> Made {
             4 => set.ports[ports].assigned.places[MAX_RUNS - 1].high = 1,
             _ => set.ports[random.between(ports, MAX_PORTS - 1)] = set.ports[port].clone(),
         },
-        9 => match (round + turn / 90) % 7 {
+        9 => match (round * 3 + 5) % 7 {
             0 => set.tables[tables].from = 1,
             1 => set.tables[MAX_TABLES - 1].to = 1,
             2 => set.tables[tables].level_count = 1,

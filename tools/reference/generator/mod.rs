@@ -8,6 +8,7 @@
 //   sets, spellings, ranges, tables, drafts, basic     good parts of cases
 //   unsound, faults                             ways to spoil them
 //   sample_records                              records for the sample program
+//   recorded                                    records for the inspector
 
 mod basic;
 mod bitmaps;
@@ -25,6 +26,7 @@ mod messages;
 mod random;
 mod ranges;
 mod reading;
+pub mod recorded;
 mod reverse;
 pub mod sample_files;
 pub mod sample_records;
@@ -209,7 +211,7 @@ fn all_slots() -> Vec<Slot> {
         slot(DELIVER, 1, "13", deliver_broken),
         slot(DELIVER, 1, "14", deliver_broken),
         slot(DELIVER, 1, "15", deliver_broken),
-        broken_slot(2),
+        broken_slot(3),
         slot(CONTAINS, 1, "NO", contains_ill_formed),
         slot(WITHIN, 1, "NO", within_ill_formed),
         slot(RENUMBER, 2, "2", renumber_unsound),
@@ -258,6 +260,7 @@ fn all_slots() -> Vec<Slot> {
         slot(READ_FILE, 4, "ACCEPTED", file_accepted),
         slot(READ_FILE, 5, "REFUSED", file_rule_broken),
         slot(READ_FILE, 2, "REFUSED", file_rules_broken),
+        slot(READ_FILE, 1, "REFUSED", file_range_broken),
         slot(READ_FILE, 4, "REFUSED", file_cut),
         slot(READ_FILE, 2, "REFUSED", file_length_wrong),
         slot(READ_FILE, 1, "ROOM", file_room),

@@ -87,7 +87,7 @@ fn slack_option(random: &mut Random, domain: u32, way: usize) -> Vec<u8> {
 }
 
 /// Ways in which an option is nearly slack.
-const NEAR: usize = 9;
+const NEAR: usize = 11;
 
 fn tight_option(random: &mut Random, domain: u32, way: usize) -> Vec<u8> {
     let level = random_level(random);
@@ -117,6 +117,15 @@ fn tight_option(random: &mut Random, domain: u32, way: usize) -> Vec<u8> {
             option_with(domain, RANGES, level, &octets)
         }
         7 => option_with(domain, RANGES, level, &[0, 0]),
+        // Slack, and bad too: 12 comes before 23.
+        8 => {
+            let mut made = pairs(random, count.max(3));
+            let last = made.len() - 1;
+            made[1][0] = made[0][1] - 1;
+            made[last] = [100, random.pick(&[101, 200, 65_535])];
+            option_with(domain, RANGES, level, &octets_of(&made))
+        }
+        9 => option_with(domain, RANGES, level, &octets_of(&[[random.pick(&[5, 65_535]), 9], [8, 0]])),
         // A last bottom of 1, and one that ends with an octet of 0.
         _ => {
             let mut made = pairs(random, count);
@@ -133,7 +142,7 @@ fn area_with(random: &mut Random, option: Vec<u8>) -> Vec<u8> {
 }
 
 /// A slack option, alone or with a fault behind it (13) that comes later.
-fn slack_area(random: &mut Random, domain: u32, turn: usize) -> Vec<u8> {
+pub fn slack_area(random: &mut Random, domain: u32, turn: usize) -> Vec<u8> {
     loop {
         let mut option = slack_option(random, domain, turn);
         if turn % 5 == 4 && option.len() < MAX_OCTETS {

@@ -3,6 +3,7 @@
 mod basic;
 mod boxes;
 mod files;
+mod inspected;
 mod memories;
 mod messages;
 mod permitted;
@@ -414,6 +415,7 @@ pub fn run() -> bool {
     messages::messages(&mut tally);
     memories::memories(&mut tally);
     strict::strict_ports(&mut tally);
+    inspected::inspected(&mut tally);
     renumbering::renumbering(&mut tally);
     walks(&mut tally);
     parsing(&mut tally);
