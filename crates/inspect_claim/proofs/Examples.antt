@@ -2,11 +2,11 @@
 use mathlib.Core.Path.{refl}
 use Rattle.inspect_claim.specs.Claim.{parses, claimOf}
 use Rattle.inspect_claim.specs.Compare.{findingOf}
-use Rattle.inspect_claim.specs.Examples.{Examples}
+use Rattle.inspect_claim.specs.Examples.{WorkedClaims}
 
-pub examples : Examples
+pub worked-claims : WorkedClaims
 unfolding parses claimOf findingOf
-examples =
+worked-claims =
     record {
       says = refl;
       facts = refl;

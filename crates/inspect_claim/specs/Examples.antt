@@ -16,7 +16,7 @@ octets = 1 ∷ 2 ∷ 3 ∷ 0 ∷ 1 ∷ 0 ∷ 0 ∷ 1 ∷ 2 ∷ 1 ∷ 0 ∷ 14 �
 abbrev pub others : List ℕ
 others = 1 ∷ 0 ∷ 1 ∷ 1 ∷ 0 ∷ 1 ∷ 1 ∷ 0 ∷ 0 ∷ 1 ∷ 0 ∷ 0 ∷ 0 ∷ 0 ∷ []
 
-pub record Examples : Type 0 where
+pub record WorkedClaims : Type 0 where
   pub says :
       claimOf octets
       ≡ record {

@@ -10,11 +10,11 @@ use Rattle.inspect_split.specs.Records.{isRecord, splitFrom}
 use Rattle.inspect_claim.specs.Claim.{parses, claimOf}
 use Rattle.inspect_claim.specs.Compare.{findingOf}
 use Rattle.inspect_line.specs.Lines.{findingBy, differsLine, findingLine, recordLine}
-use Rattle.inspect_line.specs.Examples.{Worked}
+use Rattle.inspect_line.specs.Examples.{WorkedLines}
 
-pub worked : Worked
+pub worked-lines : WorkedLines
 unfolding leading decimal silenced portSound sizes records forwardOf outputOf portAt isRecord splitFrom parses claimOf findingOf findingBy differsLine findingLine recordLine
-worked =
+worked-lines =
     record {
       right = refl;
       number = refl;

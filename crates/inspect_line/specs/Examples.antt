@@ -22,7 +22,7 @@ broken = 66 ∷ 82 ∷ 79 ∷ 75 ∷ 69 ∷ 78 ∷ 10 ∷ []
 abbrev pub differs : ℕ → List ℕ
 differs digit = 68 ∷ 73 ∷ 70 ∷ 70 ∷ 69 ∷ 82 ∷ 83 ∷ 32 ∷ digit ∷ 10 ∷ []
 
-pub record Worked : Type 0 where
+pub record WorkedLines : Type 0 where
   -- from port 0 to port 1, no facts, an area of one octet; claimed are number, type, code, pointer and no octets
   pub right : recordLine twoPorts [] (1 ∷ 0 ∷ 1 ∷ 0 ∷ 0 ∷ 0 ∷ 0 ∷ 0 ∷ 1 ∷ 7 ∷ 1 ∷ 0 ∷ 0 ∷ 0 ∷ 0 ∷ []) ≡ agrees
   pub number : recordLine twoPorts [] (1 ∷ 0 ∷ 1 ∷ 0 ∷ 0 ∷ 0 ∷ 0 ∷ 0 ∷ 1 ∷ 7 ∷ 2 ∷ 0 ∷ 0 ∷ 0 ∷ 0 ∷ []) ≡ differs 48

@@ -4,7 +4,7 @@ use mathlib.Core.List.{List, [], _∷_}
 use Prim.Native.Nat.{ℕ}
 use Rattle.inspect_split.specs.Records.{recordsOf, keptOf, printedBy, splitFrom}
 
-pub record Examples : Type 0 where
+pub record WorkedRecords : Type 0 where
   -- a record of three octets, an empty one, one of an octet; and then 258 octets are announced of which one is there
   pub records : recordsOf (0 ∷ 3 ∷ 7 ∷ 8 ∷ 9 ∷ 0 ∷ 0 ∷ 0 ∷ 1 ∷ 5 ∷ 1 ∷ 2 ∷ 9 ∷ []) ≡ (7 ∷ 8 ∷ 9 ∷ []) ∷ [] ∷ (5 ∷ []) ∷ []
   pub kept : keptOf (0 ∷ 3 ∷ 7 ∷ 8 ∷ 9 ∷ 0 ∷ 0 ∷ 0 ∷ 1 ∷ 5 ∷ 1 ∷ 2 ∷ 9 ∷ []) ≡ 1 ∷ 2 ∷ 9 ∷ []

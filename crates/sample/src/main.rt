@@ -9,9 +9,10 @@ ghost use Rattle.table_choose.specs.Tables.{lentFound};
 ghost use Rattle.sample.specs.Sample.{areaLine};
 ghost use Rattle.sample.specs.Choice.{nothing, sampleFrom, chosenOf, chosenBy};
 use decision::Facts;
+use file_load::ROOM;
+use file_load::load_file;
 use file_read::ACCEPTED;
 use file_read::FileRead;
-use file_read::read_file;
 use file_set::Set;
 use forward::forward;
 use port::Port;
@@ -23,13 +24,11 @@ use stream::flush;
 use stream::go_on;
 use stream::spare;
 use stream::stop;
-use table::MAX_ROWS;
 use table::Renumbering;
 use table::Table;
 use table::empty_table;
 use table::levels_of;
 use table_choose::Found;
-use table_choose::MAX_TABLES;
 use table_choose::Tables;
 use table_choose::first_table;
 use table_levels::Levels;
@@ -43,25 +42,6 @@ const INPUT: usize = 65536;
 const OUTPUT: usize = 65536;
 // The most octets of a line (crate `text`, `Longest`): there is room for so many before one is put.
 const LINE: usize = 110;
-
-// One octet more than the longest file has: octets past it are noticed.
-const FILE: usize = 61441;
-// How many numbers the rows of all tables have at most: with so many no sound file is refused for want of room.
-const ROOM: usize = MAX_TABLES * MAX_ROWS * 3;
-
-// Reads the file `gateway.bin`, the rows of its tables into the room; an unreadable file is an empty one, and so is refused.
-fn load(rows: &mut [u16]) -> FileRead
-    ensures { λ r. ⌜ r .used ≤ length (now (rows .entry)) ⌝ }
-{
-    let mut octets = [0u8; FILE];
-    let fd = os::open_read(b"gateway.bin");
-    if fd < 0 {
-        return read_file(&octets[..0], rows);
-    }
-    let n = io::read_full(fd, &mut octets);
-    libc::close(fd);
-    read_file(&octets[..n], rows)
-}
 
 // What the program runs with: two ports, a table, and where its rows lie in the room. It does not run where `ok` is false.
 struct Choice {
@@ -307,7 +287,7 @@ fn run_file(file: FileRead, rows: &[u16]) {
 
 fn main() {
     let mut rows = [0u16; ROOM];
-    let file = load(&mut rows);
+    let file = load_file(&mut rows);
     let used = file.used;
     run_file(file, &rows[..used]);
 }

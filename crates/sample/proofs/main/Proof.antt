@@ -6,12 +6,12 @@ use Rattle.sample.proofs.main.Statement.{statement}
 use Rattle.sample.proofs.main.Tie as tie
 
 -- src/main.rt:310:21
-slice-aggregate-load : tie.Need-slice-aggregate-load
-slice-aggregate-load c = search needs
+slice-aggregate-load-file : tie.Need-slice-aggregate-load-file
+slice-aggregate-load-file c = search needs
 
 -- src/main.rt:310:9
-load-requires : tie.Need-load-requires
-load-requires c κs = search needs
+load-file-requires : tie.Need-load-file-requires
+load-file-requires c κs = search needs
 
 -- src/main.rt:312:20
 array-share-prefix-rows : tie.Need-array-share-prefix-rows
@@ -33,8 +33,8 @@ pub main-spec : {M : Type 1} → statement M
 main-spec =
     tie.close
     (tie.spec
-    slice-aggregate-load
-    load-requires
+    slice-aggregate-load-file
+    load-file-requires
     array-share-prefix-rows
     slice-aggregate-run-file
     run-file-requires
