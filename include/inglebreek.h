@@ -96,6 +96,7 @@ static inline const char *inglebreek_words(unsigned number) {
 #define INGLEBREEK_FILE_REFUSED 101 /* refused at a place */
 #define INGLEBREEK_FILE_UNKNOWN_VERSION 102 /* its version is not known */
 #define INGLEBREEK_FILE_NO_ROOM 103 /* its rows outgrow their room */
+#define INGLEBREEK_FILE_TOO_LONG 104 /* it would be longer than its version allows */
 #define INGLEBREEK_MEMORY_MOST 64 /* the most addresses of a memory, and the places that are lent for it */
 
 /* A run of categories in a list of runs, as one number. */
@@ -154,6 +155,12 @@ uint8_t inglebreek_read_message(const uint8_t *octets, size_t octets_count, uint
  * accepted the three counts are 0. Stack: 64 KiB. Writes: place, ports, tables, rows. */
 uint8_t inglebreek_check_file(const uint8_t *file, size_t file_count, size_t *place, size_t *ports, size_t *tables,
                               size_t *rows);
+
+/* Writes a gateway file anew in the newest version, whatever version says it. Answers 0, and 'count' gets how many
+ * octets of 'out' are written; the others stay. Or answers 101 or 102 as 'inglebreek_check_file' does, then 104
+ * for a file that would be longer than its version allows, then 1 for an 'out' that is too short: 'count' then
+ * gets 0, and 'out' stays as it was. Stack: 512 KiB. Writes: out, count. */
+uint8_t inglebreek_renew_file(const uint8_t *file, size_t file_count, uint8_t *out, size_t out_count, size_t *count);
 
 /* Notes an address in the memory: it becomes the newest, and where it is new and the memory is full, the oldest is
  * dropped. Answers 0, and 'known' gets whether it was there; or 1 for a list of under 64 places, 2 for a memory

@@ -287,6 +287,28 @@ static void check_file(struct input *in) {
     free(file);
 }
 
+// Reads a file and writes it anew.
+static void renew_file(struct input *in) {
+    size_t octets = two(in), place = 99, ports = 99, tables = 99, rows = 99, room, count = 99;
+    const uint8_t *given = some(in, octets);
+    struct input again = *in;
+    uint8_t *file = copy_of(given, octets), *out = output(in, &room);
+    unsigned verdict = inglebreek_check_file(file, octets, &place, &ports, &tables, &rows), number = inglebreek_renew_file(file, octets, out, room, &count);
+    if (verdict || rows > 2048) {
+        if (verdict && (number != verdict || count)) printf("the two do not agree ");
+        again.at -= octets + 2;
+        check_file(&again);
+    } else {
+        if (number == INGLEBREEK_FILE_TOO_LONG) printf("NAMED ");
+        else printf("%u ", number);
+        printf("%zu ", count);
+        print_octets(out, room);
+        printf("\n");
+    }
+    free(file);
+    free(out);
+}
+
 static void build_message(struct input *in) {
     uint8_t report[4];
     for (int i = 0; i < 4; i++) report[i] = (uint8_t)one(in);
@@ -357,6 +379,7 @@ static void answer(struct input *in) {
     case 6: forward(in, false, true); break;
     case 8: forward(in, false, false); break;
     case 10: check_file(in); break;
+    case 11: renew_file(in); break;
     case 13: read_130(in); break;
     case 14: write_130(in); break;
     case 15: forward(in, true, false); break;

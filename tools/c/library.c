@@ -37,6 +37,8 @@ static void try_edges(void) {
     expect(inglebreek_write_basic(0xab, 0, NULL, 0, &count) == INGLEBREEK_BAD_SIZE && !count, "no room for an option 130");
     expect(inglebreek_check_file(NULL, 0, &place, &ports, &tables, &rows) == INGLEBREEK_FILE_REFUSED && !place && !ports && !tables && !rows, "no file");
     expect(inglebreek_check_file(file, file_octets, &place, &ports, &tables, &rows) == INGLEBREEK_FILE_ACCEPTED && ports == 2 && tables == 1 && rows == 2, "the sample's file");
+    expect(inglebreek_renew_file(NULL, 0, NULL, 0, &count) == INGLEBREEK_FILE_REFUSED && !count, "no file, anew");
+    expect(inglebreek_renew_file(file, file_octets, NULL, 0, &count) == INGLEBREEK_BAD_SIZE && !count, "no room for a file");
     expect(inglebreek_read_message(NULL, 0, &type, &code, &place_octet, &header, &payload) == INGLEBREEK_NO_SUCH_MESSAGE && !type && !header && !payload, "no message");
     expect(inglebreek_build_message(6, 12, 1, 134, NULL, 0, NULL, 0, NULL, 0, NULL, 0, &header, &payload) == INGLEBREEK_UNSOUND_RECORD && !header && !payload, "no header");
     count = 3;
@@ -87,12 +89,14 @@ static struct inglebreek_slot slots[RECORDS];
 static size_t a, b, c, d;
 static uint32_t numbers[INGLEBREEK_MAX_RUNS];
 static uint8_t x, y, z, header[24] = {0x46, 0, 0, 24}, out[512];
+static uint8_t renewed[65536];
 static uint16_t w;
 static bool known;
 
 static void run_nothing(void) {}
 static void run_forward_batch(void) { forward_all(slots); }
 static void run_check_file(void) { inglebreek_check_file(file, file_octets, &a, &b, &c, &d); }
+static void run_renew_file(void) { inglebreek_renew_file(file, file_octets, renewed, sizeof renewed, &a); }
 static void run_read_option(void) { inglebreek_read_option(scattered, 40, &a, numbers, &x, &b, numbers, INGLEBREEK_MAX_RUNS); }
 static void run_spell_label(void) { inglebreek_spell_label(5, 3, numbers, b, true, true, true, true, out, 40, &a); }
 static void run_read_basic(void) { inglebreek_read_basic((const uint8_t[3]){130, 3, 0xab}, 3, &x, &w); }
@@ -105,7 +109,7 @@ static void run_forget_address(void) { inglebreek_forget_address(5, &c, numbers,
 static void run_note_message(void) { inglebreek_note_message(out, 40, &c, numbers, 64, &known); }
 
 static const struct { const char *name; void (*run)(void); } calls[] = {
-    {"inglebreek_forward_batch", run_forward_batch}, {"inglebreek_check_file", run_check_file}, {"inglebreek_read_option", run_read_option},
+    {"inglebreek_forward_batch", run_forward_batch}, {"inglebreek_check_file", run_check_file}, {"inglebreek_renew_file", run_renew_file}, {"inglebreek_read_option", run_read_option},
     {"inglebreek_spell_label", run_spell_label}, {"inglebreek_read_basic", run_read_basic}, {"inglebreek_write_basic", run_write_basic},
     {"inglebreek_build_message", run_build_message}, {"inglebreek_read_message", run_read_message}, {"inglebreek_note_address", run_note_address},
     {"inglebreek_ask_address", run_ask_address}, {"inglebreek_forget_address", run_forget_address}, {"inglebreek_note_message", run_note_message}};

@@ -7,7 +7,7 @@ use table::MAX_ROWS;
 use table_choose::MAX_TABLES;
 
 // How many numbers the rows of all tables have at most: with so many no sound file is refused for want of room.
-const ROOM: usize = MAX_TABLES * MAX_ROWS * 3;
+pub const ROOM: usize = MAX_TABLES * MAX_ROWS * 3;
 
 // Checks a gateway file. Answers 0 where it is accepted: `ports`, `tables` and `rows` get how many it has, and `place` gets 0. Answers 101 where it is refused: `place` gets the place of
 // the first octet of the first bad field. Answers 102 where its version is not known: that is octet 2, and `place` gets 2. Of a file that is not accepted the three counts are 0.

@@ -1,10 +1,10 @@
 -- `export_file::inglebreek_check_file` meets its contract.
 use borrow.Author.Needs.{needs}
 use mathlib.Core.Path.{_≡_, ap}
-use Prim.Native.Nat.{ℕ, _/_}
-use lib.ListN.{length-replicate}
+use Prim.Native.Nat.{_/_}
 use Rattle.file_read.specs.declared.FileRead.{FileRead}
 use Rattle.export_file.specs.Export.{checking}
+use Rattle.export_file.proofs.Laws.{checked}
 use Rattle.export_file.proofs.inglebreek_check_file.Statement.{statement}
 use Rattle.export_file.proofs.inglebreek_check_file.Tie as tie
 
@@ -18,7 +18,7 @@ returns : tie.Need-returns
 returns c =
     let read = c .before .before .before in
     let file = read .before .before .before .args .file .now in
-    let e : read .read-file .result ≡ checking file = rw (length-replicate {A = ℕ} 24576 0) at (read .read-file .ensures .0) in (
+    let e : read .read-file .result ≡ checking file = checked _ _ (read .read-file .ensures .0) in (
       ap (λ (x : FileRead). x .verdict) e,
       (
         ap (λ (x : FileRead). x .at) e,
