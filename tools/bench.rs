@@ -1117,9 +1117,10 @@ fn dearest(times: &[Measured]) -> String {
 const ABOUT: &str = "# Speed
 
 `tools/bench --record` made this page and the plot: tables, figures and the rows that the text names are those of one run. `tools/bench` alone prints
-the tables. It links the box's static libraries (the crates `bench_exports`, `bench_loops` and `bench_parts`) and the second program's fast variant (`tools/reference/fast.rs`,
-ordinary Rust over runs, without the heap) into one program and holds their answers against each other first: every input alone, with every place of
-the label and every octet of the output, then the timed loops. (Through other tables than the sample's the output and a digest stand for the label.)
+the tables. It links the box's static libraries (the crates `bench_exports`, `bench_loops` and `bench_parts`) and the second program's fast variant
+(`tools/reference/fast.rs`, ordinary Rust over runs, without the heap) into one program and holds their answers against each other first: every input
+and every table alone, with every place of the label and every octet of the output, then the timed loops. (Through other tables than the sample's the
+output and a digest stand for the label.)
 
 - Each time is that of one call, in the shortest of 300 rounds of 960 calls; of files and of many rows, in the shortest of 200 rounds of 64. Box and
   Rust take turns, round by round, in one run, and all cases are gone through ten times.
@@ -1127,9 +1128,10 @@ the label and every octet of the output, then the timed loops. (Through other ta
 - The loops of the box are in the crates `bench_loops` and `bench_parts` (bitmap and file, which would be second callers in one library), those of
   Rust in `tools/bench.rs`; both run over records built once, with an output of 48 octets. Of every answer the same fixed places go into a number
   that is returned.
-- A forward checks both ports and the table on every call, in both. The ports are of the usual kind (a label is required, no option 130 is read, the range goes from no categories to one
-  run); between others the box takes 1.7 to 1.8 times the Rust variant's instructions, since they are copied (landing 17). Where the renumbered label has no spelling, the answer is 18 and the work up to
-  there is the same; the last column says how many of the inputs are forwarded.
+- A forward checks both ports and the table on every call, in both. The ports are of the usual kind (a label is required, no option 130 is read, the
+  range goes from no categories to one run); between others the box takes 1.4 to 1.9 times the Rust variant's instructions and 1.8 to 2.9 times its
+  time, since they are copied. Over 64 rows the box goes the same way between all ports. Where the renumbered label has no spelling, the answer is 18
+  and the work up to there is the same; the last column says how many of the inputs are forwarded.
 - The table with 8 to 64 rows spreads the categories 0 to 255 over rows of equal width whose targets come in scattered order, those below 240
   among themselves.
 - A table of many rows, 64 to 1,024, spreads the first 256 categories, or twice as many as it has rows, over rows of all widths, and those below 240
