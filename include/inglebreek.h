@@ -50,6 +50,7 @@ extern "C" {
 #define INGLEBREEK_OPTION_130_MISSING 20
 #define INGLEBREEK_OUTSIDE_THE_130_RANGE 21
 #define INGLEBREEK_NO_ROUTE 22
+#define INGLEBREEK_SLACK_SPELLING 23
 #define INGLEBREEK_TOO_LITTLE_ROOM 24
 #define INGLEBREEK_NO_SUCH_MESSAGE 25
 
@@ -79,6 +80,7 @@ static inline const char *inglebreek_words(unsigned number) {
     case INGLEBREEK_OPTION_130_MISSING: return "option 130 missing";
     case INGLEBREEK_OUTSIDE_THE_130_RANGE: return "outside the 130 range";
     case INGLEBREEK_NO_ROUTE: return "no route";
+    case INGLEBREEK_SLACK_SPELLING: return "slack spelling";
     case INGLEBREEK_TOO_LITTLE_ROOM: return "too little room";
     case INGLEBREEK_NO_SUCH_MESSAGE: return "no such message";
     default: return "unknown number";
