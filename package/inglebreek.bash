@@ -3,7 +3,7 @@ _inglebreek() {
     local word=${COMP_WORDS[COMP_CWORD]} before=${COMP_WORDS[COMP_CWORD - 1]} options
     case ${COMP_WORDS[0]##*/} in
     inglebreek) options='--port --vlan --routes --alone --all --quiet --json --lines --messages --metrics --every --at-once --times --help --version' ;;
-    inglebreek-capture) options='--from --to --format --table --no-table --write --records --network --mtu --quiet --help --version' ;;
+    inglebreek-capture) options='--from --to --format --table --no-table --write --records --left --network --mtu --quiet --help --version' ;;
     inglebreek-file) options='file-to-text text-to-file --help --version' ;;
     esac
     if [ "$before" = --format ]; then

@@ -16,8 +16,8 @@ const char *const fault_words[FAULTS] = {
     [TOO_LONG] = "leaving datagram too long",
 };
 
-// EtherTypes: IPv4, and those that begin a VLAN tag.
-enum { IPV4 = 0x0800, VLAN = 0x8100, PROVIDER = 0x88a8, OLD_PROVIDER = 0x9100 };
+// EtherTypes that begin a VLAN tag.
+enum { VLAN = 0x8100, PROVIDER = 0x88a8, OLD_PROVIDER = 0x9100 };
 // The link's headers.
 enum { ETHERNET = 14, TAG = 4, COOKED = 16, COOKED_2 = 20 };
 // How a cooked header names a frame that was sent to a group: broadcast, multicast.

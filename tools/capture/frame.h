@@ -4,8 +4,8 @@
 
 #include "inglebreek.h"
 
-// Octets of an IPv4 header without options, of the longest one, and of a longest datagram.
-enum { FIXED = 20, LONGEST_HEADER = 60, LONGEST_DATAGRAM = 65535 };
+// Octets of an IPv4 header without options, of the longest one, and of a longest datagram; the EtherType of IPv4.
+enum { FIXED = 20, LONGEST_HEADER = 60, LONGEST_DATAGRAM = 65535, IPV4 = 0x0800 };
 
 // Why a frame is not decided, or does not leave. frame.c has the words of each.
 enum fault {

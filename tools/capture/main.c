@@ -1,5 +1,6 @@
 // Takes the IPv4 datagrams of a capture through the proved library (options.c has the usage). What is decided, the library says; what is here reads, counts
 // and writes.
+#include "left.h"
 #include "options.h"
 #include <errno.h>
 #include <pcap/pcap.h>
@@ -11,6 +12,12 @@
 
 // So many frames are decided by one call, which reads the gateway file once.
 enum { MANY = 256, BUFFER = 1 << 20, SNAPSHOT = 262144, NUMBERS = 256 };
+// The number of a record for a datagram that should have left and was not seen to: the box gives no such number.
+enum { NOT_SEEN = 255 };
+
+// What a second capture shows of a datagram.
+enum sight { AS_DECIDED, OTHERWISE, THOUGH_REFUSED, MISSING, SIGHTS };
+static const char *const sight_words[SIGHTS] = {"seen as decided: left with that area, or not at all", "left with another area", "left though refused here", "not seen to leave, and passed here"};
 
 // A frame that waits for its decision: its octets stand in the job's store; `place` is its record's.
 struct held {
@@ -29,6 +36,7 @@ struct job {
     int link_type;
     pcap_dumper_t *dumper;
     FILE *written, *records_file;
+    struct left *left_capture;
     struct table table;
     // the frames that wait, and their octets
     struct held held[MANY];
@@ -41,7 +49,7 @@ struct job {
     uint8_t *made;
     size_t made_size;
     // what is counted
-    unsigned long frames, left, numbers[NUMBERS], undecided[FAULTS], unsent[FAULTS];
+    unsigned long frames, left, numbers[NUMBERS], undecided[FAULTS], unsent[FAULTS], sights[SIGHTS];
     // the progress line
     bool shown;
     long long octets;
@@ -158,6 +166,7 @@ static enum fault write_frame(struct job *job, const struct held *held, const st
 
 // A record of the inspector: a length of two octets, version 1, the ports, the facts, the arriving area, the decision, the leaving area.
 static void write_record(const struct job *job, const struct inglebreek_record *record, const struct inglebreek_slot *slot) {
+    if (!job->records_file) return;
     uint8_t octets[2 + 3 + 5 + 1 + 56 + 4 + 1 + 40], *at = octets + 2;
     unsigned count = slot->number ? 0 : slot->count;
     *at++ = 1;
@@ -178,6 +187,23 @@ static void write_record(const struct job *job, const struct inglebreek_record *
     fwrite(octets, 1, (size_t)(at - octets), job->records_file);
 }
 
+// Holds what was seen to leave against what is decided, and writes the record of it.
+static void inspect(struct job *job, const struct held *held, const struct row *row) {
+    const struct seen *seen = take_left(job->left_capture, job->store + held->at + held->link.octets, &held->datagram);
+    struct inglebreek_slot claim = *row->slot;
+    bool passed = row->slot->number == INGLEBREEK_PASSED;
+    if (seen) {
+        claim = (struct inglebreek_slot){.count = seen->count};
+        memcpy(claim.area, seen->area, seen->count);
+        bool same = seen->count == row->slot->count && !memcmp(seen->area, row->slot->area, seen->count);
+        job->sights[!passed ? THOUGH_REFUSED : same ? AS_DECIDED : OTHERWISE]++;
+    } else if (passed) {
+        claim.number = NOT_SEEN;
+        job->sights[MISSING]++;
+    } else job->sights[AS_DECIDED]++;
+    write_record(job, row->record, &claim);
+}
+
 // What follows from the decision of one frame.
 static void conclude(struct job *job, const struct held *held, unsigned long frame) {
     struct row row = {.frame = frame, .undecided = held->undecided, .record = &job->records[held->place], .slot = &job->slots[held->place]};
@@ -187,7 +213,9 @@ static void conclude(struct job *job, const struct held *held, unsigned long fra
         if (row.slot->number == INGLEBREEK_PASSED) row.unsent = write_frame(job, held, row.slot);
         if (row.unsent) job->unsent[row.unsent]++;
         else if (row.slot->number == INGLEBREEK_PASSED) job->left++;
-        if (job->records_file) write_record(job, row.record, row.slot);
+        // what runs out of time or grows too long does not leave, whatever is decided
+        if (!job->left_capture) write_record(job, row.record, row.slot);
+        else if (!row.unsent) inspect(job, held, &row);
     }
     if (job->table.file) put_row(&job->table, &row);
 }
@@ -221,7 +249,7 @@ static void take_frame(struct job *job, const struct pcap_pkthdr *head, const ui
     job->frames++;
     *held = (struct held){.head = *head, .at = job->store_octets, .place = job->places};
     held->undecided = read_link(job->link_type, octets, captured, &held->link);
-    if (!held->undecided && held->link.carries != 0x0800) held->undecided = OTHER_TYPE;
+    if (!held->undecided && held->link.carries != IPV4) held->undecided = OTHER_TYPE;
     if (!held->undecided) {
         unsigned link = held->link.octets;
         held->undecided = read_datagram(octets + link, captured - link, sent - link, held->link.group, job->options.networks, job->options.networks_count, &held->datagram, record);
@@ -248,6 +276,7 @@ static void tell_counts(const struct job *job) {
         if (job->undecided[i]) fprintf(stderr, "%10lu    - %s\n", job->undecided[i], fault_words[i]);
     for (unsigned i = 0; i < FAULTS; i++)
         if (job->unsent[i]) fprintf(stderr, "%10lu    - passed, not sent: %s\n", job->unsent[i], fault_words[i]);
+    for (unsigned i = 0; i < SIGHTS && job->left_capture; i++) fprintf(stderr, "%10lu  %s\n", job->sights[i], sight_words[i]);
 }
 
 int main(int count, char **words) {
@@ -258,6 +287,7 @@ int main(int count, char **words) {
     job.options = read_options(count, words);
     load_gateway(&job);
     open_capture(&job);
+    if (job.options.left) job.left_capture = read_left(job.options.left);
     open_outputs(&job);
     clock_gettime(CLOCK_MONOTONIC, &job.began);
     job.told = job.began;

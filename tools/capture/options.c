@@ -21,7 +21,9 @@ static const char usage[] =
     "  --table FILE      where the table goes (standard output)\n"
     "  --no-table        no table\n"
     "  --write FILE      what leaves, as a capture of the same kind of link: time to live one less, lengths and checksum right\n"
-    "  --records FILE    the decisions as records for the inspector\n"
+    "  --records FILE    records for the inspector: of each datagram what the box decides of it, or with --left what was seen\n"
+    "  --left CAPTURE    what left a real box at its far side: it is held against what is decided here, and counted. A datagram that\n"
+    "                    is not seen there is taken as refused as decided; where it is passed here, its record has number 255\n"
     "  --network A/BITS  a network at the ports, for its broadcast address; up to 16 times\n"
     "  --mtu OCTETS      the longest datagram that leaves, 68 to 65535 (65535)\n"
     "  --quiet           no counts at the end, and no progress line on a terminal\n"
@@ -109,12 +111,13 @@ static void take_value(struct options *options, const char *name, const char *va
     else if (!strcmp(name, "--table")) options->table = value;
     else if (!strcmp(name, "--write")) options->written = value;
     else if (!strcmp(name, "--records")) options->records = value;
+    else if (!strcmp(name, "--left")) options->left = value;
     else if (options->networks_count == MOST_NETWORKS) refuse("--network is given more than %d times", MOST_NETWORKS);
     else options->networks[options->networks_count++] = network_of(value);
 }
 
 static bool takes_value(const char *name) {
-    static const char *const names[] = {"--from", "--to", "--mtu", "--format", "--table", "--write", "--records", "--network"};
+    static const char *const names[] = {"--from", "--to", "--mtu", "--format", "--table", "--write", "--records", "--left", "--network"};
     for (size_t i = 0; i < sizeof names / sizeof *names; i++)
         if (!strcmp(name, names[i])) return true;
     return false;
@@ -132,6 +135,7 @@ static bool is_dash(const char *name) { return name && !strcmp(name, "-"); }
 static void check(const struct options *options) {
     if (!options->gateway || !options->capture) refuse("a gateway file and a capture are needed");
     if (is_dash(options->gateway)) refuse("the gateway file is a file and not standard input");
+    if (is_dash(options->left)) refuse("--left takes a file and not standard input");
     if (options->no_table && options->table) refuse("--table and --no-table are not given together");
     bool table = !options->no_table && (!options->table || is_dash(options->table));
     if (table + is_dash(options->written) + is_dash(options->records) > 1) refuse("only one thing goes to standard output: --table FILE or --no-table takes the table from there");

@@ -8,7 +8,7 @@ enum { MOST_NETWORKS = 16 };
 
 // Names of files as they were given; NULL where none was. The table goes to standard output unless it is told where, or that there shall be none.
 struct options {
-    const char *gateway, *capture, *written, *table, *records;
+    const char *gateway, *capture, *written, *table, *records, *left;
     unsigned from, to, longest, networks_count;
     struct network networks[MOST_NETWORKS];
     enum format format;
