@@ -78,3 +78,7 @@ pub use message_build::build_message;
 pub use memory::Memory;
 pub use memory::Recall;
 pub use memory_message::note_message;
+
+// Recorded traffic (document 02, Wish 14): the lines of all whole records that are held.
+pub use inspect_line::Inspected;
+pub use inspect_line::inspect_held;
