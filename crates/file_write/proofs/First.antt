@@ -1,24 +1,21 @@
 -- How long a file of version 1 is at most: 26,837 octets.
 use mathlib.Core.Bool.{Bool, true, false, cond, _&&_}
 use mathlib.Core.List.{List, [], _∷_, _++_, map}
-use mathlib.Core.Path.{_≡_, refl, sym, ap, _∙_}
+use mathlib.Core.Path.{_≡_, refl}
 use Prim.Native.Nat.{ℕ, zero, suc, _+_, _*_, _≤_}
 use native.Mathlib.Omega.{arith}
 use lib.Dec.{leb}
-use lib.ListN.{length, take, length-append, length-take, length-map}
+use lib.ListN.{length, take, length-append, length-take}
 use borrow.Author.Tests.{leb-true}
 use Rattle.label.proofs.Bools.{and-left, and-right}
 use Rattle.label.specs.declared.Label.{Label}
 use Rattle.port.specs.declared.Port.{Port}
 use Rattle.port.specs.Port.{portSound}
-use Rattle.table_levels.specs.declared.LevelPair.{LevelPair}
-use Rattle.table.specs.declared.Row.{Row}
 use Rattle.table.specs.Table.{rowsFrom}
-use Rattle.table.specs.declared.Renumbering.{Renumbering}
 use Rattle.table.specs.Renumbering.{levelsOf, LentTable, lentOf, lentSound}
 use Rattle.table.proofs.Sound.{sound}
 use Rattle.table_choose.specs.Tables.{tablesFrom, allTablesSound}
-use Rattle.file_format.specs.Format.{digits, bit, inTurn, octets, alike, same}
+use Rattle.file_format.specs.Format.{digits, inTurn, octets, alike, same}
 use Rattle.file_format.specs.Laws.{flat}
 use Rattle.file_format.specs.Places.{placesFit}
 use Rattle.file_format.proofs.Writing.{flat-turn, flat-length}

@@ -1,8 +1,8 @@
 -- The octets of a sound set, as its writer goes through them, and how many there are.
-use mathlib.Core.Bool.{Bool, true, cond}
+use mathlib.Core.Bool.{cond}
 use mathlib.Core.List.{List, [], _∷_, _++_, map, append-assoc, append-nil}
 use mathlib.Core.Path.{_≡_, refl, sym, ap, subst, _∙_}
-use Prim.Native.Nat.{ℕ, zero, suc, _+_, _-_, _*_, _≤_, _<_}
+use Prim.Native.Nat.{ℕ, suc, _+_, _-_, _≤_, _<_}
 use native.Mathlib.Omega.{arith}
 use native.Mathlib.Numerals.{add-one}
 use lib.Dec.{leb}
@@ -20,7 +20,7 @@ use Rattle.file_format.specs.Format.{digits, inTurn, octets, alike, same, Wrote
 use Rattle.file_format.specs.Laws.{flat}
 use Rattle.file_format.proofs.Writing.{flat-turn, writes-then, writes-none}
 use Rattle.file_port.specs.PortFormat.{portFormat}
-use Rattle.file_table.specs.TableFormat.{TableFields, tableFormat, fieldsOf}
+use Rattle.file_table.specs.TableFormat.{tableFormat, fieldsOf}
 use Rattle.file_set.specs.declared.Set.{Set}
 use Rattle.file_read.specs.SetFormat.{portsFormat, tablesFormat, setFormat, recordsOf}
 use Rattle.file_read.specs.File.{fileFormat, totalOf, fileOctets}

@@ -1,10 +1,9 @@
 -- The theorems of `specs/Theorems.antt`.
 use mathlib.Core.Bool.{Bool, true, false, cond, _&&_}
-use mathlib.Core.List.{List, [], _∷_, _++_}
+use mathlib.Core.List.{List, [], _∷_}
 use mathlib.Core.Path.{_≡_, refl, sym, ap, subst, _∙_}
 use Prim.Native.Nat.{ℕ, zero, suc, _+_, _≤_, _<_}
 use native.Mathlib.Omega.{arith}
-use native.Mathlib.Nat.{zero-add}
 use lib.Dec.{leb}
 use lib.ListN.{length, take, drop, getD}
 use lib.Seq.{take-at, drop-at}
@@ -27,10 +26,9 @@ use Rattle.file_read.specs.File.{fileFormat, fileReading, fileRoom, portsSayabl
 use Rattle.file_read.specs.Theorems as theorems
 use Rattle.file_read.proofs.Sets.{parts}
 use Rattle.file_read.proofs.Theorems.{accepted-only, given-back}
-use Rattle.file_write.specs.declared.Written.{Written}
 use Rattle.file_write.specs.declared.Written.the-variants.{Done, Short, Unsound, Long}
 use Rattle.file_write.specs.Written.{writtenOf, numberOf, fileOutput}
-use Rattle.file_write.specs.Theorems.{Tells, WrittenBack, OneFile, OneFileIn, OneFileEach, allPlain, allSmall, Sayable, Answers}
+use Rattle.file_write.specs.Theorems.{Tells, WrittenBack, OnlyFile, OneFileIn, OneFileEach, allPlain, allSmall, Sayable, Answers}
 use Rattle.file_write.proofs.First.{small-first}
 use Rattle.file_write.proofs.Sizes.{file-length}
 

@@ -7,10 +7,8 @@ use lib.ListN.{take, drop, set, replicate}
 use Rattle.label.specs.Runs.{run}
 use Rattle.label.specs.Label.{labelOf, zeroLabel}
 use Rattle.option.specs.Permitted.{usual}
-use Rattle.port.specs.declared.Port.{Port}
 use Rattle.port.specs.Port.{plainPort}
 use Rattle.table_levels.specs.Levels.{pair, noPair}
-use Rattle.table.specs.declared.Renumbering.{Renumbering}
 use Rattle.table.specs.Renumbering.{noTable}
 use Rattle.file_port.specs.PortFormat.{noPort}
 use Rattle.file_set.specs.declared.Set.{Set}
