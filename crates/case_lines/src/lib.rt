@@ -9,6 +9,8 @@ ghost use Rattle.case_lines.specs.Line.{answerWord, brokenWord, runsWord
 use decision::Decision;
 use label::Label;
 use label::Run;
+use table_levels::Levels;
+use table_levels::MAX_PAIRS;
 use text::put_decimal;
 use text::put_hex;
 use text::put_next;
@@ -171,13 +173,13 @@ fn put_key(out: &mut [u8], n: usize, key: u32) -> usize
 }
 
 // The first `count` level pairs; all where there are fewer.
-pub fn put_pairs(out: &mut [u8], n: usize, levels: [[u8; 2]; 16], count: usize) -> usize
+pub fn put_pairs(out: &mut [u8], n: usize, levels: Levels, count: usize) -> usize
     ensures { λ r. ⌜ Puts (now (out .entry)) n (pairsWords (take count levels)) (now (out .exit)) r ⌝ }
 {
     let mut k = n;
     let mut i: usize = 0;
     while i < count {
-        if 16 <= i {
+        if MAX_PAIRS <= i {
             return k;
         }
         let pair = levels[i];

@@ -11,12 +11,19 @@ use crate::record::take_facts;
 use crate::record::take_wide_port;
 use crate::record::take_wide_table;
 use decision::Facts;
-use file_set::empty_port;
-use file_set::empty_table;
-use file_table::LevelPair;
-use file_table::Renumbering;
+use file_port::empty_port;
 use port::Port;
+use table::MAX_ROWS;
+use table::Renumbering;
+use table::empty_table;
+use table_choose::MAX_TABLES;
 use table_choose::Tables;
+use table_levels::LevelPair;
+use table_levels::Levels;
+use table_levels::MAX_PAIRS;
+
+// How many numbers the rows of all tables of a case have at most, and one that may be left over.
+pub const NUMBERS: usize = MAX_TABLES * MAX_ROWS * 3 + 1;
 
 // The ports of a case: the first `count` are used.
 pub struct TakenPorts {
@@ -25,8 +32,11 @@ pub struct TakenPorts {
     pub next: usize,
 }
 
+// The tables of a case, how many rows they lend together, and whether each lends as many as it counts.
 pub struct TakenTables {
     pub tables: Tables,
+    pub rows: usize,
+    pub fits: bool,
     pub next: usize,
 }
 
@@ -81,16 +91,20 @@ pub fn take_ports(case: &[u8], at: usize) -> TakenPorts
     }
 }
 
-// How many tables there are, at most 8, and the tables.
-pub fn take_tables(case: &[u8], at: usize) -> TakenTables {
-    let stored = take_stored(case, at, 8);
+// How many tables there are, at most 8, and the tables; the rows of all go into one list.
+pub fn take_tables(case: &[u8], at: usize, rows: &mut [u16]) -> TakenTables {
+    let stored = take_stored(case, at, MAX_TABLES);
     let n = stored.value as usize;
-    let mut items = [empty_table(); 8];
+    let mut items = [empty_table(); MAX_TABLES];
+    let mut fits = true;
+    let mut place: usize = 0;
     let mut next = stored.next;
     let mut i: usize = 0;
     while i < n {
-        let wide = take_wide_table(case, next);
+        let wide = take_wide_table(case, next, rows, place);
         let table = wide.table;
+        fits = fits & is_apart(place, wide.end, table.count);
+        place = wide.end;
         let pairs = pairs_of(levels_at(case, wide.levels, wide.stored));
         items[i] = Renumbering {
             table: table,
@@ -105,8 +119,35 @@ pub fn take_tables(case: &[u8], at: usize) -> TakenTables {
     };
     TakenTables {
         tables: tables,
+        rows: place,
+        fits: fits,
         next: next,
     }
+}
+
+// Whether one place is so far behind the other.
+fn is_apart(place: usize, end: usize, count: usize) -> bool {
+    if end < place {
+        return false;
+    }
+    end - place == count
+}
+
+// The rows that the tables lend. Where one lends more or fewer than it counts, a number is left over behind the last, for in one list for all the rows of the next
+// table would stand for those that it lacks.
+pub fn lent_rows(rows: &[u16], count: usize, fits: bool) -> &[u16] {
+    if rows.len() / 3 < count {
+        return &rows[0..0];
+    }
+    let end = count * 3;
+    if fits {
+        return &rows[0..end];
+    }
+    if end < rows.len() {
+        let past = end + 1;
+        return &rows[0..past];
+    }
+    rows
 }
 
 fn take_route(case: &[u8], at: usize) -> TakenRoute {
@@ -171,10 +212,10 @@ pub fn take_datagram(case: &[u8], at: usize) -> TakenDatagram
 }
 
 // Level pairs as a file's set holds them.
-fn pairs_of(levels: [[u8; 2]; 16]) -> [LevelPair; 16] {
-    let mut pairs = [LevelPair { levels: [0u8; 2] }; 16];
+fn pairs_of(levels: Levels) -> [LevelPair; MAX_PAIRS] {
+    let mut pairs = [LevelPair { levels: [0u8; 2] }; MAX_PAIRS];
     let mut i: usize = 0;
-    while i < 16 {
+    while i < MAX_PAIRS {
         let pair = levels[i];
         pairs[i] = LevelPair { levels: pair };
         i += 1;

@@ -2,10 +2,12 @@
 use crate::field::octets_of;
 use crate::field::take_octets;
 use crate::field::take_output;
+use crate::record::TABLE_NUMBERS;
 use crate::record::TakenFacts;
 use crate::record::TakenHost;
 use crate::record::TakenPort;
 use crate::record::TakenTable;
+use crate::record::first_rows;
 use crate::record::levels_at;
 use crate::record::take_facts;
 use crate::record::take_host;
@@ -23,20 +25,22 @@ use forward::forward;
 
 // Entries 6 and 8: `all` tells whether five facts are stated or a mark.
 pub fn ask_forward(case: &[u8], at: usize, all: bool, out: &mut [u8], n: usize) -> usize {
+    let mut rows = [0u16; TABLE_NUMBERS];
     let a = take_port(case, at);
     let b = take_port(case, a.next);
-    let t = take_table(case, b.next);
+    let t = take_table(case, b.next, &mut rows);
     let stated = take_stated(case, t.next, all);
-    put_forward(case, a, b, t, stated, out, n)
+    put_forward(case, a, b, t, &rows, stated, out, n)
 }
 
 // Entry 15: ports with their later fields.
 pub fn ask_wide_forward(case: &[u8], at: usize, out: &mut [u8], n: usize) -> usize {
+    let mut rows = [0u16; TABLE_NUMBERS];
     let a = take_wide_port(case, at);
     let b = take_wide_port(case, a.next);
-    let t = take_wide_table(case, b.next);
+    let t = take_wide_table(case, b.next, &mut rows, 0);
     let stated = take_facts(case, t.next);
-    put_forward(case, a, b, t, stated, out, n)
+    put_forward(case, a, b, t, &rows, stated, out, n)
 }
 
 // The area and the output, and what forward decides.
@@ -45,6 +49,7 @@ fn put_forward(
     a: TakenPort,
     b: TakenPort,
     t: TakenTable,
+    rows: &[u16],
     stated: TakenFacts,
     out: &mut [u8],
     n: usize,
@@ -65,6 +70,7 @@ fn put_forward(
         arriving,
         leaving,
         table,
+        first_rows(rows, t.end),
         levels,
         stated.facts,
         octets,

@@ -9,6 +9,7 @@ use crate::file_entries::ask_read_write;
 use crate::file_entries::ask_write;
 use crate::label_entries::ask_contains;
 use crate::label_entries::ask_renumber;
+use crate::label_entries::ask_wide_renumber;
 use crate::label_entries::ask_within;
 use crate::memory_entries::ask_memory;
 use crate::message_entries::ask_build;
@@ -47,6 +48,7 @@ pub fn answer(case: &[u8], out: &mut [u8], n: usize) -> usize {
         16 => ask_wide_deliver(case, at, out, n),
         17 => ask_spell_permitted(case, at, out, n),
         18 => ask_decide(case, at, out, n),
+        19 => ask_wide_renumber(case, at, out, n),
         20 => ask_build(case, at, out, n),
         21 => ask_message(case, at, out, n),
         22 => ask_reverse(case, at, out, n),

@@ -12,11 +12,14 @@ use basic::Way;
 use decision::Facts;
 use label::Label;
 use label::Run;
+use lists::lesser;
 use option::Spellings;
 use port::Host;
 use port::Port;
-use table::Row;
+use table::MAX_ROWS;
 use table::Table;
+use table_levels::Levels;
+use table_levels::MAX_PAIRS;
 
 // The groups of a port's later fields: option 130, permitted spellings, the default label of unlabelled hosts.
 const BASIC_GROUP: u8 = 1;
@@ -26,6 +29,14 @@ const SPELLINGS_GROUP: u8 = 2;
 const DEFAULT_GROUP: u8 = 4;
 
 const ALL_GROUPS: usize = 7;
+
+// The most level pairs and rows that are stored of a table of the entries 3, 6 and 8.
+const OLD_PAIRS: usize = 16;
+
+const OLD_ROWS: usize = 64;
+
+// How many numbers the rows of one table have at most.
+pub const TABLE_NUMBERS: usize = MAX_ROWS * 3;
 
 pub struct TakenLabel {
     pub label: Label,
@@ -68,12 +79,20 @@ pub struct TakenFacts {
     pub next: usize,
 }
 
-// The table without its level pairs, which begin at an octet of the case, and how many of these are stored.
+// The table without its level pairs, which begin at an octet of the case, and how many of these are stored; and the place of the row behind its last, in
+// the list that they were put into.
 pub struct TakenTable {
     pub table: Table,
     pub levels: usize,
     pub stored: usize,
+    pub end: usize,
     pub next: usize,
+}
+
+// The place of the row behind the last that was put into a list, and the place of the case after it.
+struct TakenRows {
+    end: usize,
+    next: usize,
 }
 
 // Domain, level, count, and the runs that are stored.
@@ -146,6 +165,7 @@ pub fn take_wide_port(case: &[u8], at: usize) -> TakenPort {
         spellings: permitted,
         unlabelled: default.unlabelled,
         default: given,
+        strict: false,
     };
     TakenPort {
         port: port,
@@ -313,117 +333,136 @@ pub fn take_host(case: &[u8], at: usize) -> TakenHost {
     }
 }
 
-// From and to domain, the level pairs, and the rows.
-pub fn take_table(case: &[u8], at: usize) -> TakenTable {
+// From and to domain, the level pairs, and the rows, which go into a list of zeros. They are lent as counted, and those past the count that are not zero
+// are lent too.
+pub fn take_table(case: &[u8], at: usize, rows: &mut [u16]) -> TakenTable {
     let from = take_word(case, at);
     let to = take_word(case, from.next);
     let pairs = take_octet(case, to.next);
-    let stored = take_stored(case, pairs.next, 16);
-    let n = stored.value as usize;
-    let levels = take_part(case, stored.next, n * 2);
-    let t = take_rows(case, levels.next);
-    let mut table = t.table;
-    table.from = from.value;
-    table.to = to.value;
-    table.pairs = pairs.value as usize;
-    TakenTable {
-        table: table,
-        levels: levels.from,
-        stored: n,
-        next: t.next,
-    }
-}
-
-// A wide table: the same, with two octets for each count and for each number of what is stored.
-pub fn take_wide_table(case: &[u8], at: usize) -> TakenTable {
-    let from = take_word(case, at);
-    let to = take_word(case, from.next);
-    let pairs = take_short(case, to.next);
-    let stored = take_limited(case, pairs.next, 16);
+    let stored = take_stored(case, pairs.next, OLD_PAIRS);
     let n = stored.value as usize;
     let levels = take_part(case, stored.next, n * 2);
     let count = take_short(case, levels.next);
-    let lent = take_limited(case, count.next, 64);
-    let t = rows_at(case, lent.next, count.value as usize, lent.value as usize);
-    let mut table = t.table;
-    table.from = from.value;
-    table.to = to.value;
-    table.pairs = pairs.value as usize;
+    let held = take_stored(case, count.next, OLD_ROWS);
+    let taken = take_rows(case, held.next, held.value as usize, rows, 0);
+    let counted = lesser(count.value as usize, MAX_ROWS);
     TakenTable {
-        table: table,
+        table: Table {
+            from: from.value,
+            to: to.value,
+            pairs: pairs.value as usize,
+            count: count.value as usize,
+        },
         levels: levels.from,
         stored: n,
-        next: t.next,
+        end: greater(rows_needed(rows), counted),
+        next: taken.next,
     }
 }
 
-// Row count, and the rows that are stored; the other fields are 0.
-fn take_rows(case: &[u8], at: usize) -> TakenTable {
-    let count = take_short(case, at);
-    let stored = take_stored(case, count.next, 64);
-    rows_at(
-        case,
-        stored.next,
-        count.value as usize,
-        stored.value as usize,
-    )
+// A wide table: two octets for each count and for each number of what is stored, and the rows that are lent go into a list from the place of a row on.
+pub fn take_wide_table(case: &[u8], at: usize, rows: &mut [u16], place: usize) -> TakenTable {
+    let from = take_word(case, at);
+    let to = take_word(case, from.next);
+    let pairs = take_short(case, to.next);
+    let stored = take_limited(case, pairs.next, MAX_PAIRS);
+    let n = stored.value as usize;
+    let levels = take_part(case, stored.next, n * 2);
+    let count = take_short(case, levels.next);
+    let lent = take_limited(case, count.next, MAX_ROWS);
+    let taken = take_rows(case, lent.next, lent.value as usize, rows, place);
+    TakenTable {
+        table: Table {
+            from: from.value,
+            to: to.value,
+            pairs: pairs.value as usize,
+            count: count.value as usize,
+        },
+        levels: levels.from,
+        stored: n,
+        end: taken.end,
+        next: taken.next,
+    }
 }
 
-// The first `stored` rows from a place of the case on, in a table of `count` rows.
-fn rows_at(case: &[u8], at: usize, count: usize, stored: usize) -> TakenTable {
-    let mut table = empty_table(count);
+// The next `n` rows go into a list, three numbers each, from the place of a row on; those for which it has no room are left out.
+fn take_rows(case: &[u8], at: usize, n: usize, rows: &mut [u16], place: usize) -> TakenRows {
     let mut next = at;
-    let mut i: usize = 0;
-    while i < stored {
-        if 64 <= i {
-            return TakenTable {
-                table: table,
-                levels: 0,
-                stored: 0,
-                next: next,
-            };
-        }
+    let mut end = place;
+    let mut left = n;
+    while left > 0 {
         let low = take_short(case, next);
         let high = take_short(case, low.next);
         let target = take_short(case, high.next);
-        table.rows[i] = Row {
-            low: low.value,
-            high: high.value,
-            target: target.value,
-        };
+        end = put_row(rows, end, low.value, high.value, target.value);
         next = target.next;
-        i += 1;
+        left -= 1;
     }
-    TakenTable {
-        table: table,
-        levels: 0,
-        stored: 0,
+    TakenRows {
+        end: end,
         next: next,
     }
 }
 
-fn empty_table(count: usize) -> Table {
-    let none = Row {
-        low: 0,
-        high: 0,
-        target: 0,
-    };
-    Table {
-        from: 0,
-        to: 0,
-        pairs: 0,
-        count: count,
-        rows: [none; 64],
+fn greater(a: usize, b: usize) -> usize {
+    if a < b {
+        return b;
+    }
+    a
+}
+
+// A row into a list at its place, and the place behind it.
+fn put_row(rows: &mut [u16], i: usize, low: u16, high: u16, target: u16) -> usize {
+    if i < rows.len() / 3 {
+        put_number(rows, i * 3, low);
+        put_number(rows, i * 3 + 1, high);
+        put_number(rows, i * 3 + 2, target);
+        return i + 1;
+    }
+    i
+}
+
+fn put_number(rows: &mut [u16], at: usize, number: u16) {
+    if at < rows.len() {
+        rows[at] = number;
     }
 }
 
+// How many rows a list has up to the last that is not zero.
+fn rows_needed(rows: &[u16]) -> usize {
+    let mut needed: usize = 0;
+    let mut i: usize = 0;
+    while i < rows.len() {
+        needed = with_number(needed, i, rows[i]);
+        i += 1;
+    }
+    needed
+}
+
+// With one number more.
+fn with_number(needed: usize, i: usize, number: u16) -> usize {
+    if number == 0 {
+        return needed;
+    }
+    i / 3 + 1
+}
+
+// The first rows of a list; none where it has fewer.
+pub fn first_rows(rows: &[u16], count: usize) -> &[u16] {
+    if rows.len() / 3 < count {
+        return &rows[0..0];
+    }
+    let end = count * 3;
+    &rows[0..end]
+}
+
 // The level pairs of a table: the first `stored` from a place of the case on.
-pub fn levels_at(case: &[u8], from: usize, stored: usize) -> [[u8; 2]; 16] {
-    let mut levels = [[0u8; 2]; 16];
+pub fn levels_at(case: &[u8], from: usize, stored: usize) -> Levels {
+    let mut levels = [[0u8; 2]; MAX_PAIRS];
     let mut at = from;
     let mut i: usize = 0;
     while i < stored {
-        if 16 <= i {
+        if MAX_PAIRS <= i {
             return levels;
         }
         let a = take_octet(case, at);

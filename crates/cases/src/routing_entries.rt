@@ -4,10 +4,12 @@ ghost use Prim.Native.Nat.{_≤_};
 ghost use lib.ListN.{length, take};
 ghost use Rattle.route_decide.specs.Routing.{routingOf, routedOutput};
 ghost use Rattle.route_decide.specs.Stages.{routingFor};
+use crate::box_record::NUMBERS;
 use crate::box_record::TakenDatagram;
 use crate::box_record::TakenPorts;
 use crate::box_record::TakenRoutes;
 use crate::box_record::TakenTables;
+use crate::box_record::lent_rows;
 use crate::box_record::take_datagram;
 use crate::box_record::take_ports;
 use crate::box_record::take_routes;
@@ -28,6 +30,7 @@ fn decide_first(
     ports: [Port; 64],
     n: usize,
     tables: Tables,
+    rows: &[u16],
     routes: &[u32],
     arriving: usize,
     destination: u32,
@@ -36,11 +39,12 @@ fn decide_first(
     out: &mut [u8],
 ) -> Decision
     requires { ⌜ n ≤ 64 ⌝ }
-    ensures { λ r. ⌜ (r ≡ routingOf (routingFor (take n ports) tables (now (routes .entry)) arriving destination facts (now (area .entry)) (length (now (out .entry))))) × (now (out .exit) ≡ routedOutput (routingFor (take n ports) tables (now (routes .entry)) arriving destination facts (now (area .entry)) (length (now (out .entry)))) (now (out .entry))) ⌝ }
+    ensures { λ r. ⌜ (r ≡ routingOf (routingFor (take n ports) tables (now (rows .entry)) (now (routes .entry)) arriving destination facts (now (area .entry)) (length (now (out .entry))))) × (now (out .exit) ≡ routedOutput (routingFor (take n ports) tables (now (rows .entry)) (now (routes .entry)) arriving destination facts (now (area .entry)) (length (now (out .entry)))) (now (out .entry))) ⌝ }
 {
     decide(
         &ports[..n],
         tables,
+        rows,
         routes,
         arriving,
         destination,
@@ -52,14 +56,16 @@ fn decide_first(
 
 // Entry 18.
 pub fn ask_decide(case: &[u8], at: usize, out: &mut [u8], n: usize) -> usize {
+    let mut rows = [0u16; NUMBERS];
     let ports = take_ports(case, at);
-    let tables = take_tables(case, ports.next);
+    let tables = take_tables(case, ports.next, &mut rows);
     let routes = take_routes(case, tables.next);
     let datagram = take_datagram(case, routes.next);
     if datagram.next != case.len() {
         return put_broken(out, n);
     }
-    put_routed(case, ports, tables, routes, datagram, out, n)
+    let lent = lent_rows(&rows, tables.rows, tables.fits);
+    put_routed(case, ports, tables, lent, routes, datagram, out, n)
 }
 
 // What the box decides, and the output.
@@ -67,6 +73,7 @@ fn put_routed(
     case: &[u8],
     p: TakenPorts,
     t: TakenTables,
+    rows: &[u16],
     r: TakenRoutes,
     d: TakenDatagram,
     out: &mut [u8],
@@ -77,7 +84,7 @@ fn put_routed(
     let area = octets_of(case, d.from, d.end);
     let room = d.room;
     let mut space = [d.fill; LONGEST];
-    let decision = decide_taken(p, t, r, d, area, &mut space[0..room]);
+    let decision = decide_taken(p, t, rows, r, d, area, &mut space[0..room]);
     put_decided(out, n, decision, &space, room)
 }
 
@@ -85,6 +92,7 @@ fn put_routed(
 fn decide_taken(
     p: TakenPorts,
     t: TakenTables,
+    rows: &[u16],
     r: TakenRoutes,
     d: TakenDatagram,
     area: &[u8],
@@ -100,6 +108,7 @@ fn decide_taken(
         ports,
         p.count,
         tables,
+        rows,
         &numbers[0..used],
         d.arriving,
         d.destination,

@@ -15,7 +15,7 @@ use Rattle.label.specs.Label.{noRun, used, labelOf}
 use Rattle.label.proofs.Labels.{with-run-of}
 use Rattle.basic.specs.declared.Way.{Way}
 use Rattle.basic.specs.Levels.{isLevel, rankOf, atMost}
-use Rattle.file_format.specs.Format.{digits, bit, sumOf, octets, many, same, Reads}
+use Rattle.file_format.specs.Format.{flag, digits, bit, sumOf, octets, many, same, Reads}
 use Rattle.file_format.specs.Places.{padded}
 use Rattle.file_format.proofs.Told.{then-told, fields-told, zeroed}
 use Rattle.file_format.proofs.Numbers.{digits-length}
@@ -23,7 +23,7 @@ use Rattle.file_format.proofs.Places.{used-is, padded-more, padded-used}
 use Rattle.file_format.specs.Laws.{flat}
 use Rattle.file_format.proofs.Writing.{flat-turn, flat-length}
 use Rattle.port.specs.declared.Port.{Port}
-use Rattle.file_port.specs.PortFormat.{givenFormat, wayOf, wayFormat, spellingMarks, spellingsFormat, Plain, Later, plainFormat, laterFormat, plainOf, laterOf, plainMade, portMade, firstPort, secondPort, portFormat, noPort}
+use Rattle.file_port.specs.PortFormat.{givenFormat, wayOf, wayFormat, spellingMarks, spellingsFormat, Plain, Later, plainFormat, laterFormat, plainOf, laterOf, plainMade, portMade, firstPort, secondPort, thirdPort, portFormat, noPort}
 use Rattle.file_port.specs.LabelFormat.{runFormat, nextFloor, labelFormat}
 
 -- one run more is stored in the first unused place, and counted
@@ -109,8 +109,10 @@ pub later-octets : (p : Port)
 unfolding octets laterFormat givenFormat spellingsFormat
 later-octets p = refl
 
-pub port-octets : (p : Port) → octets (portFormat 2) p ≡ octets plainFormat (plainOf p) ++ octets (laterFormat (p .domain) (p .lowest) (p .highest)) (laterOf p)
-unfolding octets portFormat secondPort
+pub port-octets : (p : Port)
+    → octets (portFormat 3) p
+    ≡ octets plainFormat (plainOf p) ++ (octets (laterFormat (p .domain) (p .lowest) (p .highest)) (laterOf p) ++ digits 1 (bit (p .strict)))
+unfolding octets portFormat thirdPort
 port-octets p = refl
 
 -- how many octets a port has
@@ -118,11 +120,13 @@ module _ (p : Port) (a b c d r s : ℕ) where
   pub port-length : length (octets (labelFormat (p .domain)) (p .lowest)) ≡ a → length (octets (labelFormat (p .domain)) (p .highest)) ≡ b
       → length (octets (labelFormat (cond (p .required) 0 (p .domain))) (p .assigned)) ≡ c → length (octets (labelFormat (cond (not (p .unlabelled)) 0 (p .domain))) (p .default)) ≡ d
       → length (octets (wayFormat (p .basic .on)) (p .basic .receiving)) ≡ r → length (octets (wayFormat (p .basic .on)) (p .basic .sending)) ≡ s
-      → length (octets (portFormat 2) p) ≡ 5 + a + b + c + 3 + r + s + d
+      → length (octets (portFormat 3) p) ≡ 5 + a + b + c + 4 + r + s + d
   port-length ea eb ec ed er es =
       let x : length (octets plainFormat (plainOf p)) ≡ 5 + a + b + c = rw (plain-octets p) (simp length-append (omega (arith, ea, eb, ec))) in
       let y : length (octets (laterFormat (p .domain) (p .lowest) (p .highest)) (laterOf p)) ≡ 3 + r + s + d = rw (later-octets p) (simp length-append (omega (arith, er, es, ed))) in
-      rw (port-octets p) (omega (arith, length-append (octets plainFormat (plainOf p)) (octets (laterFormat (p .domain) (p .lowest) (p .highest)) (laterOf p)), x, y))
+      let l : List ℕ = octets (laterFormat (p .domain) (p .lowest) (p .highest)) (laterOf p) in
+      let z : length (octets (laterFormat (p .domain) (p .lowest) (p .highest)) (laterOf p) ++ digits 1 (bit (p .strict))) ≡ 4 + r + s + d = length-append l (digits 1 (bit (p .strict))) ∙ omega arith in
+      rw (port-octets p) (length-append (octets plainFormat (plainOf p)) (l ++ digits 1 (bit (p .strict))) ∙ omega arith)
 
 -- a way that is built in place
 pub way-more : (w : Way) (l h : ℕ) (done : List ℕ) (x i : ℕ) → w ≡ wayOf l h done → length done ≡ i → i < 256
@@ -152,12 +156,21 @@ level-alone false v = refl
 module _ {s : List ℕ} {ok k k₁ : Bool} {at m n : ℕ} {q : Port} (p : Port) (version : ℕ) (r : Reads plainFormat s ok at k (plainOf p) m) where
   pub port-first : version < 2 → p ≡ plainMade (plainOf p) → k₁ ≡ k → n ≡ m → q ≡ cond k p noPort → Reads (portFormat version) s ok at k₁ q n × (q ≡ cond k₁ q noPort)
   unfolding portFormat firstPort
-  port-first h e ek en eq = rw (lt-leb 2 version h, ek, en) (zeroed noPort (fields-told r (sym e)) eq)
+  port-first h e ek en eq = rw (lt-leb 3 version (omega arith), lt-leb 2 version h, ek, en) (zeroed noPort (fields-told r (sym e)) eq)
 
 module _ {s : List ℕ} {ok k k₁ k₂ : Bool} {at m n n₁ : ℕ} {q z : Port} (p : Port) (version : ℕ) (r : Reads plainFormat s ok at k (plainOf p) m) where
-  pub port-second : 2 ≤ version → Reads (laterFormat (p .domain) (p .lowest) (p .highest)) s k m k₁ (laterOf q) n → plainOf q ≡ plainOf p
-      → k₂ ≡ k₁ → n₁ ≡ n → z ≡ cond k₁ q noPort → Reads (portFormat version) s ok at k₂ z n₁ × (z ≡ cond k₂ z noPort)
+  pub port-second : 2 ≤ version → version < 3 → Reads (laterFormat (p .domain) (p .lowest) (p .highest)) s k m k₁ (laterOf q) n → plainOf q ≡ plainOf p
+      → q .strict ≡ false → k₂ ≡ k₁ → n₁ ≡ n → z ≡ cond k₁ q noPort → Reads (portFormat version) s ok at k₂ z n₁ × (z ≡ cond k₂ z noPort)
   unfolding portFormat secondPort
-  port-second h l e ek en ez =
-      rw (le-leb 2 version h, ek, en)
-      (zeroed noPort (fields-told (then-told r l) (ap (λ (x : Plain). portMade x (laterOf q)) (sym e))) ez)
+  port-second h v l e u ek en ez =
+      rw (lt-leb 3 version v, le-leb 2 version h, ek, en)
+      (zeroed noPort (fields-told (then-told r l) (λ i. portMade (sym e i) (laterOf q) (sym u i))) ez)
+
+module _ {s : List ℕ} {ok k k₁ k₂ k₃ : Bool} {at m n n₁ n₂ : ℕ} {z : Port} (p q t : Port) (version : ℕ) (r : Reads plainFormat s ok at k (plainOf p) m) where
+  pub port-third : 3 ≤ version → Reads (laterFormat (p .domain) (p .lowest) (p .highest)) s k m k₁ (laterOf q) n → plainOf q ≡ plainOf p
+      → Reads flag s k₁ n k₂ (t .strict) n₁ → plainOf t ≡ plainOf q → laterOf t ≡ laterOf q → k₃ ≡ k₂ → n₂ ≡ n₁ → z ≡ cond k₂ t noPort
+      → Reads (portFormat version) s ok at k₃ z n₂ × (z ≡ cond k₃ z noPort)
+  unfolding portFormat thirdPort
+  port-third h l e f et ft ek en ez =
+      rw (le-leb 3 version h, ek, en)
+      (zeroed noPort (fields-told (then-told r (then-told l f)) (λ i. portMade (sym (et ∙ e) i) (sym ft i) (t .strict))) ez)

@@ -28,7 +28,7 @@ use Rattle.file_format.specs.Format.{Sound, Each, alike, same, number, two}
 use Rattle.file_format.specs.Places.{padded}
 use Rattle.file_format.proofs.Places.{padded-again, padded-used, padded-length}
 use Rattle.file_port.specs.LabelFormat.{runFormat, nextFloor, unless0, labelFormat}
-use Rattle.file_port.specs.PortFormat.{givenFormat, wayOf, wayFormat, spellingsFormat, plainFormat, laterFormat, plainOf, laterOf, plainMade, portMade, firstPort, secondPort, portFormat}
+use Rattle.file_port.specs.PortFormat.{givenFormat, wayOf, wayFormat, spellingsFormat, plainFormat, laterFormat, plainOf, laterOf, plainMade, portMade, firstPort, secondPort, thirdPort, portFormat}
 use Rattle.file_port.specs.Theorems.{LabelsSaid, small, typedWay, typedPort, portSayable, PortsSaid}
 
 -- Runs.
@@ -423,6 +423,10 @@ or-right : (a b : Bool) → b ≡ true → (a || b) ≡ true
 or-right true b e = refl
 or-right false b e = e
 
+either-sayable : (a b x y : Bool) → x ≡ true → y ≡ true → (a || cond b x y) ≡ true
+either-sayable a true x y e f = or-right a x e
+either-sayable a false x y e f = or-right a y f
+
 first-said : (version : ℕ) (p : Port) → Sound firstPort p → Told version p
 unfolding Sound firstPort portSayable
 first-said version p h =
@@ -431,7 +435,9 @@ first-said version p h =
       sound =
           port-both p (h .0) (later (λ q. basicSound (q .basic) ≡ true) plain-basic p h) (later (λ q. someOf (q .spellings) ≡ true) (λ d lo hi r a. refl) p h)
           (later (λ q. defaultSound q ≡ true) plain-default p h);
-      sayable = or-right (leb 2 version) (isPlain p) (later (λ q. isPlain q ≡ true) plain-plain p h);
+      sayable =
+          either-sayable (leb 3 version) (leb 2 version) (not (p .strict)) (isPlain p) (later (λ q. not (q .strict) ≡ true) (λ d lo hi r a. refl) p h)
+          (later (λ q. isPlain q ≡ true) plain-plain p h);
       typed =
           typed-port p
           (record {
@@ -444,45 +450,60 @@ first-said version p h =
           });
     }
 
--- Version 2.
+-- Versions 2 and 3.
 
-second-says : (p : Port) → typedPort p ≡ true → portSound p ≡ true → Sound secondPort p
-unfolding Sound secondPort
-second-says p t e = let n = places p t in ((plain-says p n e, later-says p n e), refl)
-
-second-said : (version : ℕ) (p : Port) → 2 ≤ version → Sound secondPort p → Told version p
-unfolding Sound secondPort laterFormat spellingsFormat portSayable basicSound defaultSound
-second-said version p v h =
-    let k = plain-places p (h .0 .0) in
-    let l = h .0 .1 in
+both-said : (p : Port) → Sound plainFormat (plainOf p) → Sound (laterFormat (p .domain) (p .lowest) (p .highest)) (laterOf p) → (portSound p ≡ true) × (typedPort p ≡ true)
+unfolding Sound laterFormat spellingsFormat basicSound defaultSound
+both-said p h l =
+    let k = plain-places p h in
     let a = way-said (p .basic .on) (p .basic .receiving) (l .1 .0) in
     let b = way-said (p .basic .on) (p .basic .sending) (l .1 .1 .0) in
-    let g = given-said (not (p .unlabelled)) p (p .default) (l .1 .1 .1 .1 .1) in
-    record {
-      sound =
-          port-both p (h .0 .0) (way-basic (p .basic .on) (p .basic .receiving) (p .basic .sending) (a .0) (b .0)) (l .1 .1 .1 .0 .1)
-          (default-none (p .unlabelled) (p .lowest) (p .highest) (p .default) ∙ g .0);
-      sayable = rw (le-leb 2 version v);
-      typed = typed-port p (record { lowest = k .0; highest = k .1; assigned = k .2; receiving = a .1; sending = b .1; default = g .1 });
-    }
+    let g = given-said (not (p .unlabelled)) p (p .default) (l .1 .1 .1 .1 .1) in (
+      port-both p h (way-basic (p .basic .on) (p .basic .receiving) (p .basic .sending) (a .0) (b .0)) (l .1 .1 .1 .0 .1)
+      (default-none (p .unlabelled) (p .lowest) (p .highest) (p .default) ∙ g .0),
+      typed-port p (record { lowest = k .0; highest = k .1; assigned = k .2; receiving = a .1; sending = b .1; default = g .1 }),
+    )
 
--- Both.
+second-says : (p : Port) → typedPort p ≡ true → portSound p ≡ true → p .strict ≡ false → Sound secondPort p
+unfolding Sound secondPort
+second-says p t e u = let n = places p t in ((plain-says p n e, later-says p n e), λ i. portMade (plainOf p) (laterOf p) (sym u i))
+
+second-said : (version : ℕ) (p : Port) → 2 ≤ version → Sound secondPort p → Told version p
+unfolding Sound secondPort portSayable
+second-said version p v h =
+    let b = both-said p (h .0 .0) (h .0 .1) in
+    let u : p .strict ≡ false = ap (λ (q : Port). q .strict) (sym (h .1)) in
+    record { sound = b .0; sayable = rw (le-leb 2 version v, u) (or-right (leb 3 version) true refl); typed = b .1 }
+
+third-says : (p : Port) → typedPort p ≡ true → portSound p ≡ true → Sound thirdPort p
+unfolding Sound thirdPort
+third-says p t e = let n = places p t in ((plain-says p n e, (later-says p n e, tt)), refl)
+
+third-said : (version : ℕ) (p : Port) → 3 ≤ version → Sound thirdPort p → Told version p
+unfolding Sound thirdPort portSayable
+third-said version p v h =
+    let b = both-said p (h .0 .0) (h .0 .1 .0) in
+    record { sound = b .0; sayable = rw (le-leb 3 version v); typed = b .1 }
+
+-- All three.
 
 port-says : (version : ℕ) (p : Port) → typedPort p ≡ true → portSound p ≡ true → portSayable version p ≡ true → Sound (portFormat version) p
 unfolding portFormat portSayable
-port-says version p t e s = go (leb 2 version) refl s
+port-says version p t e s = go (leb 3 version) (leb 2 version) refl refl s
   where
-    go : (b : Bool) → leb 2 version ≡ b → (b || isPlain p) ≡ true → Sound (portFormat version) p
-    go true q s = rw q (second-says p t e)
-    go false q s = rw q (first-says p t e s)
+    go : (a b : Bool) → leb 3 version ≡ a → leb 2 version ≡ b → (a || cond b (not (p .strict)) (isPlain p)) ≡ true → Sound (portFormat version) p
+    go true b q w s = rw q (third-says p t e)
+    go false true q w s = rw (q, w) (second-says p t e (not-true (p .strict) s))
+    go false false q w s = rw (q, w) (first-says p t e s)
 
 port-told : (version : ℕ) (p : Port) → Sound (portFormat version) p → Told version p
 unfolding portFormat
-port-told version p h = go (leb 2 version) refl
+port-told version p h = go (leb 3 version) (leb 2 version) refl refl
   where
-    go : (b : Bool) → leb 2 version ≡ b → Told version p
-    go true q = second-said version p (leb-true _ _ q) (rw q at h)
-    go false q = first-said version p (rw q at h)
+    go : (a b : Bool) → leb 3 version ≡ a → leb 2 version ≡ b → Told version p
+    go true b q w = third-said version p (leb-true _ _ q) (rw q at h)
+    go false true q w = second-said version p (leb-true _ _ w) (rw (q, w) at h)
+    go false false q w = first-said version p (rw (q, w) at h)
 
 pub ports-said : PortsSaid
 ports-said = record { says = port-says; said = λ version p h. let t = port-told version p h in (t .sound, t .sayable) }

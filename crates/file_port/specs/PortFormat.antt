@@ -1,5 +1,6 @@
 -- docs/FILE.md, "A port". Version 1: domain (4), lowest label, highest label, required (1: 0 or 1), assigned label. Version 2: the fields of version 1; Basic Security on (1: 0 or 1);
 -- receiving: lowest level (1), highest level (1), count (2), flag fields (2 each); sending: the same four; permitted spellings (1); unlabelled (1: 0 or 1); default label.
+-- Version 3: the fields of version 2; strict (1: 0 or 1).
 use mathlib.Core.Bool.{Bool, true, false, cond, not}
 use mathlib.Core.List.{List}
 use mathlib.Core.Path.{_≡_, refl}
@@ -82,7 +83,7 @@ laterFormat domain lowest highest =
     then λ spellings. flag
     then λ unlabelled. givenFormat (not unlabelled) domain lowest highest
 
--- 3. The port of these fields; one of version 1 has document 01's values in the later ones.
+-- 3. The port of these fields; one of version 1 has document 01's values in the later ones, one of version 2 is not strict.
 
 abbrev pub plainOf : Port → Plain
 plainOf p = (p .domain, (p .lowest, (p .highest, (p .required, p .assigned))))
@@ -93,8 +94,8 @@ laterOf p = (p .basic .on, (p .basic .receiving, (p .basic .sending, (p .spellin
 abbrev pub plainMade : Plain → Port
 plainMade p = plainPort (p .0) (p .1 .0) (p .1 .1 .0) (p .1 .1 .1 .0) (p .1 .1 .1 .1)
 
-abbrev pub portMade : Plain → Later → Port
-portMade p q =
+abbrev pub portMade : Plain → Later → Bool → Port
+portMade p q strict =
     record {
       domain = p .0;
       lowest = p .1 .0;
@@ -105,6 +106,7 @@ portMade p q =
       spellings = q .1 .1 .1 .0;
       unlabelled = q .1 .1 .1 .1 .0;
       default = q .1 .1 .1 .1 .1;
+      strict = strict;
     }
 
 unfoldable pub firstPort : Format Port
@@ -112,11 +114,21 @@ firstPort = fields {B = Port} plainFormat plainMade plainOf (λ p. refl)
 
 unfoldable pub secondPort : Format Port
 secondPort =
-    fields {B = Port} (plainFormat then λ p. laterFormat (p .0) (p .1 .0) (p .1 .1 .0)) (λ p. portMade (p .0) (p .1)) (λ p. (plainOf p, laterOf p)) (λ p. refl)
+    fields {B = Port} (plainFormat then λ p. laterFormat (p .0) (p .1 .0) (p .1 .1 .0)) (λ p. portMade (p .0) (p .1) false) (λ p. (plainOf p, laterOf p)) (λ p. refl)
+
+unfoldable pub thirdPort : Format Port
+thirdPort =
+    fields {B = Port}
+    (plainFormat
+    then λ p. laterFormat (p .0) (p .1 .0) (p .1 .1 .0)
+    then λ q. flag)
+    (λ p. portMade (p .0) (p .1 .0) (p .1 .1))
+    (λ p. (plainOf p, (laterOf p, p .strict)))
+    (λ p. refl)
 
 -- a port in a file of this version
 unfoldable pub portFormat : (version : ℕ) → Format Port
-portFormat version = choose (leb 2 version) secondPort firstPort
+portFormat version = choose (leb 3 version) thirdPort (choose (leb 2 version) secondPort firstPort)
 
 -- the port whose every number is 0, which permits no spelling
 abbrev pub noSpelling : Spellings
@@ -124,4 +136,4 @@ noSpelling = record { shortest = false; ten = false; numbers = false; pairs = fa
 
 abbrev pub noPort : Port
 noPort =
-    record { domain = 0; lowest = zeroLabel; highest = zeroLabel; required = false; assigned = zeroLabel; basic = basicOff; spellings = noSpelling; unlabelled = false; default = zeroLabel }
+    record { domain = 0; lowest = zeroLabel; highest = zeroLabel; required = false; assigned = zeroLabel; basic = basicOff; spellings = noSpelling; unlabelled = false; default = zeroLabel; strict = false }

@@ -1,6 +1,6 @@
--- The house file: a label has octets, and is read back, exactly when it is well formed; a port in a file of a version exactly when it is sound and the version can say it. Version 2 can
--- say every port; version 1 those that are as document 01 has them.
-use mathlib.Core.Bool.{Bool, true, _&&_, _||_}
+-- The house file: a label has octets, and is read back, exactly when it is well formed; a port in a file of a version exactly when it is sound and the version can say it. Version 3 can
+-- say every port, version 2 those that are not strict, version 1 those that are as document 01 has them.
+use mathlib.Core.Bool.{Bool, true, cond, not, _&&_, _||_}
 use mathlib.Core.List.{List, [], _∷_}
 use mathlib.Core.Path.{_≡_}
 use Prim.Native.Nat.{ℕ, _<_}
@@ -40,7 +40,7 @@ typedPort p =
 
 -- a file of this version can say the port
 unfoldable pub portSayable : (version : ℕ) → Port → Bool
-portSayable version p = leb 2 version || isPlain p
+portSayable version p = leb 3 version || cond (leb 2 version) (not (p .strict)) (isPlain p)
 
 pub record PortsSaid : Type 0 where
   pub says : (version : ℕ) (p : Port) → typedPort p ≡ true → portSound p ≡ true → portSayable version p ≡ true → Sound (portFormat version) p

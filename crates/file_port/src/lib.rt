@@ -1,13 +1,13 @@
 // Records of the house file: each is read at a place and written at a place.
 ghost use mathlib.Core.Path.{_≡_};
-ghost use mathlib.Core.Bool.{true, cond};
+ghost use mathlib.Core.Bool.{true, false, cond};
 ghost use lib.Dec.{leb, eqb};
 ghost use lib.ListN.{length, take};
 ghost use Prim.Native.Nat.{_+_, _*_, _≤_, _<_};
 ghost use Rattle.label.specs.Runs.{run};
 ghost use Rattle.label.specs.Label.{used, labelOf, zeroLabel, inRange};
 ghost use Rattle.basic.specs.Levels.{atMost};
-ghost use Rattle.file_format.specs.Format.{Reads, many, number, two, alike, same, bit, sumOf, marksOf, digits, octets, Writes, Wrote};
+ghost use Rattle.file_format.specs.Format.{Reads, many, number, two, flag, alike, same, bit, sumOf, marksOf, digits, octets, Writes, Wrote};
 ghost use Rattle.file_format.specs.Laws.{flat};
 ghost use Rattle.file_port.specs.LabelFormat.{runFormat, nextFloor, unless0, labelFormat};
 ghost use Rattle.file_port.specs.PortFormat.{givenFormat, wayOf, wayFormat, spellingsMade, spellingMarks, spellingsFormat, plainFormat, plainOf, plainMade, laterFormat, laterOf, portFormat, noPort};
@@ -200,6 +200,7 @@ pub fn empty_port() -> Port
         },
         unlabelled: false,
         default: none,
+        strict: false,
     }
 }
 
@@ -385,7 +386,7 @@ fn read_spellings(octets: &[u8], ok: bool, at: usize) -> SpellingsRead
 
 // The fields that version 2 adds, put into a port whose others have been read.
 fn read_later(octets: &[u8], ok: bool, at: usize, plain: Port) -> PortRead
-    ensures { λ r. ⌜ (Reads (laterFormat (plain .domain) (plain .lowest) (plain .highest)) (now (octets .entry)) ok at (r .ok) (laterOf (r .port)) (r .at)) × (plainOf (r .port) ≡ plainOf plain) ⌝ }
+    ensures { λ r. ⌜ (Reads (laterFormat (plain .domain) (plain .lowest) (plain .highest)) (now (octets .entry)) ok at (r .ok) (laterOf (r .port)) (r .at)) × (plainOf (r .port) ≡ plainOf plain) × (r .port .strict ≡ false) ⌝ }
 {
     let flag = read_octet(octets, ok, at, 0, 1);
     let on = flag.value == 1;
@@ -428,7 +429,22 @@ fn read_later(octets: &[u8], ok: bool, at: usize, plain: Port) -> PortRead
             spellings: permitted,
             unlabelled: unlabelled,
             default: label,
+            strict: false,
         },
+    }
+}
+
+// The field that version 3 adds, put into a port whose others have been read.
+fn read_strict(octets: &[u8], ok: bool, at: usize, later: Port) -> PortRead
+    ensures { λ r. ⌜ (Reads flag (now (octets .entry)) ok at (r .ok) (r .port .strict) (r .at)) × (plainOf (r .port) ≡ plainOf later) × (laterOf (r .port) ≡ laterOf later) ⌝ }
+{
+    let flag = read_octet(octets, ok, at, 0, 1);
+    let mut port = later;
+    port.strict = flag.value == 1;
+    PortRead {
+        ok: flag.ok,
+        at: flag.at,
+        port: port,
     }
 }
 
@@ -455,7 +471,11 @@ pub fn read_port(octets: &[u8], ok: bool, at: usize, version: u8) -> PortRead
         return zero_unless_read(plain);
     }
     let later = read_later(octets, plain.ok, plain.at, plain.port);
-    zero_unless_read(later)
+    if version < 3 {
+        return zero_unless_read(later);
+    }
+    let strict = read_strict(octets, later.ok, later.at, later.port);
+    zero_unless_read(strict)
 }
 
 fn flag_of(b: bool) -> u32
@@ -536,15 +556,16 @@ fn write_later(port: Port, out: &mut [u8], at: usize) -> usize
     write_label(given, &mut out[..], default)
 }
 
-// Writes a port of version 2 where there is room for all of it, and tells the place after it; else nothing, and the place that was given.
+// Writes a port of version 3 where there is room for all of it, and tells the place after it; else nothing, and the place that was given.
 pub fn write_port(port: Port, out: &mut [u8], at: usize) -> usize
-    ensures { λ r. ⌜ Writes at (octets (portFormat 2) port) (now (out .entry)) (now (out .exit)) r ⌝ }
+    ensures { λ r. ⌜ Writes at (octets (portFormat 3) port) (now (out .entry)) (now (out .exit)) r ⌝ }
 {
     if !has_room(out.len(), at, port_size(port)) {
         return at;
     }
     let later = write_plain(port, &mut out[..], at);
-    write_later(port, &mut out[..], later)
+    let strict = write_later(port, &mut out[..], later);
+    write_octet(&mut out[..], strict, flag_of(port.strict))
 }
 
 // How many octets the settings of option 130 have for one way.
@@ -554,9 +575,9 @@ fn way_size(way: Way) -> usize
     4 + count_used(way.count, 256) * 2
 }
 
-// How many octets a port of version 2 has.
+// How many octets a port of version 3 has.
 pub fn port_size(port: Port) -> usize
-    ensures { λ r. ⌜ (r ≡ length (octets (portFormat 2) port)) × (r ≤ 2984) ⌝ }
+    ensures { λ r. ⌜ (r ≡ length (octets (portFormat 3) port)) × (r ≤ 2985) ⌝ }
 {
     let low = port.lowest;
     let high = port.highest;
@@ -566,5 +587,5 @@ pub fn port_size(port: Port) -> usize
     let receiving = basic.receiving;
     let sending = basic.sending;
     let plain = 5 + label_size(low) + label_size(high) + label_size(given);
-    plain + 3 + way_size(receiving) + way_size(sending) + label_size(default)
+    plain + 4 + way_size(receiving) + way_size(sending) + label_size(default)
 }

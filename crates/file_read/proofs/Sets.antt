@@ -60,8 +60,10 @@ port-unused p e =
     let o : Bool = isOff (p .basic) in
     let s : Bool = not (someOf (p .spellings)) in
     let u : Bool = not (p .unlabelled) in
+    let t : Bool = not (p .strict) in
     let v = and-left (zeroPort p) _ e in
-    let w = and-left (((((((a && l) && h) && r) && g) && o) && s) && u) _ v in
+    let w1 = and-left ((((((((a && l) && h) && r) && g) && o) && s) && u) && t) _ v in
+    let w = and-left (((((((a && l) && h) && r) && g) && o) && s) && u) _ w1 in
     let x = and-left ((((((a && l) && h) && r) && g) && o) && s) _ w in
     let y = and-left (((((a && l) && h) && r) && g) && o) _ x in
     let z = and-left ((((a && l) && h) && r) && g) _ y in
@@ -76,8 +78,9 @@ port-unused p e =
     let ba : p .basic ≡ basicOff = off-is (p .basic) (way-places (p .basic .receiving) (n .receiving)) (way-places (p .basic .sending) (n .sending)) (and-right ((((a && l) && h) && r) && g) _ y) in
     let sp : p .spellings ≡ noSpelling = no-spelling (p .spellings) (not-true _ (and-right (((((a && l) && h) && r) && g) && o) _ x)) in
     let un : p .unlabelled ≡ false = not-true _ (and-right ((((((a && l) && h) && r) && g) && o) && s) _ w) in
-    let de : p .default ≡ zeroLabel = is-zero (p .default) (n .default) (and-right (((((((a && l) && h) && r) && g) && o) && s) && u) _ v) in
-    λ i. record { domain = d i; lowest = lo i; highest = hi i; required = re i; assigned = gi i; basic = ba i; spellings = sp i; unlabelled = un i; default = de i }
+    let st : p .strict ≡ false = not-true _ (and-right (((((((a && l) && h) && r) && g) && o) && s) && u) _ w1) in
+    let de : p .default ≡ zeroLabel = is-zero (p .default) (n .default) (and-right ((((((((a && l) && h) && r) && g) && o) && s) && u) && t) _ v) in
+    λ i. record { domain = d i; lowest = lo i; highest = hi i; required = re i; assigned = gi i; basic = ba i; spellings = sp i; unlabelled = un i; default = de i; strict = st i }
 
 ports-each : (version n : ℕ) (ps : List Port) → placesFit usedPort unusedPort n ps ≡ true → portsSayable version (take n ps) ≡ true → Each (λ st p. Sound (portFormat version) p) same 0 (take n ps)
 unfolding usedPort

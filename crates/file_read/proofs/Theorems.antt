@@ -63,7 +63,7 @@ small-file version = go (leb 2 version)
     go true = omega arith
     go false = omega arith
 
-sound-file : (total version : ℕ) (r : Records) → 1 ≤ version → version ≤ 2 → total ≤ mostOctets version → Sound (setFormat version) r → Sound (fileFormat total) ((total, version), r)
+sound-file : (total version : ℕ) (r : Records) → 1 ≤ version → version ≤ 3 → total ≤ mostOctets version → Sound (setFormat version) r → Sound (fileFormat total) ((total, version), r)
 unfolding Sound fileFormat
 sound-file total version r a b t h =
     let k : total ≤ 61440 = omega (arith, small-file version) in
@@ -73,7 +73,7 @@ sound-file total version r a b t h =
 record Head (total : ℕ) (v : (ℕ × ℕ) × Records) : Type 0 where
   length-is : v .0 .0 ≡ total
   least : 1 ≤ v .0 .1
-  most : v .0 .1 ≤ 2
+  most : v .0 .1 ≤ 3
   fits : leb total (mostOctets (v .0 .1)) ≡ true
   records : Sound (setFormat (v .0 .1)) (v .1)
 
@@ -226,16 +226,17 @@ length-first o room n = go (less-or (length o) 2)
 
 pub named : Named
 unfolding fileReading fileAnswer fileFormat readAt
-named o room e h n m = go (getD o 2 0) refl
+named o room e h n m k = go (getD o 2 0) refl
   where
     first : numberAt 2 (length o) (length o) o 0 ≡ got (valueAt o 0 2) 2
     first = number-good o 0 2 (length o) (length o) (omega arith) (omega arith) (omega arith)
 
-    known : numberAt 1 1 2 o 2 ≡ bad 2 → fileReading o room ≡ unknown
+    known : numberAt 1 1 3 o 2 ≡ bad 2 → fileReading o room ≡ unknown
     known q = rw (first, q, lt-ltb 2 (length o) h)
 
     go : (v : ℕ) → getD o 2 0 ≡ v → fileReading o room ≡ unknown
-    go zero q = known (number-under o 2 1 1 2 (omega arith) (omega (arith, q)))
+    go zero q = known (number-under o 2 1 1 3 (omega arith) (omega (arith, q)))
     go (suc zero) q = absurd (n q)
     go (suc (suc zero)) q = absurd (m q)
-    go (suc (suc (suc v))) q = known (number-over o 2 1 1 2 (omega arith) (omega (arith, q)) (omega (arith, q)))
+    go (suc (suc (suc zero))) q = absurd (k q)
+    go (suc (suc (suc (suc v)))) q = known (number-over o 2 1 1 3 (omega arith) (omega (arith, q)) (omega (arith, q)))

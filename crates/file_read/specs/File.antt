@@ -15,14 +15,14 @@ use Rattle.file_set.specs.Set.{emptySet}
 use Rattle.file_read.specs.declared.FileRead.{FileRead}
 use Rattle.file_read.specs.SetFormat.{Records, setFormat, setOf, rowsOf, recordsOf}
 
--- the most octets of a file of this version: 32 KiB, and 60 KiB
+-- the most octets of a file of this version: 32 KiB, and from version 2 on 60 KiB
 abbrev pub mostOctets : (version : ℕ) → ℕ
 mostOctets version = cond (leb 2 version) 61440 32768
 
 -- a file of `total` octets. Its size is a rule over the two fields of its head, and so blames octet 0 when the version has passed
 unfoldable pub fileFormat : ℕ → Format ((ℕ × ℕ) × Records)
 fileFormat total =
-    (number two total total then λ length. number one 1 2) such (λ head. leb total (mostOctets (head .1)))
+    (number two total total then λ length. number one 1 3) such (λ head. leb total (mostOctets (head .1)))
     then λ head. setFormat (head .1)
 
 -- 1. The reader's answers, none of which is a number of document 01.

@@ -1,5 +1,5 @@
 -- Document 02, Wish 1: "A file is accepted exactly when its length agrees, then its version is known, then every record is sound; a refusal names the first octet of the first bad
--- field. A sound set has one file, and what the writer wrote the reader gives back. An unknown version is refused by name." Wish 8: both versions, rows in lent room.
+-- field. A sound set has one file, and what the writer wrote the reader gives back. An unknown version is refused by name." Wishes 8 and 10: every version, rows in lent room.
 use mathlib.Core.Bool.{true}
 use mathlib.Core.List.{List}
 use mathlib.Core.Path.{_≡_}
@@ -19,13 +19,13 @@ pub record Back (version : ℕ) (s : Set) (rows room : List ℕ) : Type 0 where
 
 abbrev pub GivenBack : Type 0
 GivenBack =
-    (version : ℕ) → 1 ≤ version → version ≤ 2 → (s : Set) (rows room : List ℕ) → setSound s rows ≡ true → sayable version s rows ≡ true → length rows ≤ length room → Back version s rows room
+    (version : ℕ) → 1 ≤ version → version ≤ 3 → (s : Set) (rows room : List ℕ) → setSound s rows ≡ true → sayable version s rows ≡ true → length rows ≤ length room → Back version s rows room
 
--- what the reader accepts is the one file, in one of the two versions, of a sound set that the version can say, octet for octet
+-- what the reader accepts is the one file, in one of the three versions, of a sound set that the version can say, octet for octet
 pub record OneFile (o : List ℕ) (s : Set) (rows : List ℕ) : Type 0 where
   pub version : ℕ
   pub least : 1 ≤ version
-  pub most : version ≤ 2
+  pub most : version ≤ 3
   pub file : o ≡ fileOctets version s rows
   pub sound : setSound s rows ≡ true
   pub sayable : sayable version s rows ≡ true
@@ -43,6 +43,6 @@ RoomKept = (o room : List ℕ) → (fileReading o (length room) .verdict ≡ 0 �
 abbrev pub LengthFirst : Type 0
 LengthFirst = (o : List ℕ) (room : ℕ) → (valueAt o 0 2 ≡ length o → ⊥) → fileReading o room ≡ fileRefused 0
 
--- where the length agrees, a version that is there and is neither 1 nor 2 is refused by name, whatever stands after it
+-- where the length agrees, a version that is there and is not 1, 2 or 3 is refused by name, whatever stands after it
 abbrev pub Named : Type 0
-Named = (o : List ℕ) (room : ℕ) → valueAt o 0 2 ≡ length o → 2 < length o → (getD o 2 0 ≡ 1 → ⊥) → (getD o 2 0 ≡ 2 → ⊥) → fileReading o room ≡ unknown
+Named = (o : List ℕ) (room : ℕ) → valueAt o 0 2 ≡ length o → 2 < length o → (getD o 2 0 ≡ 1 → ⊥) → (getD o 2 0 ≡ 2 → ⊥) → (getD o 2 0 ≡ 3 → ⊥) → fileReading o room ≡ unknown

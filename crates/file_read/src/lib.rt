@@ -4,7 +4,7 @@ ghost use mathlib.Core.Bool.{cond};
 ghost use Prim.Native.Nat.{_≤_};
 ghost use lib.Dec.{leb};
 ghost use lib.ListN.{length, take};
-ghost use Rattle.file_format.specs.Format.{bad, Reads, many, alike, same};
+ghost use Rattle.file_format.specs.Format.{bad, Reads, many, alike, same, written};
 ghost use Rattle.file_format.specs.Places.{Filled};
 ghost use Rattle.file_port.specs.PortFormat.{portFormat, noPort};
 ghost use Rattle.file_table.specs.TableFormat.{tableFormat};
@@ -211,6 +211,15 @@ fn outgrow() -> FileRead
     }
 }
 
+// The rows of a file that keeps every rule go into the room, if there is room for all of them.
+fn keep_rows(whole: bool, numbers: &[u16], rows: &mut [u16])
+    ensures { λ _. ⌜ now (rows .exit) ≡ cond whole (written 0 (now (numbers .entry)) (now (rows .entry))) (now (rows .entry)) ⌝ }
+{
+    if whole {
+        write_numbers(numbers, rows, 0);
+    }
+}
+
 // Reads a whole file; the rows of its tables go into the lent room.
 pub fn read_file(octets: &[u8], rows: &mut [u16]) -> FileRead
     ensures { λ r. ⌜ (r ≡ fileReading (now (octets .entry)) (length (now (rows .entry)))) × (now (rows .exit) ≡ fileRoom (now (octets .entry)) (now (rows .entry))) ⌝ }
@@ -222,11 +231,16 @@ pub fn read_file(octets: &[u8], rows: &mut [u16]) -> FileRead
     let total = n as u32;
     let mut work = [0u16; MAX_NUMBERS];
     let length = read_two(octets, true, 0, total, total);
-    let version = read_octet(octets, length.ok, length.at, 1, 2);
+    let version = read_octet(octets, length.ok, length.at, 1, 3);
     let kind = version.value as u8;
     let head = judge(version.ok, version.at, 0, total <= most_octets(kind));
     let ports = read_ports(octets, head.ok, head.at, kind);
     let tables = read_tables(octets, ports.ok, ports.at, kind, &mut work);
+    keep_rows(
+        tables.ok & (tables.at == n),
+        &work[..tables.used],
+        &mut rows[..],
+    );
     if !tables.ok {
         return refuse_field(tables.at, n, rows.len());
     }
@@ -236,7 +250,6 @@ pub fn read_file(octets: &[u8], rows: &mut [u16]) -> FileRead
     if rows.len() < tables.used {
         return outgrow();
     }
-    write_numbers(&work[..tables.used], rows, 0);
     let held = ports.ports;
     let kept = tables.tables;
     FileRead {

@@ -54,4 +54,5 @@ outPort =
       spellings = noSpelling;
       unlabelled = false;
       default = outLabel;
+      strict = false;
     }

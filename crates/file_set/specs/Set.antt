@@ -28,7 +28,7 @@ emptySet = record { portcount = 0; ports = replicate 16 noPort; tablecount = 0; 
 -- every number of the port is 0
 unfoldable pub zeroPort : Port → Bool
 zeroPort p =
-    (((((((eqb (p .domain) 0 && isZero (p .lowest)) && isZero (p .highest)) && not (p .required)) && isZero (p .assigned)) && isOff (p .basic)) && not (someOf (p .spellings))) && not (p .unlabelled)) && isZero (p .default)
+    ((((((((eqb (p .domain) 0 && isZero (p .lowest)) && isZero (p .highest)) && not (p .required)) && isZero (p .assigned)) && isOff (p .basic)) && not (someOf (p .spellings))) && not (p .unlabelled)) && not (p .strict)) && isZero (p .default)
 
 -- every number of the table and of its level pairs is 0
 unfoldable pub zeroTable : Table → List (List ℕ) → Bool

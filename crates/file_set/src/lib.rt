@@ -72,6 +72,7 @@ fn port_zero(port: Port) -> bool
         & off
         & !some
         & !port.unlabelled
+        & !port.strict
         & unset
 }
 

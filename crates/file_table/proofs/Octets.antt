@@ -55,7 +55,7 @@ rows-used rows m e = go (leb (length rows / 3) 1024) refl e
 
 module _ (r : Renumbering) (rows : List ℕ) (n m : ℕ) (l : length (r .levels) ≡ 256)
     (en : n ≡ cond (leb (r .table .pairs) 256) (r .table .pairs) 256) (em : m ≡ cond (leb (length rows / 3) 1024) (length rows / 3) 1024) where
-  pub table-octets : octets (tableFormat 2) (fieldsOf (record { item = r; rows = rows }))
+  pub table-octets : octets (tableFormat 3) (fieldsOf (record { item = r; rows = rows }))
       ≡ digits 4 (r .table .from) ++ (digits 4 (r .table .to) ++ ((digits 2 n ++ flat pairOctets (take n (r .levels))) ++ (digits 2 m ++ flat rowOctets (take m (rowsFrom rows)))))
   table-octets =
       let u = used-is (r .levels) (r .table .pairs) n 256 l en in
@@ -73,7 +73,7 @@ module _ (r : Renumbering) (rows : List ℕ) (n m : ℕ) (l : length (r .levels)
       let b : length (take m (rowsFrom rows)) ≡ m = rw (v .0) at (v .1) in
       omega (arith, b, length-take m (rowsFrom rows))
 
-  pub table-length : length (octets (tableFormat 2) (fieldsOf (record { item = r; rows = rows }))) ≡ 12 + n * 2 + m * 6
+  pub table-length : length (octets (tableFormat 3) (fieldsOf (record { item = r; rows = rows }))) ≡ 12 + n * 2 + m * 6
   table-length =
       let u = used-is (r .levels) (r .table .pairs) n 256 l en in
       let v = rows-used rows m em in

@@ -1,5 +1,5 @@
 -- docs/FILE.md, "A table". The layout's row: from (4), to (4), pair count (2), then each pair (1 + 1), row count (2), then low (2), high (2) and target low (2) of
--- each row. Version 1: at most 16 pairs and 64 rows; version 2: 256 and 1,024.
+-- each row. Version 1: at most 16 pairs and 64 rows; versions 2 and 3: 256 and 1,024.
 use mathlib.Core.Bool.{Bool, true, cond, _&&_}
 use mathlib.Core.List.{List, [], _∷_, _++_}
 use mathlib.Core.Path.{_≡_, refl}

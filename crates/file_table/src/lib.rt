@@ -334,9 +334,9 @@ fn write_rows(rows: &[u16], n: usize, out: &mut [u8], at: usize) -> usize
     place
 }
 
-// Writes a table of version 2 with its rows where there is room for all of it, and tells the place after it; else nothing, and the place that was given.
+// Writes a table of version 3 with its rows where there is room for all of it, and tells the place after it; else nothing, and the place that was given.
 pub fn write_table(renumbering: Renumbering, rows: &[u16], out: &mut [u8], at: usize) -> usize
-    ensures { λ r. ⌜ Writes at (octets (tableFormat 2) (fieldsOf (record { item = renumbering; rows = now (rows .entry) }))) (now (out .entry)) (now (out .exit)) r ⌝ }
+    ensures { λ r. ⌜ Writes at (octets (tableFormat 3) (fieldsOf (record { item = renumbering; rows = now (rows .entry) }))) (now (out .entry)) (now (out .exit)) r ⌝ }
 {
     if !has_room(out.len(), at, table_size(renumbering, rows)) {
         return at;
@@ -352,9 +352,9 @@ pub fn write_table(renumbering: Renumbering, rows: &[u16], out: &mut [u8], at: u
     write_rows(rows, m, &mut out[..], next)
 }
 
-// How many octets a table of version 2 has with its rows.
+// How many octets a table of version 3 has with its rows.
 pub fn table_size(renumbering: Renumbering, rows: &[u16]) -> usize
-    ensures { λ r. ⌜ (r ≡ length (octets (tableFormat 2) (fieldsOf (record { item = renumbering; rows = now (rows .entry) })))) × (r ≤ 6668) ⌝ }
+    ensures { λ r. ⌜ (r ≡ length (octets (tableFormat 3) (fieldsOf (record { item = renumbering; rows = now (rows .entry) })))) × (r ≤ 6668) ⌝ }
 {
     let table = renumbering.table;
     12 + count_used(table.pairs, 256) * 2 + count_used(rows.len() / 3, 1024) * 6

@@ -1,8 +1,8 @@
 -- The octets of a sound set, as its writer goes through them, and how many there are.
-use mathlib.Core.Bool.{Bool, true, cond}
+use mathlib.Core.Bool.{cond}
 use mathlib.Core.List.{List, [], _∷_, _++_, map, append-assoc, append-nil}
 use mathlib.Core.Path.{_≡_, refl, sym, ap, subst, _∙_}
-use Prim.Native.Nat.{ℕ, zero, suc, _+_, _-_, _*_, _≤_, _<_}
+use Prim.Native.Nat.{ℕ, suc, _+_, _-_, _≤_, _<_}
 use native.Mathlib.Omega.{arith}
 use native.Mathlib.Numerals.{add-one}
 use lib.Dec.{leb}
@@ -20,7 +20,7 @@ use Rattle.file_format.specs.Format.{digits, inTurn, octets, alike, same, Wrote
 use Rattle.file_format.specs.Laws.{flat}
 use Rattle.file_format.proofs.Writing.{flat-turn, writes-then, writes-none}
 use Rattle.file_port.specs.PortFormat.{portFormat}
-use Rattle.file_table.specs.TableFormat.{TableFields, tableFormat, fieldsOf}
+use Rattle.file_table.specs.TableFormat.{tableFormat, fieldsOf}
 use Rattle.file_set.specs.declared.Set.{Set}
 use Rattle.file_read.specs.SetFormat.{portsFormat, tablesFormat, setFormat, recordsOf}
 use Rattle.file_read.specs.File.{fileFormat, totalOf, fileOctets}
@@ -59,58 +59,58 @@ flat-map : {A C : Type 0} (g : C → List ℕ) (f : A → C) (xs : List A) → f
 flat-map g f [] = refl
 flat-map g f (x ∷ xs) = ap (λ (z : List ℕ). g (f x) ++ z) (flat-map g f xs)
 
-tables-length : (hs : List Renumbering) (ns : List ℕ) → length (tablesFrom hs ns) ≡ length hs
+pub tables-length : (hs : List Renumbering) (ns : List ℕ) → length (tablesFrom hs ns) ≡ length hs
 tables-length [] ns = refl
 tables-length (h ∷ hs) ns = ap suc (tables-length hs (drop (share h) ns))
 
-ports-octets : (ps : List Port) → inTurn (λ st p. octets (alike (portFormat 2) st) p) same 0 ps ≡ flat portOctets ps
+ports-octets : (ps : List Port) → inTurn (λ st p. octets (alike (portFormat 3) st) p) same 0 ps ≡ flat portOctets ps
 unfolding portOctets
-ports-octets ps = flat-turn (λ st p. octets (alike (portFormat 2) st) p) same portOctets (λ st p. refl) 0 ps
+ports-octets ps = flat-turn (λ st p. octets (alike (portFormat 3) st) p) same portOctets (λ st p. refl) 0 ps
 
-tables-octets : (xs : List LentTable) → inTurn (λ st t. octets (alike (tableFormat 2) st) t) same 0 (map fieldsOf xs) ≡ flat tableOctets xs
+tables-octets : (xs : List LentTable) → inTurn (λ st t. octets (alike (tableFormat 3) st) t) same 0 (map fieldsOf xs) ≡ flat tableOctets xs
 unfolding tableOctets
 tables-octets xs =
-    flat-turn (λ st t. octets (alike (tableFormat 2) st) t) same (λ t. octets (tableFormat 2) t) (λ st t. refl) 0 (map fieldsOf xs)
-    ∙ flat-map (λ t. octets (tableFormat 2) t) fieldsOf xs
+    flat-turn (λ st t. octets (alike (tableFormat 3) st) t) same (λ t. octets (tableFormat 3) t) (λ st t. refl) 0 (map fieldsOf xs)
+    ∙ flat-map (λ t. octets (tableFormat 3) t) fieldsOf xs
 
-all-octets : (s : Set) (rows : List ℕ)
-    → octets (setFormat 2) (recordsOf s rows)
-    ≡ (digits 1 (length (recordsOf s rows .0)) ++ inTurn (λ st p. octets (alike (portFormat 2) st) p) same 0 (recordsOf s rows .0))
-    ++ (digits 1 (length (recordsOf s rows .1)) ++ inTurn (λ st t. octets (alike (tableFormat 2) st) t) same 0 (recordsOf s rows .1))
+pub all-octets : (version : ℕ) (s : Set) (rows : List ℕ)
+    → octets (setFormat version) (recordsOf s rows)
+    ≡ (digits 1 (length (recordsOf s rows .0)) ++ inTurn (λ st p. octets (alike (portFormat version) st) p) same 0 (recordsOf s rows .0))
+    ++ (digits 1 (length (recordsOf s rows .1)) ++ inTurn (λ st t. octets (alike (tableFormat version) st) t) same 0 (recordsOf s rows .1))
 unfolding octets setFormat portsFormat tablesFormat
-all-octets s rows = refl
+all-octets version s rows = refl
 
 module _ (s : Set) (rows : List ℕ) (p : Parts s rows) where
-  pub set-octets : octets (setFormat 2) (recordsOf s rows)
+  pub set-octets : octets (setFormat 3) (recordsOf s rows)
       ≡ (digits 1 (s .portcount) ++ flat portOctets (take (s .portcount) (s .ports))) ++ (digits 1 (s .tablecount) ++ flat tableOctets (tablesFrom (take (s .tablecount) (s .tables)) rows))
   set-octets =
       let a : length (take (s .portcount) (s .ports)) ≡ s .portcount = length-take-le (s .portcount) (s .ports) (omega (arith, p .ports-held, p .port-places)) in
       let b : length (take (s .tablecount) (s .tables)) ≡ s .tablecount = length-take-le (s .tablecount) (s .tables) (omega (arith, p .tables-held, p .table-places)) in
       let c : length (map fieldsOf (tablesFrom (take (s .tablecount) (s .tables)) rows)) ≡ s .tablecount =
       length-map (tablesFrom (take (s .tablecount) (s .tables)) rows) fieldsOf ∙ tables-length (take (s .tablecount) (s .tables)) rows ∙ b in
-      all-octets s rows ∙ rw (ports-octets (take (s .portcount) (s .ports)), tables-octets (tablesFrom (take (s .tablecount) (s .tables)) rows), a, c)
+      all-octets 3 s rows ∙ rw (ports-octets (take (s .portcount) (s .ports)), tables-octets (tablesFrom (take (s .tablecount) (s .tables)) rows), a, c)
 
-  pub total-is : totalOf 2 s rows ≡ 5 + length (flat portOctets (take (s .portcount) (s .ports))) + length (flat tableOctets (tablesFrom (take (s .tablecount) (s .tables)) rows))
+  pub total-is : totalOf 3 s rows ≡ 5 + length (flat portOctets (take (s .portcount) (s .ports))) + length (flat tableOctets (tablesFrom (take (s .tablecount) (s .tables)) rows))
   total-is =
       rw set-octets (omega (arith, length-append (flat portOctets (take (s .portcount) (s .ports))) (digits 1 (s .tablecount) ++ flat tableOctets (tablesFrom (take (s .tablecount) (s .tables)) rows))))
 
-pub file-octets : (s : Set) (rows : List ℕ) → fileOctets 2 s rows ≡ (digits 2 (totalOf 2 s rows) ++ digits 1 2) ++ octets (setFormat 2) (recordsOf s rows)
+pub file-octets : (s : Set) (rows : List ℕ) → fileOctets 3 s rows ≡ (digits 2 (totalOf 3 s rows) ++ digits 1 3) ++ octets (setFormat 3) (recordsOf s rows)
 unfolding fileOctets fileFormat octets
 file-octets s rows = refl
 
-pub file-length : (s : Set) (rows : List ℕ) → length (fileOctets 2 s rows) ≡ totalOf 2 s rows
+pub file-length : (s : Set) (rows : List ℕ) → length (fileOctets 3 s rows) ≡ totalOf 3 s rows
 file-length s rows = rw file-octets (omega arith)
 
 -- all fields written one after the other are the file
 pub fields-written : (s : Set) (rows : List ℕ) → Parts s rows → {out out′ : List ℕ} {next : ℕ}
     → Wrote 0
-    ((digits 2 (totalOf 2 s rows) ++ digits 1 2)
+    ((digits 2 (totalOf 3 s rows) ++ digits 1 3)
     ++ ((digits 1 (s .portcount) ++ flat portOctets (take (s .portcount) (s .ports))) ++ (digits 1 (s .tablecount) ++ flat tableOctets (tablesFrom (take (s .tablecount) (s .tables)) rows))))
     out out′ next
-    → totalOf 2 s rows ≤ length out → out′ ≡ paint 0 (fileOctets 2 s rows) out
+    → totalOf 3 s rows ≤ length out → out′ ≡ paint 0 (fileOctets 3 s rows) out
 fields-written s rows p {out} {out′} {next} w h =
-    let v : Wrote 0 (fileOctets 2 s rows) out out′ next =
-    subst (λ (xs : List ℕ). Wrote 0 xs out out′ next) (sym (file-octets s rows ∙ ap (λ (k : List ℕ). (digits 2 (totalOf 2 s rows) ++ digits 1 2) ++ k) (set-octets s rows p))) w in
+    let v : Wrote 0 (fileOctets 3 s rows) out out′ next =
+    subst (λ (xs : List ℕ). Wrote 0 xs out out′ next) (sym (file-octets s rows ∙ ap (λ (k : List ℕ). (digits 2 (totalOf 3 s rows) ++ digits 1 3) ++ k) (set-octets s rows p))) w in
     v .wrote (omega (arith, file-length s rows)) .0
 
 -- a turn of the loops over the tables

@@ -1,2 +1,4 @@
 pub mod Written
 pub mod Stages
+pub mod Theorems
+pub mod Examples

@@ -8,7 +8,7 @@ use Rattle.file_port.specs.PortFormat.{portFormat}
 use Rattle.file_table.specs.TableFormat.{tableFormat, fieldsOf}
 
 unfoldable pub portOctets : Port → List ℕ
-portOctets p = octets (portFormat 2) p
+portOctets p = octets (portFormat 3) p
 
 unfoldable pub tableOctets : LentTable → List ℕ
-tableOctets x = octets (tableFormat 2) (fieldsOf x)
+tableOctets x = octets (tableFormat 3) (fieldsOf x)

@@ -1,5 +1,5 @@
 -- docs/FILE.md, what the writer does: 2 for an unsound set; then a refusal by name for one whose file would be longer than 60 KiB; then 1 for an output that is too short; else the
--- file, of version 2.
+-- file, of version 3.
 use mathlib.Core.Bool.{cond, _&&_}
 use mathlib.Core.List.{List, [], _∷_}
 use Prim.Native.Nat.{ℕ}
@@ -14,7 +14,7 @@ use Rattle.file_write.specs.declared.Written.the-variants.{Done, Short, 
 
 unfoldable pub writtenOf : Set → List ℕ → ℕ → Written
 writtenOf s rows room =
-    cond (setSound s rows) (cond (leb (totalOf 2 s rows) 61440) (cond (leb (totalOf 2 s rows) room) (Done (totalOf 2 s rows)) Short) Long) Unsound
+    cond (setSound s rows) (cond (leb (totalOf 3 s rows) 61440) (cond (leb (totalOf 3 s rows) room) (Done (totalOf 3 s rows)) Short) Long) Unsound
 
 -- document 01's number of an answer; a refusal by name has none
 abbrev pub numberOf : Written → List ℕ
@@ -25,4 +25,4 @@ numberOf Long = []
 
 -- the output at the end: nothing is written on a refusal, and octets past the file are kept
 unfoldable pub fileOutput : Set → List ℕ → List ℕ → List ℕ
-fileOutput s rows out = cond (setSound s rows && (leb (totalOf 2 s rows) 61440 && leb (totalOf 2 s rows) (length out))) (paint 0 (fileOctets 2 s rows) out) out
+fileOutput s rows out = cond (setSound s rows && (leb (totalOf 3 s rows) 61440 && leb (totalOf 3 s rows) (length out))) (paint 0 (fileOctets 3 s rows) out) out

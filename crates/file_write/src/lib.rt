@@ -1,4 +1,4 @@
-// The house file, written: the one file of version 2 of a set of ports and tables (docs/FILE.md).
+// The house file, written: the one file of version 3 of a set of ports and tables (docs/FILE.md).
 ghost use mathlib.Core.Path.{_≡_};
 ghost use mathlib.Core.Bool.{true, cond};
 ghost use Prim.Native.Nat.{_+_, _-_, _*_, _≤_};
@@ -25,7 +25,7 @@ use port::Port;
 use table::Renumbering;
 use table_choose::MAX_TABLES;
 
-// The most octets of a file of version 2.
+// The most octets of a file of version 3.
 const MOST_OCTETS: usize = 61440;
 
 // What writing a file came to.
@@ -62,7 +62,7 @@ pub fn write_file(set: Set, rows: &[u16], out: &mut [u8]) -> Written
 // How many octets the file of a sound set has.
 fn file_size(set: Set, rows: &[u16]) -> usize
     requires { ⌜ setSound set (now rows) ≡ true ⌝ }
-    ensures { λ r. ⌜ (r ≡ totalOf 2 set (now (rows .entry))) × (r ≤ 101093) ⌝ }
+    ensures { λ r. ⌜ (r ≡ totalOf 3 set (now (rows .entry))) × (r ≤ 101109) ⌝ }
 {
     let held = set.ports;
     let kept = set.tables;
@@ -72,7 +72,7 @@ fn file_size(set: Set, rows: &[u16]) -> usize
 // How many octets the first n ports have.
 fn ports_size(ports: [Port; MAX_PORTS], n: usize) -> usize
     requires { ⌜ n ≤ 16 ⌝ }
-    ensures { λ r. ⌜ (r ≡ length (flat portOctets (take n ports))) × (r ≤ n * 2984) ⌝ }
+    ensures { λ r. ⌜ (r ≡ length (flat portOctets (take n ports))) × (r ≤ n * 2985) ⌝ }
 {
     let mut size: usize = 0;
     let mut i: usize = 0;
@@ -117,15 +117,15 @@ fn tables_size(tables: [Renumbering; MAX_TABLES], n: usize, rows: &[u16]) -> usi
 
 // The fields of a file whose set is sound and for which there is room.
 fn write_fields(set: Set, rows: &[u16], total: usize, out: &mut [u8])
-    requires { ⌜ (setSound set (now rows) ≡ true) × (total ≡ totalOf 2 set (now rows)) × (total ≤ 61440) × (total ≤ length (now out)) ⌝ }
-    ensures { λ _. ⌜ now (out .exit) ≡ paint 0 (fileOctets 2 set (now (rows .entry))) (now (out .entry)) ⌝ }
+    requires { ⌜ (setSound set (now rows) ≡ true) × (total ≡ totalOf 3 set (now rows)) × (total ≤ 61440) × (total ≤ length (now out)) ⌝ }
+    ensures { λ _. ⌜ now (out .exit) ≡ paint 0 (fileOctets 3 set (now (rows .entry))) (now (out .entry)) ⌝ }
 {
     let held = set.ports;
     let kept = set.tables;
     let n = set.portcount;
     let m = set.tablecount;
     let version = write_two(&mut out[..], 0, total as u32);
-    let count = write_octet(&mut out[..], version, 2);
+    let count = write_octet(&mut out[..], version, 3);
     let first = write_octet(&mut out[..], count, n as u32);
     let ports = write_ports(held, n, &mut out[..], first);
     let tables = write_octet(&mut out[..], ports, m as u32);

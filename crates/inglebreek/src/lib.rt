@@ -9,11 +9,9 @@ pub use renumber::Renumbered;
 pub use renumber::renumber;
 pub use renumber_join::Joined;
 pub use renumber_join::join;
-pub use renumber_reverse::Head;
 pub use renumber_reverse::Reversed;
 pub use renumber_reverse::reverse;
 pub use renumber_reverse::reverse_levels;
-pub use renumber_reverse::reverse_rows;
 
 // Option 134 (document 01, "Option and tags"): one option read, and the shortest of a label written.
 pub use option::Spellings;
@@ -28,16 +26,20 @@ pub use basic::BasicWriting;
 pub use basic::read_basic;
 pub use basic::write_basic;
 
-// Records (document 01, "Records"): ports, hosts and tables, and whether they are sound.
+// Records (document 01, "Records"; document 02, Wish 8): ports, hosts and tables with the rows that are lent for them, and whether they are sound.
 pub use basic::Basic;
 pub use basic::Way;
 pub use port::Host;
 pub use port::Port;
 pub use port::host_sound;
 pub use port::port_sound;
+pub use table::Renumbering;
 pub use table::Row;
 pub use table::Table;
+pub use table::row_at;
+pub use table::rows_sound;
 pub use table::table_sound;
+pub use table_levels::LevelPair;
 pub use table_levels::Levels;
 
 // The decision (document 01, "The order of checks"): a datagram delivered to a host, and forwarded from port to port.
@@ -50,15 +52,18 @@ pub use forward::forward;
 pub use route::Route;
 pub use route_decide::decide;
 pub use table_choose::Tables;
+pub use table_choose::tables_sound;
 
-// The house file (document 02, Wish 1): read and written.
+// The house file (document 02, Wishes 1 and 8): read and written.
+pub use file_read::ACCEPTED;
 pub use file_read::FileRead;
+pub use file_read::OUTGROWN;
+pub use file_read::REFUSED;
+pub use file_read::UNKNOWN;
 pub use file_read::read_file;
 pub use file_set::Set;
 pub use file_set::empty_set;
 pub use file_set::set_sound;
-pub use file_table::LevelPair;
-pub use file_table::Renumbering;
 pub use file_write::Written;
 pub use file_write::write_file;
 

@@ -47,7 +47,7 @@ module _ {M : Type 1} {𝓤 : URA M} {H : Heap 𝓤} {A : Atoms 𝓤} {K : Type 
 
 -- how many octets a port takes in a list
 abbrev pub size : ℕ
-size = 3072
+size = 3080
 
 pub lies : (o i : ℕ) → i * size + o ≡ place size o i
 lies o i = sym (place-is size o i)

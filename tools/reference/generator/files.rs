@@ -798,6 +798,12 @@ pub fn set_unsound(random: &mut Random, turn: usize, _number: u8) -> Made {
         },
         // Counts that the short form of a table cannot have.
         10 if round % 2 == 0 => set.tables[table].level_count = random.pick(&[256, 257, 258, 272, 65_535]),
+        10 if round % 4 == 3 => {
+            let mut kept: Vec<TableRecord> = set.tables[..tables].to_vec();
+            hand_on_row(random, &mut kept);
+            set.table_count = kept.len() as u8;
+            set.tables[..kept.len()].clone_from_slice(&kept);
+        }
         10 => {
             set.tables[table] = any_long_table(random, round);
             break_long_table(random, &mut set.tables[table], turn / 36);

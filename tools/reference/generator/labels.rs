@@ -165,11 +165,11 @@ fn scattered(which: usize) -> (HeldLabel, TableRecord) {
     let mut table = TableRecord { from: 5, to: 9, level_count: 3, row_count: 64, ..TableRecord::ALL_ZERO };
     table.levels[..3].copy_from_slice(&[[1, 2], [3, 4], [5, 6]]);
     let wide: u32 = if which == 0 { 8 } else { 1024 };
-    for (i, row) in (0u32..).zip(table.rows.iter_mut().take(64)) {
+    for i in 0u32..64 {
         let low = i * wide;
         let high = (low + wide - 1).min(65_534);
         let target = if which == 0 { 504 - 8 * i } else { 64_511u32.saturating_sub(1024 * i) };
-        *row = Row { low: low as u16, high: high as u16, target_low: target as u16 };
+        table.rows.push(Row { low: low as u16, high: high as u16, target_low: target as u16 });
     }
     let runs: Vec<Run> = match which {
         0 => (0..120).map(|k| Run { low: 4 * k, high: 4 * k + 1 }).collect(),

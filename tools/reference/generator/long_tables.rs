@@ -207,9 +207,30 @@ pub fn long_box_unsound(random: &mut Random, turn: usize, _number: u8) -> Made {
         tables.truncate(7);
         tables.push(small_table(random));
     }
+    if turn % 7 == 5 {
+        hand_on_row(random, tables);
+        return Made::Case(Case::InBox(Box::new(case)));
+    }
     let index = random.below(tables.len());
     spoil_long(random, &mut tables[index], turn);
     Made::Case(Case::InBox(Box::new(case)))
+}
+
+/// Each of two neighbours lends not as many rows as it counts, and both together as many as both count: the second lends what the first
+/// lacks, or the first what the second lacks. All rows one after the other would be those of two sound tables.
+pub fn hand_on_row(random: &mut Random, tables: &mut Vec<TableRecord>) {
+    while tables.len() < 2 {
+        tables.push(small_table(random));
+    }
+    let first = random.below(tables.len() - 1);
+    let (lacks, has, at_end) = if random.chance(1, 2) { (first, first + 1, false) } else { (first + 1, first, true) };
+    if tables[lacks].rows.is_empty() {
+        lengthen(random, &mut tables[lacks], 2, 2, Order::Ascending);
+    }
+    let last = tables[lacks].rows.len() - 1;
+    let row = tables[lacks].rows.remove(if at_end { 0 } else { last });
+    let place = if at_end { tables[has].rows.len() } else { 0 };
+    tables[has].rows.insert(place, row);
 }
 
 /// A box with long tables: the one that is read, or others.
@@ -272,7 +293,7 @@ pub fn long_unsound(random: &mut Random, turn: usize, _number: u8) -> Made {
         _ => break_long_table(random, &mut table, turn / 8 * 6 + turn % 8),
     }
     // 2 comes before 16.
-    if turn % 5 == 0 {
+    if turn % 5 == 0 && table.from != 0 {
         table.from = table.from.wrapping_add(1);
     }
     Made::Case(Case::RenumberWide(label, table))

@@ -17,12 +17,12 @@ use Rattle.case_lines.proofs.put_pairs.Lts as lts
 use Rattle.case_lines.proofs.put_levels.Reads as put-levels-reads
 
 abbrev Inv-loop : tie.InvT-loop
-Inv-loop out₀ n count levels k₀ i₀ out k i = (length out ≡ length out₀) × (i ≤ 16) × (i ≤ count) × Puts out₀ n (pairsWords (take i levels)) out k
+Inv-loop out₀ n count levels k₀ i₀ out k i = (length out ≡ length out₀) × (i ≤ 256) × (i ≤ count) × Puts out₀ n (pairsWords (take i levels)) out k
 
 abbrev μ-loop : tie.MeasureT-loop
-μ-loop out₀ n count levels k₀ i₀ out k i = 16 - i
+μ-loop out₀ n count levels k₀ i₀ out k i = 256 - i
 
-sized : (s : tie.Start Inv-loop μ-loop) → length (s .args .t3) ≡ 16
+sized : (s : tie.Start Inv-loop μ-loop) → length (s .args .t3) ≡ 256
 sized s = search needs
 
 loop-holds : tie.Need-loop-holds Inv-loop μ-loop
@@ -37,7 +37,7 @@ returns c =
     let l = c .before .before in
     let s = l .before .before in
     let levels = s .args .t3 in
-    let n : length levels ≡ 16 = sized s in
+    let n : length levels ≡ 256 = sized s in
     let all : take (l .loop .i) levels ≡ take (s .args .count) levels = take-all (l .loop .i) levels (omega arith) ∙ sym (take-all (s .args .count) levels (omega arith)) in
     rw all at (l .loop .inv .3)
 
@@ -67,7 +67,7 @@ loop-again c =
     let put = c .before .before in
     let l = put .before .before .before .before .before in
     let s = l .before .before in
-    let n : length (s .args .t3) ≡ 16 = sized s in
+    let n : length (s .args .t3) ≡ 256 = sized s in
     let h : l .loop .i < length (s .args .t3) = omega arith in
     (search needs, omega arith, omega arith, rw (each-more pairWords (s .args .t3) (l .loop .i) [] h) (puts-then (l .loop .inv .3) (put .put-levels .ensures)))
 

@@ -33,6 +33,7 @@ returns c = (
       (then-told (c .before .before .before .before .before .before .before .before .before .before .read-spellings .ensures)
       (then-told (flag-told (c .before .before .before .before .before .before .before .before .before .read-octet2 .ensures .0) refl) (c .before .before .before .before .before .read-given .ensures))))),
   refl,
+  refl,
 )
 
 pub read-later-spec : {M : Type 1} → statement M

@@ -1,6 +1,6 @@
 -- `file_port::read_port` meets its contract.
 use borrow.Author.Needs.{needs}
-use Rattle.file_port.proofs.LabelLaws.{port-first, port-second}
+use Rattle.file_port.proofs.LabelLaws.{port-first, port-second, port-third}
 use Rattle.file_port.proofs.read_port.Statement.{statement}
 use Rattle.file_port.proofs.read_port.Tie as tie
 
@@ -25,9 +25,34 @@ zero-unless-read-requires-2 c κs = search needs
 returns-2 : tie.Need-returns-2
 returns-2 c =
     let z = c .zero-unless-read2 .ensures in
-    let r = c .before .before .before .read-plain in
-    let l = c .before .read-later in
-    port-second (r .result .port) (c .before .before .before .before .before .args .version) (r .ensures .0) (c .before .before .if1 .left) (l .ensures .0) (l .ensures .1) (z .0) (z .1) (z .2)
+    let r = c .before .before .before .before .read-plain in
+    let l = c .before .before .read-later in
+    port-second (r .result .port) (c .before .before .before .before .before .before .args .version) (r .ensures .0) (c .before .before .before .if1 .left) (c .before .if2 .taken) (l .ensures .0) (l .ensures .1) (l .ensures .2) (z .0) (z .1) (z .2)
+
+read-strict-requires : tie.Need-read-strict-requires
+read-strict-requires c κs = search needs
+
+zero-unless-read-requires-3 : tie.Need-zero-unless-read-requires-3
+zero-unless-read-requires-3 c κs = search needs
+
+returns-3 : tie.Need-returns-3
+returns-3 c =
+    let z = c .zero-unless-read3 .ensures in
+    let r = c .before .before .before .before .before .read-plain in
+    let l = c .before .before .before .read-later in
+    let f = c .before .read-strict in
+    port-third (r .result .port) (l .result .port) (f .result .port) (c .before .before .before .before .before .before .before .args .version) (r .ensures .0) (c .before .before .if2 .left) (l .ensures .0) (l .ensures .1) (f .ensures .0) (f .ensures .1) (f .ensures .2) (z .0) (z .1) (z .2)
 
 pub read-port-spec : {M : Type 1} → statement M
-read-port-spec = tie.close (tie.spec read-plain-requires zero-unless-read-requires returns read-later-requires zero-unless-read-requires-2 returns-2)
+read-port-spec =
+    tie.close
+    (tie.spec
+    read-plain-requires
+    zero-unless-read-requires
+    returns
+    read-later-requires
+    zero-unless-read-requires-2
+    returns-2
+    read-strict-requires
+    zero-unless-read-requires-3
+    returns-3)

@@ -2,8 +2,8 @@
 use borrow.Author.Needs.{needs}
 use mathlib.Core.Path.{sym}
 use Rattle.file_format.specs.Format.{octets}
-use Rattle.file_format.proofs.Writing.{stops-short, goes-on, writes-then}
-use Rattle.file_port.specs.PortFormat.{secondPort, portFormat}
+use Rattle.file_format.proofs.Writing.{stops-short, goes-on, room-wrote, writes-then}
+use Rattle.file_port.specs.PortFormat.{thirdPort, portFormat}
 use Rattle.file_port.proofs.write_port.Statement.{statement}
 use Rattle.file_port.proofs.write_port.Tie as tie
 
@@ -23,14 +23,24 @@ write-plain-requires c κs = search needs
 write-later-requires : tie.Need-write-later-requires
 write-later-requires c κs = search needs
 
+flag-of-requires : tie.Need-flag-of-requires
+flag-of-requires c κs = search needs
+
+write-octet-requires : tie.Need-write-octet-requires
+write-octet-requires c κs = search needs
+
 same-length : tie.Need-same-length
 same-length c = search needs
 
 returns-2 : tie.Need-returns-2
-unfolding octets portFormat secondPort
+unfolding octets portFormat thirdPort
 returns-2 c =
-    goes-on (c .before .before .before .before .before .before .before .before .before .has-room .result) (c .before .before .before .before .before .before .before .before .before .before .port-size .result) (c .before .before .before .before .before .before .before .before .before .has-room .ensures) (sym (c .before .before .before .before .before .before .before .before .before .before .port-size .ensures .0)) (c .before .before .before .before .before .before .before .before .if1 .left)
-    (writes-then (c .before .before .before .before .before .before .write-plain .ensures) (c .before .before .write-later .ensures))
+    let o = c .before .before in
+    let l = o .before .before .before .before .before in
+    let p = l .before .before .before .before in
+    let e = p .before .before in
+    goes-on (e .before .has-room .result) (e .before .before .port-size .result) (e .before .has-room .ensures) (sym (e .before .before .port-size .ensures .0)) (e .if1 .left)
+    (writes-then (p .write-plain .ensures) (writes-then (l .write-later .ensures) (room-wrote (rw (o .before .flag-of .ensures .0) at (o .write-octet .ensures)))))
 
 pub write-port-spec : {M : Type 1} → statement M
 write-port-spec =
@@ -41,5 +51,7 @@ write-port-spec =
     returns
     write-plain-requires
     write-later-requires
+    flag-of-requires
+    write-octet-requires
     same-length
     returns-2)

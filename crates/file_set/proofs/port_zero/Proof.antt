@@ -26,7 +26,7 @@ is-zero-requires-4 c κs = search needs
 returns : tie.Need-returns
 unfolding zeroPort
 returns c =
-    let unset = c .before .before .before in
+    let unset = c .before .before .before .before in
     let some = unset .before .before in
     let off = some .before .before in
     let given = off .before .before in

@@ -13,7 +13,7 @@ use Rattle.file_write.proofs.ports_size.Statement.{statement}
 use Rattle.file_write.proofs.ports_size.Tie as tie
 
 abbrev Inv-loop : tie.InvT-loop
-Inv-loop n ports size₀ i₀ size i = (i ≤ n) × (size ≡ length (flat portOctets (take i ports))) × (size ≤ i * 2984)
+Inv-loop n ports size₀ i₀ size i = (i ≤ n) × (size ≡ length (flat portOctets (take i ports))) × (size ≤ i * 2985)
 
 abbrev μ-loop : tie.MeasureT-loop
 μ-loop n ports size₀ i₀ size i = n - i

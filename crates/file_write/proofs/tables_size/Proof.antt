@@ -1,6 +1,7 @@
 -- `file_write::tables_size` meets its contract.
 use borrow.Author.Needs.{needs}
 use native.Mathlib.Omega.{arith}
+use native.Mathlib.Nat.{zero-add}
 use Prim.Native.Nat.{ℕ, _+_, _-_, _*_, _≤_, _<_}
 use mathlib.Core.Bool.{true, false}
 use mathlib.Core.List.{List, [], _++_, append-assoc, append-nil}
@@ -29,7 +30,7 @@ sized : (c : tie.Start Inv-loop μ-loop) → length (c .args .t1) ≡ 8
 sized c = search (length-mapped, needs)
 
 loop-holds : tie.Need-loop-holds Inv-loop μ-loop
-loop-holds c = (omega arith, omega arith, refl, omega arith)
+loop-holds c = (omega arith, omega arith, sym (zero-add _), omega arith)
 
 mul-renumbering : tie.Need-mul-renumbering Inv-loop μ-loop
 mul-renumbering c = search needs

@@ -30,17 +30,17 @@ returns-2 : tie.Need-returns-2
 unfolding writtenOf fileOutput
 returns-2 c =
     let e : setSound (c .before .before .before .before .before .before .args .set) (c .before .before .before .before .before .before .args .rows .now) ≡ true = sym (c .before .before .before .set-sound .ensures) ∙ not-false _ (c .before .before .if1 .left) in
-    let t : ℕ = totalOf 2 (c .before .before .before .before .before .before .args .set) (c .before .before .before .before .before .before .args .rows .now) in
-    let h : leb (totalOf 2 (c .before .before .before .before .before .before .args .set) (c .before .before .before .before .before .before .args .rows .now)) 61440 ≡ false = lt-leb t 61440 (omega (arith, c .before .file-size .ensures .0)) in
+    let t : ℕ = totalOf 3 (c .before .before .before .before .before .before .args .set) (c .before .before .before .before .before .before .args .rows .now) in
+    let h : leb (totalOf 3 (c .before .before .before .before .before .before .args .set) (c .before .before .before .before .before .before .args .rows .now)) 61440 ≡ false = lt-leb t 61440 (omega (arith, c .before .file-size .ensures .0)) in
     rw (e, h) (refl, refl)
 
 returns-3 : tie.Need-returns-3
 unfolding writtenOf fileOutput
 returns-3 c =
     let e : setSound (c .before .before .before .before .before .before .before .args .set) (c .before .before .before .before .before .before .before .args .rows .now) ≡ true = sym (c .before .before .before .before .set-sound .ensures) ∙ not-false _ (c .before .before .before .if1 .left) in
-    let t : ℕ = totalOf 2 (c .before .before .before .before .before .before .before .args .set) (c .before .before .before .before .before .before .before .args .rows .now) in
-    let k : leb (totalOf 2 (c .before .before .before .before .before .before .before .args .set) (c .before .before .before .before .before .before .before .args .rows .now)) 61440 ≡ true = le-leb t 61440 (omega (arith, c .before .before .file-size .ensures .0)) in
-    let h : leb (totalOf 2 (c .before .before .before .before .before .before .before .args .set) (c .before .before .before .before .before .before .before .args .rows .now)) (length (c .before .before .before .before .before .before .before .args .out .now)) ≡ false = lt-leb t (length (c .before .before .before .before .before .before .before .args .out .now)) (omega (arith, c .before .before .file-size .ensures .0)) in
+    let t : ℕ = totalOf 3 (c .before .before .before .before .before .before .before .args .set) (c .before .before .before .before .before .before .before .args .rows .now) in
+    let k : leb (totalOf 3 (c .before .before .before .before .before .before .before .args .set) (c .before .before .before .before .before .before .before .args .rows .now)) 61440 ≡ true = le-leb t 61440 (omega (arith, c .before .before .file-size .ensures .0)) in
+    let h : leb (totalOf 3 (c .before .before .before .before .before .before .before .args .set) (c .before .before .before .before .before .before .before .args .rows .now)) (length (c .before .before .before .before .before .before .before .args .out .now)) ≡ false = lt-leb t (length (c .before .before .before .before .before .before .before .args .out .now)) (omega (arith, c .before .before .file-size .ensures .0)) in
     rw (e, k, h) (refl, refl)
 
 write-fields-requires : tie.Need-write-fields-requires
@@ -54,10 +54,10 @@ returns-4 : tie.Need-returns-4
 unfolding writtenOf fileOutput
 returns-4 c =
     let e : setSound (c .before .before .before .before .before .before .before .before .before .before .before .args .set) (c .before .before .before .before .before .before .before .before .before .before .before .args .rows .now) ≡ true = sym (c .before .before .before .before .before .before .before .before .set-sound .ensures) ∙ not-false _ (c .before .before .before .before .before .before .before .if1 .left) in
-    let t : ℕ = totalOf 2 (c .before .before .before .before .before .before .before .before .before .before .before .args .set) (c .before .before .before .before .before .before .before .before .before .before .before .args .rows .now) in
+    let t : ℕ = totalOf 3 (c .before .before .before .before .before .before .before .before .before .before .before .args .set) (c .before .before .before .before .before .before .before .before .before .before .before .args .rows .now) in
     let z = c .before .before .before .before .before .before .file-size .ensures .0 in
-    let k : leb (totalOf 2 (c .before .before .before .before .before .before .before .before .before .before .before .args .set) (c .before .before .before .before .before .before .before .before .before .before .before .args .rows .now)) 61440 ≡ true = le-leb t 61440 (omega (arith, z)) in
-    let h : leb (totalOf 2 (c .before .before .before .before .before .before .before .before .before .before .before .args .set) (c .before .before .before .before .before .before .before .before .before .before .before .args .rows .now)) (length (c .before .before .before .before .before .before .before .before .before .before .before .args .out .now)) ≡ true = le-leb t (length (c .before .before .before .before .before .before .before .before .before .before .before .args .out .now)) (omega (arith, z)) in
+    let k : leb (totalOf 3 (c .before .before .before .before .before .before .before .before .before .before .before .args .set) (c .before .before .before .before .before .before .before .before .before .before .before .args .rows .now)) 61440 ≡ true = le-leb t 61440 (omega (arith, z)) in
+    let h : leb (totalOf 3 (c .before .before .before .before .before .before .before .before .before .before .before .args .set) (c .before .before .before .before .before .before .before .before .before .before .before .args .rows .now)) (length (c .before .before .before .before .before .before .before .before .before .before .before .args .out .now)) ≡ true = le-leb t (length (c .before .before .before .before .before .before .before .before .before .before .before .args .out .now)) (omega (arith, z)) in
     rw (e, k, h) (ap Done z, c .before .before .write-fields .ensures)
 
 pub write-file-spec : {M : Type 1} → statement M

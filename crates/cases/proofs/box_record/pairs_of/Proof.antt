@@ -5,10 +5,10 @@ use Rattle.cases.proofs.box_record.pairs_of.Statement.{statement}
 use Rattle.cases.proofs.box_record.pairs_of.Tie as tie
 
 abbrev Inv-loop : tie.InvT-loop
-Inv-loop levels pairs₀ i₀ pairs i = i ≤ 16
+Inv-loop levels pairs₀ i₀ pairs i = i ≤ 256
 
 abbrev μ-loop : tie.MeasureT-loop
-μ-loop levels pairs₀ i₀ pairs i = 16 - i
+μ-loop levels pairs₀ i₀ pairs i = 256 - i
 
 loop-holds : tie.Need-loop-holds Inv-loop μ-loop
 loop-holds c = search needs

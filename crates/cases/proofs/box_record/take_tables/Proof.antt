@@ -1,14 +1,16 @@
 -- `cases::take_tables` meets its contract.
-use borrow.Author.Needs.{needs}
+use mathlib.Core.Path.{_≡_}
 use Prim.Native.Nat.{_≤_, _-_}
+use lib.ListN.{length}
+use borrow.Author.Needs.{needs}
 use Rattle.cases.proofs.box_record.take_tables.Statement.{statement}
 use Rattle.cases.proofs.box_record.take_tables.Tie as tie
 
 abbrev Inv-loop : tie.InvT-loop
-Inv-loop case at n items₀ next₀ i₀ items next i = (i ≤ 8) × (n ≤ 8)
+Inv-loop case at rows₀ n items₀ fits₀ place₀ next₀ i₀ rows items fits place next i = (length rows ≡ length rows₀) × (i ≤ 8) × (n ≤ 8)
 
 abbrev μ-loop : tie.MeasureT-loop
-μ-loop case at n items₀ next₀ i₀ items next i = 8 - i
+μ-loop case at rows₀ n items₀ fits₀ place₀ next₀ i₀ rows items fits place next i = 8 - i
 
 take-stored-requires : tie.Need-take-stored-requires Inv-loop μ-loop
 take-stored-requires c κs = search needs
@@ -24,6 +26,9 @@ loop-holds c = search needs
 
 take-wide-table-requires : tie.Need-take-wide-table-requires Inv-loop μ-loop
 take-wide-table-requires c κs = search needs
+
+is-apart-requires : tie.Need-is-apart-requires Inv-loop μ-loop
+is-apart-requires c κs = search needs
 
 levels-at-requires : tie.Need-levels-at-requires Inv-loop μ-loop
 levels-at-requires c κs = search needs
@@ -46,6 +51,9 @@ loop-less c = search needs
 loop-again : tie.Need-loop-again Inv-loop μ-loop
 loop-again c = search needs
 
+same-length : tie.Need-same-length Inv-loop μ-loop
+same-length c = search needs
+
 returns : tie.Need-returns Inv-loop μ-loop
 returns c = search needs
 
@@ -60,6 +68,7 @@ take-tables-spec =
     empty-table-requires
     loop-holds
     take-wide-table-requires
+    is-apart-requires
     levels-at-requires
     pairs-of-requires
     mul-items
@@ -67,4 +76,5 @@ take-tables-spec =
     add-i
     loop-less
     loop-again
+    same-length
     returns)

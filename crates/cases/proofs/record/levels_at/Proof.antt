@@ -5,10 +5,10 @@ use Rattle.cases.proofs.record.levels_at.Statement.{statement}
 use Rattle.cases.proofs.record.levels_at.Tie as tie
 
 abbrev Inv-loop : tie.InvT-loop
-Inv-loop case from stored levels₀ at₀ i₀ levels at i = i ≤ 16
+Inv-loop case from stored levels₀ at₀ i₀ levels at i = i ≤ 256
 
 abbrev μ-loop : tie.MeasureT-loop
-μ-loop case from stored levels₀ at₀ i₀ levels at i = 16 - i
+μ-loop case from stored levels₀ at₀ i₀ levels at i = 256 - i
 
 loop-holds : tie.Need-loop-holds Inv-loop μ-loop
 loop-holds c = search needs

@@ -33,7 +33,7 @@ use denote.Memory.{cellAt, partAt, partOf, shares, mem as memOf, pointee}
 use denote.Array.{Array, array-vals, array-tells, array-lawful}
 use denote.ArrayMemory.{array-apart, array-whole}
 use denote.Lend.{LentShrs, lends-shr-slice}
-use denote.Builtin.{u8, u32, usize}
+use denote.Builtin.{u8, u16, u32, usize}
 use denote.Ref.{RefT, now}
 use denote.Signature.{plain, shrSliceOf}
 use denote.Signature.Array.{arrayOf}
@@ -75,7 +75,7 @@ use Rattle.cases.proofs.routing_entries.decide_first.Statement as state
 use Rattle.cases.proofs.routing_entries.decide_first.Code as code
 
 abbrev stayed : Stays (lends.ended .signature .params) (lends.ended .kept)
-stayed = (stay-dropped _ yes, (stay-dropped _ yes, (stay-dropped _ yes, (stay-dropped _ yes, (stay-dropped _ yes, (stay-dropped _ yes, (stay-dropped _ yes, (stay-dropped _ yes, (gave-slice (2 ∷ []) tt (plain (λ _. u8)), tt)))))))))
+stayed = (stay-dropped _ yes, (stay-dropped _ yes, (stay-dropped _ yes, (stay-dropped _ yes, (stay-dropped _ yes, (stay-dropped _ yes, (stay-dropped _ yes, (stay-dropped _ yes, (stay-dropped _ yes, (gave-slice (3 ∷ []) tt (plain (λ _. u8)), tt))))))))))
 
 abbrev Many : RattleType
 Many = Array Row 64
@@ -101,6 +101,7 @@ facts-vals f = LL.vals F.the-type F′.the-laws f
 -- what is passed beside the ports
 pub record Inputs : Type 0 where
   pub tables : Tables
+  pub rows : Octets
   pub routes : Octets
   pub arriving : ℕ
   pub destination : ℕ
@@ -165,64 +166,67 @@ module _ {M : Type 1} (𝓤 : URA M) (H : Heap 𝓤) (A : Atoms 𝓤) (W : Given
   abbrev Decides : Contract 𝓤
   Decides = tripleOf 𝓤 H A decide.signature (decide.spec 𝓤 H A mem run)
 
-  module _ (κ₀ κ₁ κ₂ κ₃ : Lft) (q₁ q₂ q₃ : Share) (x : Slice) (s : Inputs) (g : Given′ s) where
-    abbrev args : Slice × (Tables × (Octets × (ℕ × (ℕ × (Facts × (Octets × (Octets × Unit {0})))))))
-    args = (x, (s .tables, (s .routes, (s .arriving, (s .destination, (s .facts, (s .area, (s .out, tt))))))))
+  module _ (κ₀ κ₁ κ₂ κ₃ κ₄ : Lft) (q₁ q₂ q₃ q₄ : Share) (x : Slice) (s : Inputs) (g : Given′ s) where
+    abbrev args : Slice × (Tables × (Octets × (Octets × (ℕ × (ℕ × (Facts × (Octets × (Octets × Unit {0}))))))))
+    args = (x, (s .tables, (s .rows, (s .routes, (s .arriving, (s .destination, (s .facts, (s .area, (s .out, tt)))))))))
 
-    abbrev arg-vals : Vals decide.signature (κ₀, (κ₁, (κ₂, (κ₃, tt))))
-    arg-vals = (low x ∷ [], (tables-vals (s .tables), (lent (s .routes) ∷ [], (vint w64 (s .arriving) ∷ [], (vint w32 (s .destination) ∷ [], (facts-vals (s .facts), (lent (s .area) ∷ [], (lent (s .out) ∷ [], tt))))))))
+    abbrev arg-vals : Vals decide.signature (κ₀, (κ₁, (κ₂, (κ₃, (κ₄, tt)))))
+    arg-vals = (low x ∷ [], (tables-vals (s .tables), (lent (s .rows) ∷ [], (lent (s .routes) ∷ [], (vint w64 (s .arriving) ∷ [], (vint w32 (s .destination) ∷ [], (facts-vals (s .facts), (lent (s .area) ∷ [], (lent (s .out) ∷ [], tt)))))))))
 
     abbrev to : Decides .Ghost
-    to = (((κ₀, (κ₁, (κ₂, (κ₃, tt)))), (fullShare, (q₁, (q₂, (q₃, tt)))), tt, args, arg-vals), tt)
+    to = (((κ₀, (κ₁, (κ₂, (κ₃, (κ₄, tt))))), (fullShare, (q₁, (q₂, (q₃, (q₄, tt))))), tt, args, arg-vals), tt)
+
+    abbrev Rows : Fml
+    Rows = ShrSlice (named 1) κ₁ u16 .own (s .rows) (lent (s .rows) ∷ [])
 
     abbrev Routes : Fml
-    Routes = ShrSlice (named 1) κ₁ u32 .own (s .routes) (lent (s .routes) ∷ [])
+    Routes = ShrSlice (named 2) κ₂ u32 .own (s .routes) (lent (s .routes) ∷ [])
 
     abbrev Area : Fml
-    Area = ShrSlice (named 2) κ₂ u8 .own (s .area) (lent (s .area) ∷ [])
+    Area = ShrSlice (named 3) κ₃ u8 .own (s .area) (lent (s .area) ∷ [])
 
     abbrev Out : Fml
-    Out = MutSlice (named 3) κ₃ u8 .own (s .out) (lent (s .out) ∷ [])
+    Out = MutSlice (named 4) κ₄ u8 .own (s .out) (lent (s .out) ∷ [])
 
-    asked : ent 𝓤 (onEntry 𝓤 H A decide.signature (κ₀, (κ₁, (κ₂, (κ₃, tt)))) (fullShare, (q₁, (q₂, (q₃, tt)))) args arg-vals) (Decides .pre to)
+    asked : ent 𝓤 (onEntry 𝓤 H A decide.signature (κ₀, (κ₁, (κ₂, (κ₃, (κ₄, tt))))) (fullShare, (q₁, (q₂, (q₃, (q₄, tt))))) args arg-vals) (Decides .pre to)
     asked =
-        qed W ((‵ (flft κ₀ fullShare) ⊛ (‵ (flft κ₁ q₁) ⊛ (‵ (flft κ₂ q₂) ⊛ (‵ (flft κ₃ q₃) ⊛ ‵ ftrue))))
-        ∷ ‵ (owns (ShrSlice (named 0) κ₀ Row ∷ B.the-row ∷ ShrSlice (named 1) κ₁ u32 ∷ usize ∷ u32 ∷ F.the-row ∷ ShrSlice (named 2) κ₂ u8 ∷ MutSlice (named 3) κ₃ u8 ∷ []) args arg-vals) ∷ []) ∵ join ! $ frame ! $ done !
+        qed W ((‵ (flft κ₀ fullShare) ⊛ (‵ (flft κ₁ q₁) ⊛ (‵ (flft κ₂ q₂) ⊛ (‵ (flft κ₃ q₃) ⊛ (‵ (flft κ₄ q₄) ⊛ ‵ ftrue)))))
+        ∷ ‵ (owns (ShrSlice (named 0) κ₀ Row ∷ B.the-row ∷ ShrSlice (named 1) κ₁ u16 ∷ ShrSlice (named 2) κ₂ u32 ∷ usize ∷ u32 ∷ F.the-row ∷ ShrSlice (named 3) κ₃ u8 ∷ MutSlice (named 4) κ₄ u8 ∷ []) args arg-vals) ∷ []) ∵ join ! $ frame ! $ done !
 
     -- the slices and the tokens are in hand, and the rest is made
     abbrev Tokens : Item 𝓤
-    Tokens = ‵ (flft κ₁ q₁) ⊛ (‵ (flft κ₂ q₂) ⊛ (‵ (flft κ₃ q₃) ⊛ ‵ ftrue))
+    Tokens = ‵ (flft κ₁ q₁) ⊛ (‵ (flft κ₂ q₂) ⊛ (‵ (flft κ₃ q₃) ⊛ (‵ (flft κ₄ q₄) ⊛ ‵ ftrue)))
 
     abbrev InHand : Item 𝓤
-    InHand = (((‵ (Held κ₀ x) ⊛ ‵ Routes) ⊛ ‵ Area) ⊛ ‵ Out) ⊛ ‵ (flft κ₀ fullShare)
+    InHand = ((((‵ (Held κ₀ x) ⊛ ‵ Rows) ⊛ ‵ Routes) ⊛ ‵ Area) ⊛ ‵ Out) ⊛ ‵ (flft κ₀ fullShare)
 
     goes : ent 𝓤 (sep 𝓤 (mean 𝓤 H A InHand) (mean 𝓤 H A Tokens)) (Decides .pre to)
     goes =
-        qed W (InHand ∷ Tokens ∷ []) ∵ split ! $ split ! $ split ! $ split ! $
-        -- [the ports; the routes; the area; out; κ₀'s token; the tokens]
-        nothing ! $ move ! (4 ∷ 0 ∷ []) $ fjoin ! $ move ! (3 ∷ 0 ∷ []) $ fjoin ! $
+        qed W (InHand ∷ Tokens ∷ []) ∵ split ! $ split ! $ split ! $ split ! $ split ! $
+        -- [the ports; the rows; the routes; the area; out; κ₀'s token; the tokens]
+        nothing ! $ move ! (5 ∷ 0 ∷ []) $ fjoin ! $ move ! (4 ∷ 0 ∷ []) $ fjoin ! $
         owned ! F.the-row (Is F.the-row) (LL.makes F.the-type F′.the-plain 𝓤 H A) (s .facts) _ (g .facts-are) $ fjoin ! $
         owned ! u32 (Is u32) (uint-makes 𝓤 H A W w32) (s .destination) _ (refl, g .fits) $ fjoin ! $
         owned ! usize (Is usize) (uint-makes 𝓤 H A W w64) (s .arriving) _ (refl, g .fits-arriving) $ fjoin ! $
-        move ! (2 ∷ 0 ∷ []) $ fjoin ! $
+        move ! (3 ∷ 0 ∷ []) $ fjoin ! $ move ! (2 ∷ 0 ∷ []) $ fjoin ! $
         owned ! B.the-row (Is B.the-row) (LL.makes B.the-type B′.the-plain 𝓤 H A) (s .tables) _ (g .tables-are) $ fjoin ! $
         move ! (1 ∷ 0 ∷ []) $ fjoin ! $
         -- [what the parameters own; κ₀'s token; the tokens]
         move ! (1 ∷ 2 ∷ []) $ join ! $ by ! asked
 
-module _ {M : Type 1} (𝓤 : URA M) (H : Heap 𝓤) (A : Atoms 𝓤) (W : Given 𝓤 H A) (mem : Memory → SProp 𝓤) (run : Routine → Fun 𝓤) (κ₁ κ₂ κ₃ : Lft) (q₁ q₂ q₃ : Share) (ys : List Port) (n : ℕ) (s : Inputs) (g : Given′ s) where
-  abbrev ins : List Port × (ℕ × (Tables × (Octets × (ℕ × (ℕ × (Facts × (Octets × (Octets × Unit {0}))))))))
-  ins = (ys, (n, (s .tables, (s .routes, (s .arriving, (s .destination, (s .facts, (s .area, (s .out, tt)))))))))
+module _ {M : Type 1} (𝓤 : URA M) (H : Heap 𝓤) (A : Atoms 𝓤) (W : Given 𝓤 H A) (mem : Memory → SProp 𝓤) (run : Routine → Fun 𝓤) (κ₁ κ₂ κ₃ κ₄ : Lft) (q₁ q₂ q₃ q₄ : Share) (ys : List Port) (n : ℕ) (s : Inputs) (g : Given′ s) where
+  abbrev ins : List Port × (ℕ × (Tables × (Octets × (Octets × (ℕ × (ℕ × (Facts × (Octets × (Octets × Unit {0})))))))))
+  ins = (ys, (n, (s .tables, (s .rows, (s .routes, (s .arriving, (s .destination, (s .facts, (s .area, (s .out, tt))))))))))
 
-  abbrev at : Vals lends.signature (κ₁, (κ₂, (κ₃, tt)))
-  at = (many-vals ys, (vint w64 n ∷ [], (tables-vals (s .tables), (lent (s .routes) ∷ [], (vint w64 (s .arriving) ∷ [], (vint w32 (s .destination) ∷ [], (facts-vals (s .facts), (lent (s .area) ∷ [], (lent (s .out) ∷ [], tt)))))))))
+  abbrev at : Vals lends.signature (κ₁, (κ₂, (κ₃, (κ₄, tt))))
+  at = (many-vals ys, (vint w64 n ∷ [], (tables-vals (s .tables), (lent (s .rows) ∷ [], (lent (s .routes) ∷ [], (vint w64 (s .arriving) ∷ [], (vint w32 (s .destination) ∷ [], (facts-vals (s .facts), (lent (s .area) ∷ [], (lent (s .out) ∷ [], tt))))))))))
 
   -- the machine values passed, one after the other
   abbrev flat-at : List Val
-  flat-at = only (many-vals ys) ∷ vint w64 n ∷ only (tables-vals (s .tables)) ∷ lent (s .routes) ∷ vint w64 (s .arriving) ∷ vint w32 (s .destination) ∷ only (facts-vals (s .facts)) ∷ lent (s .area) ∷ lent (s .out) ∷ []
+  flat-at = only (many-vals ys) ∷ vint w64 n ∷ only (tables-vals (s .tables)) ∷ lent (s .rows) ∷ lent (s .routes) ∷ vint w64 (s .arriving) ∷ vint w32 (s .destination) ∷ only (facts-vals (s .facts)) ∷ lent (s .area) ∷ lent (s .out) ∷ []
 
   abbrev bound : walkOf 𝓤 H A lends.ended stayed (lends.clauses 𝓤 H A mem run) .Ghost
-  bound = (((κ₁, (κ₂, (κ₃, tt))), (q₁, (q₂, (q₃, tt))), tt, ins, at), tt)
+  bound = (((κ₁, (κ₂, (κ₃, (κ₄, tt)))), (q₁, (q₂, (q₃, (q₄, tt)))), tt, ins, at), tt)
 
   abbrev Post : Val → SProp 𝓤
   Post = walkOf 𝓤 H A lends.ended stayed (lends.clauses 𝓤 H A mem run) .post bound
@@ -231,74 +235,74 @@ module _ {M : Type 1} (𝓤 : URA M) (H : Heap 𝓤) (A : Atoms 𝓤) (W : Given
   room = length (now (s .out))
 
   abbrev Decided : Decision → List ℕ → Type 0
-  Decided r zs = (r ≡ routingOf (routingFor (take n ys) (s .tables) (now (s .routes)) (s .arriving) (s .destination) (s .facts) (now (s .area)) room))
-      × (zs ≡ routedOutput (routingFor (take n ys) (s .tables) (now (s .routes)) (s .arriving) (s .destination) (s .facts) (now (s .area)) room) (now (s .out)))
+  Decided r zs = (r ≡ routingOf (routingFor (take n ys) (s .tables) (now (s .rows)) (now (s .routes)) (s .arriving) (s .destination) (s .facts) (now (s .area)) room))
+      × (zs ≡ routedOutput (routingFor (take n ys) (s .tables) (now (s .rows)) (now (s .routes)) (s .arriving) (s .destination) (s .facts) (now (s .area)) room) (now (s .out)))
 
   abbrev Left : Item 𝓤
-  Left = ‵ (flft κ₁ q₁) ⊛ (‵ (flft κ₂ q₂) ⊛ (‵ (flft κ₃ q₃) ⊛ ‵ ftrue))
+  Left = ‵ (flft κ₁ q₁) ⊛ (‵ (flft κ₂ q₂) ⊛ (‵ (flft κ₃ q₃) ⊛ (‵ (flft κ₄ q₄) ⊛ ‵ ftrue)))
 
   exits : (r : Decision) (v : Val) (zs : List ℕ) → Decided r zs → length zs ≡ room → ent 𝓤 (⋆ 𝓤 H A (Left ∷ ‵ (finally u8 (s .out .name) zs) ∷ ‵ (D.the-row .own r (v ∷ [])) ∷ [])) (Post v)
   exits r v zs e l =
       qed W (Left ∷ ‵ (finally u8 (s .out .name) zs) ∷ ‵ (D.the-row .own r (v ∷ [])) ∷ []) ∵
-      suffices ! _ (ends-at 𝓤 H A lends.ended stayed (lends.clauses 𝓤 H A mem run) W bound v r (tt, (tt, (tt, (tt, (tt, (tt, (tt, (tt, (zs, tt))))))))) (tt, (tt, (tt, (tt, (tt, (tt, (tt, (tt, (l, tt)))))))))) $ says ! e $
-      frame ! $ nothing ! $ move ! (1 ∷ 0 ∷ []) $ fjoin ! $ nothing ! $ fjoin ! $ nothing ! $ fjoin ! $ nothing ! $ fjoin ! $ nothing ! $ fjoin ! $ nothing ! $ fjoin ! $ nothing ! $ fjoin ! $ nothing ! $ fjoin ! $ nothing ! $ fjoin ! $ frame ! $ done !
+      suffices ! _ (ends-at 𝓤 H A lends.ended stayed (lends.clauses 𝓤 H A mem run) W bound v r (tt, (tt, (tt, (tt, (tt, (tt, (tt, (tt, (tt, (zs, tt)))))))))) (tt, (tt, (tt, (tt, (tt, (tt, (tt, (tt, (tt, (l, tt))))))))))) $ says ! e $
+      frame ! $ nothing ! $ move ! (1 ∷ 0 ∷ []) $ fjoin ! $ nothing ! $ fjoin ! $ nothing ! $ fjoin ! $ nothing ! $ fjoin ! $ nothing ! $ fjoin ! $ nothing ! $ fjoin ! $ nothing ! $ fjoin ! $ nothing ! $ fjoin ! $ nothing ! $ fjoin ! $ nothing ! $ fjoin ! $ frame ! $ done !
 
   module _ (C : Calls 𝓤 H) (Λ : Loops 𝓤 H) (fm : FmC 𝓤 H (W .laws) C) (known : Triple 𝓤 (C #route-decide·decide) (Decides 𝓤 H A W mem run)) (is : Is Many ys (many-vals ys)) (long : length ys ≡ 64) (some-of : length (take n ys) ≡ n)
-      (gx : Room Row (length (take n ys))) (gn : n < 2 ^ 64) (gr : Room u32 (length (now (s .routes)))) (ga : Room u8 (length (now (s .area)))) (gt : Room u8 room) where
+      (gx : Room Row (length (take n ys))) (gn : n < 2 ^ 64) (gw : Room u16 (length (now (s .rows)))) (gr : Room u32 (length (now (s .routes)))) (ga : Room u8 (length (now (s .area)))) (gt : Room u8 room) where
     abbrev part : ℕ → GName → Slice
     part l γ = record { ptr = (l, 0); name = γ; now = take n ys }
 
     abbrev called : ℕ → ℕ → GName → Decides 𝓤 H A W mem run .Ghost
-    called α l γ = to 𝓤 H A W mem run (α ∷ []) κ₁ κ₂ κ₃ q₁ q₂ q₃ (part l γ) s g
+    called α l γ = to 𝓤 H A W mem run (α ∷ []) κ₁ κ₂ κ₃ κ₄ q₁ q₂ q₃ q₄ (part l γ) s g
 
-    abbrev with : ℕ → ℕ → GName → Slice × (Tables × (Octets × (ℕ × (ℕ × (Facts × (Octets × (Octets × Unit {0})))))))
-    with α l γ = args 𝓤 H A W mem run (α ∷ []) κ₁ κ₂ κ₃ q₁ q₂ q₃ (part l γ) s g
+    abbrev with : ℕ → ℕ → GName → Slice × (Tables × (Octets × (Octets × (ℕ × (ℕ × (Facts × (Octets × (Octets × Unit {0}))))))))
+    with α l γ = args 𝓤 H A W mem run (α ∷ []) κ₁ κ₂ κ₃ κ₄ q₁ q₂ q₃ q₄ (part l γ) s g
 
-    walk : ent 𝓤 (onEntry 𝓤 H A lends.signature (κ₁, (κ₂, (κ₃, tt))) (q₁, (q₂, (q₃, tt))) ins at) (WpFn 𝓤 H C Λ code.function flat-at Post)
+    walk : ent 𝓤 (onEntry 𝓤 H A lends.signature (κ₁, (κ₂, (κ₃, (κ₄, tt)))) (q₁, (q₂, (q₃, (q₄, tt)))) ins at) (WpFn 𝓤 H C Λ code.function flat-at Post)
     walk =
-        qed W (Left ∷ ‵ (owns (Many ∷ usize ∷ B.the-row ∷ ShrSlice (named 0) κ₁ u32 ∷ usize ∷ u32 ∷ F.the-row ∷ ShrSlice (named 1) κ₂ u8 ∷ MutSlice (named 2) κ₃ u8 ∷ []) ins at) ∷ []) ∵ enter ! C Λ code.function flat-at _ $
-        alloc1 ! (λ l₀. alloc1 ! (λ l₁. alloc1 ! (λ l₂. alloc1 ! (λ l₃. alloc1 ! (λ l₄. alloc1 ! (λ l₅. alloc1 ! (λ l₆. alloc1 ! (λ l₇. alloc1 ! (λ l₈. alloc1 ! (λ l₉. alloc1 ! (λ l₁₀. alloc1 ! (λ l₁₁. alloc1 ! (λ l₁₂. alloc1 ! (λ l₁₃. alloc1 ! (λ l₁₄. alloc0 ! $ params1 ! $
-        pass1 ! (init ! 26 refl (wt .0)) $ pass1 ! (init ! 24 refl (tt, record { fits = gn })) $ pass1 ! (init ! 22 refl (LL.lawful B.the-type B′.the-laws 𝓤 H A W .typed (s .tables) _ (g .tables-are) .0)) $
-        pass1 ! (init ! 20 refl (tt, (tt, (record { fits = gr .0 }, tt)))) $ pass1 ! (init ! 18 refl (tt, record { fits = g .fits-arriving })) $ pass1 ! (init ! 16 refl (tt, record { fits = g .fits })) $
+        qed W (Left ∷ ‵ (owns (Many ∷ usize ∷ B.the-row ∷ ShrSlice (named 0) κ₁ u16 ∷ ShrSlice (named 1) κ₂ u32 ∷ usize ∷ u32 ∷ F.the-row ∷ ShrSlice (named 2) κ₃ u8 ∷ MutSlice (named 3) κ₄ u8 ∷ []) ins at) ∷ []) ∵ enter ! C Λ code.function flat-at _ $
+        alloc1 ! (λ l₀. alloc1 ! (λ l₁. alloc1 ! (λ l₂. alloc1 ! (λ l₃. alloc1 ! (λ l₄. alloc1 ! (λ l₅. alloc1 ! (λ l₆. alloc1 ! (λ l₇. alloc1 ! (λ l₈. alloc1 ! (λ l₉. alloc1 ! (λ l₁₀. alloc1 ! (λ l₁₁. alloc1 ! (λ l₁₂. alloc1 ! (λ l₁₃. alloc1 ! (λ l₁₄. alloc1 ! (λ l₁₅. alloc0 ! $ params1 ! $
+        pass1 ! (init ! 28 refl (wt .0)) $ pass1 ! (init ! 26 refl (tt, record { fits = gn })) $ pass1 ! (init ! 24 refl (LL.lawful B.the-type B′.the-laws 𝓤 H A W .typed (s .tables) _ (g .tables-are) .0)) $
+        pass1 ! (init ! 22 refl (tt, (tt, (record { fits = gw .0 }, tt)))) $ pass1 ! (init ! 20 refl (tt, (tt, (record { fits = gr .0 }, tt)))) $ pass1 ! (init ! 18 refl (tt, record { fits = g .fits-arriving })) $ pass1 ! (init ! 16 refl (tt, record { fits = g .fits })) $
         pass1 ! (init ! 14 refl (LL.lawful F.the-type F′.the-laws 𝓤 H A W .typed (s .facts) _ (g .facts-are) .0)) $
         pass1 ! (init ! 12 refl (tt, (tt, (record { fits = ga .0 }, tt)))) $ pass1 ! (init ! 10 refl (tt, (tt, (record { fits = gt .0 }, tt)))) $ pass0 ! $
-        assigns ! (of-opd ! (load ! (from ! (stop !)) (look ! 26 refl))) (from ! (stop !)) (init ! 8 refl (wt .0)) $
+        assigns ! (of-opd ! (load ! (from ! (stop !)) (look ! 28 refl))) (from ! (stop !)) (init ! 8 refl (wt .0)) $
         assigns ! (addr ! (from ! (stop !))) (from ! (stop !)) (init ! 6 refl (tt, tt)) $
-        assigns ! (agg ! (and-then ! (load ! (from ! (stop !)) (look ! 6 refl)) (and-then ! (load ! (from ! (stop !)) (look ! 24 refl)) (no-more !)))) (from ! (stop !)) (init ! 4 refl (tt, (tt, (record { fits = gn }, tt)))) $
+        assigns ! (agg ! (and-then ! (load ! (from ! (stop !)) (look ! 6 refl)) (and-then ! (load ! (from ! (stop !)) (look ! 26 refl)) (no-more !)))) (from ! (stop !)) (init ! 4 refl (tt, (tt, (record { fits = gn }, tt)))) $
         assigns ! (addr ! (from ! (fld ! refl (hop ! (look-in ! 10 (sub ! 0 refl (whole !))) (stop !))))) (from ! (stop !)) (init ! 2 refl (tt, tt)) $
         assigns ! (agg ! (and-then ! (load ! (from ! (stop !)) (look ! 2 refl)) (and-then ! (load ! (from ! (fld ! refl (stop !))) (look-in ! 10 (sub ! 1 refl (whole !)))) (no-more !)))) (from ! (stop !)) (init ! 0 refl (tt, (tt, (record { fits = gt .0 }, tt)))) $
-        rewrite ! 4 (λ (m : ℕ). ‵ (fat fullShare (sliceTy (tyRef erased imm (pointee (Row .written)))) l₁₂ 0 (sliceVal (l₁₀, 0) m))) (sym some-of) refl $
-        -- [_14; …; _0; …; the tokens; what the parameters own]: what the parameters own is taken apart; what plain data owns is dropped, but for the array's
-        move ! (31 ∷ []) $ fsplit ! $ move ! (1 ∷ []) $ fsplit ! $ drop ! $ fsplit ! $ drop ! $ fsplit ! $ move ! (1 ∷ []) $ fsplit ! $ drop ! $ fsplit ! $ drop ! $ fsplit ! $ drop ! $ fsplit ! $ move ! (1 ∷ []) $ fsplit ! $ move ! (1 ∷ []) $ drop ! $
-        -- [out; the area; the routes; the array's; _14; …; _0; …; the tokens]
-        move ! (12 ∷ 3 ∷ []) $ use2 W (‵ (arr-parts (shares Row) (length (take n ys)) .part fullShare (take n ys) l₁₀ 0) ⊛ ‵ (rest n ys l₁₀ 0)) (into 𝓤 H A W ys n l₁₀) $ split ! $
-        -- [the first n; the rest; out; the area; the routes; _14; …; that _10 dies; …; _0; …; the tokens]
-        lft-new ! tt (λ α. move ! (1 ∷ []) $ use1 W (later (some (λ (γ : GName). raw (LentShrs 𝓤 H A W Row (named 0) (α ∷ []) fullShare (take n ys) l₁₀ 0 γ)))) (lends-shr-slice 𝓤 H A W Row (named 0) (α ∷ []) fullShare (take n ys) l₁₀ 0 gx) $ await ! tt $ pick ! (λ γ.
-        use1 W (‵ (Held (α ∷ []) (part l₁₀ γ)) ⊛ ‵ (flent (α ∷ []) (arr-parts (shares Row) (length (take n ys)) .part fullShare (take n ys) l₁₀ 0))) (id⊢ 𝓤 _) $ split ! $
-        -- [the slice; what is lent; κ₀'s token; the rest; out; the area; the routes; _14; …; the tokens]
-        move ! (0 ∷ 6 ∷ 5 ∷ 4 ∷ 2 ∷ []) $ join ! $ join ! $ join ! $ join ! $ move ! (0 ∷ 32 ∷ []) $
-        use2 W (raw (Decides 𝓤 H A W mem run .pre (called α l₁₀ γ))) (goes 𝓤 H A W mem run (α ∷ []) κ₁ κ₂ κ₃ q₁ q₂ q₃ (part l₁₀ γ) s g) $
-        -- [what `decide` asks; what is lent; the rest; _14; …; that _10 dies; …; _0; …]
-        calls-at ! fm (Decides 𝓤 H A W mem run) known (called α l₁₀ γ)
-        (and-then ! (load ! (from ! (stop !)) (look ! 7 refl)) (and-then ! (load ! (from ! (stop !)) (look ! 24 refl)) (and-then ! (load ! (from ! (stop !)) (look ! 22 refl)) (and-then ! (load ! (from ! (stop !)) (look ! 20 refl)) (and-then ! (load ! (from ! (stop !)) (look ! 18 refl))
-        (and-then ! (load ! (from ! (stop !)) (look ! 16 refl)) (and-then ! (load ! (from ! (stop !)) (look ! 14 refl)) (and-then ! (load ! (from ! (stop !)) (look ! 3 refl)) (no-more !))))))))) (λ u.
-        use1 W (later (some (λ (r : Decision). ((‵ (flft (α ∷ []) fullShare) ⊛ Left) ⊛ ‵ (D.the-row .own r (u ∷ []))) ⊛ raw (ensured 𝓤 H A decide.ended (decide.clauses 𝓤 H A mem run) (α ∷ [], (κ₁, (κ₂, (κ₃, tt)))) (with α l₁₀ γ) tt r)))) (id⊢ 𝓤 _) $ await ! tt $ pick ! (λ r.
+        rewrite ! 4 (λ (m : ℕ). ‵ (fat fullShare (sliceTy (tyRef erased imm (pointee (Row .written)))) l₁₃ 0 (sliceVal (l₁₁, 0) m))) (sym some-of) refl $
+        -- [_15; …; _0; …; the tokens; what the parameters own]: what the parameters own is taken apart; what plain data owns is dropped, but for the array's
+        move ! (33 ∷ []) $ fsplit ! $ move ! (1 ∷ []) $ fsplit ! $ drop ! $ fsplit ! $ drop ! $ fsplit ! $ move ! (1 ∷ []) $ fsplit ! $ move ! (1 ∷ []) $ fsplit ! $ drop ! $ fsplit ! $ drop ! $ fsplit ! $ drop ! $ fsplit ! $ move ! (1 ∷ []) $ fsplit ! $ move ! (1 ∷ []) $ drop ! $
+        -- [out; the area; the routes; the rows; the array's; _15; …; _0; …; the tokens]
+        move ! (13 ∷ 4 ∷ []) $ use2 W (‵ (arr-parts (shares Row) (length (take n ys)) .part fullShare (take n ys) l₁₁ 0) ⊛ ‵ (rest n ys l₁₁ 0)) (into 𝓤 H A W ys n l₁₁) $ split ! $
+        -- [the first n; the rest; out; the area; the routes; the rows; _15; …; that _11 dies; …; _0; …; the tokens]
+        lft-new ! tt (λ α. move ! (1 ∷ []) $ use1 W (later (some (λ (γ : GName). raw (LentShrs 𝓤 H A W Row (named 0) (α ∷ []) fullShare (take n ys) l₁₁ 0 γ)))) (lends-shr-slice 𝓤 H A W Row (named 0) (α ∷ []) fullShare (take n ys) l₁₁ 0 gx) $ await ! tt $ pick ! (λ γ.
+        use1 W (‵ (Held (α ∷ []) (part l₁₁ γ)) ⊛ ‵ (flent (α ∷ []) (arr-parts (shares Row) (length (take n ys)) .part fullShare (take n ys) l₁₁ 0))) (id⊢ 𝓤 _) $ split ! $
+        -- [the slice; what is lent; κ₀'s token; the rest; out; the area; the routes; the rows; _15; …; the tokens]
+        move ! (0 ∷ 7 ∷ 6 ∷ 5 ∷ 4 ∷ 2 ∷ []) $ join ! $ join ! $ join ! $ join ! $ join ! $ move ! (0 ∷ 34 ∷ []) $
+        use2 W (raw (Decides 𝓤 H A W mem run .pre (called α l₁₁ γ))) (goes 𝓤 H A W mem run (α ∷ []) κ₁ κ₂ κ₃ κ₄ q₁ q₂ q₃ q₄ (part l₁₁ γ) s g) $
+        -- [what `decide` asks; what is lent; the rest; _15; …; that _11 dies; …; _0; …]
+        calls-at ! fm (Decides 𝓤 H A W mem run) known (called α l₁₁ γ)
+        (and-then ! (load ! (from ! (stop !)) (look ! 7 refl)) (and-then ! (load ! (from ! (stop !)) (look ! 26 refl)) (and-then ! (load ! (from ! (stop !)) (look ! 24 refl)) (and-then ! (load ! (from ! (stop !)) (look ! 22 refl)) (and-then ! (load ! (from ! (stop !)) (look ! 20 refl)) (and-then ! (load ! (from ! (stop !)) (look ! 18 refl))
+        (and-then ! (load ! (from ! (stop !)) (look ! 16 refl)) (and-then ! (load ! (from ! (stop !)) (look ! 14 refl)) (and-then ! (load ! (from ! (stop !)) (look ! 3 refl)) (no-more !)))))))))) (λ u.
+        use1 W (later (some (λ (r : Decision). ((‵ (flft (α ∷ []) fullShare) ⊛ Left) ⊛ ‵ (D.the-row .own r (u ∷ []))) ⊛ raw (ensured 𝓤 H A decide.ended (decide.clauses 𝓤 H A mem run) (α ∷ [], (κ₁, (κ₂, (κ₃, (κ₄, tt))))) (with α l₁₁ γ) tt r)))) (id⊢ 𝓤 _) $ await ! tt $ pick ! (λ r.
         split ! $ move ! (1 ∷ []) $
-        use1 W (some (λ (ws : Lasts decide.ended (α ∷ [], (κ₁, (κ₂, (κ₃, tt)))) (with α l₁₀ γ)). ‵ (lasts decide.ended (α ∷ [], (κ₁, (κ₂, (κ₃, tt)))) (with α l₁₀ γ) ws) ⊛ raw (fact 𝓤 (Decided r (ws .1 .1 .1 .1 .1 .1 .1 .0))))) (id⊢ 𝓤 _) $ pick ! (λ ws.
-        split ! $ move ! (1 ∷ []) $ heard ! (Decided r (ws .1 .1 .1 .1 .1 .1 .1 .0)) (λ e.
-        fsplit ! $ drop ! $ fsplit ! $ drop ! $ fsplit ! $ drop ! $ fsplit ! $ drop ! $ fsplit ! $ drop ! $ fsplit ! $ drop ! $ fsplit ! $ drop ! $ fsplit ! $ fsplit ! $ move ! (1 ∷ []) $ feqL ! (λ last.
-        -- [out's last list; true; the tokens and the result; what is lent; the rest; _14; …]: the lifetime is ended, and the array is back
+        use1 W (some (λ (ws : Lasts decide.ended (α ∷ [], (κ₁, (κ₂, (κ₃, (κ₄, tt))))) (with α l₁₁ γ)). ‵ (lasts decide.ended (α ∷ [], (κ₁, (κ₂, (κ₃, (κ₄, tt))))) (with α l₁₁ γ) ws) ⊛ raw (fact 𝓤 (Decided r (ws .1 .1 .1 .1 .1 .1 .1 .1 .0))))) (id⊢ 𝓤 _) $ pick ! (λ ws.
+        split ! $ move ! (1 ∷ []) $ heard ! (Decided r (ws .1 .1 .1 .1 .1 .1 .1 .1 .0)) (λ e.
+        fsplit ! $ drop ! $ fsplit ! $ drop ! $ fsplit ! $ drop ! $ fsplit ! $ drop ! $ fsplit ! $ drop ! $ fsplit ! $ drop ! $ fsplit ! $ drop ! $ fsplit ! $ drop ! $ fsplit ! $ fsplit ! $ move ! (1 ∷ []) $ feqL ! (λ last.
+        -- [out's last list; true; the tokens and the result; what is lent; the rest; _15; …]: the lifetime is ended, and the array is back
         move ! (2 ∷ []) $ split ! $ split ! $
-        -- [κ₀'s token; the tokens; the result; out's last list; true; what is lent; the rest; _14; …]
-        lft-end ! tt $ move ! (0 ∷ 5 ∷ []) $ lent-back ! tt $ move ! (0 ∷ 5 ∷ []) $ use2 W (‵ (fat fullShare ty l₁₀ 0 (only (many-vals ys)))) (back 𝓤 H A W ys n l₁₀ long) $
-        -- [_10; the tokens; the result; out's last list; true; _14; …; that _10 dies; …; _0; …]
+        -- [κ₀'s token; the tokens; the result; out's last list; true; what is lent; the rest; _15; …]
+        lft-end ! tt $ move ! (0 ∷ 5 ∷ []) $ lent-back ! tt $ move ! (0 ∷ 5 ∷ []) $ use2 W (‵ (fat fullShare ty l₁₁ 0 (only (many-vals ys)))) (back 𝓤 H A W ys n l₁₁ long) $
+        -- [_11; the tokens; the result; out's last list; true; _15; …; that _11 dies; …; _0; …]
         move ! (2 ∷ []) $ peeks ! D.the-row (Is D.the-row) (shows 𝓤 H A D.the-row) r (u ∷ []) (λ isr.
-        -- [the result; _10; the tokens; out's last list; true; _14; …; _11; …; that _10 dies; _9; …; _0; …]
-        land ! (from ! (stop !)) (init ! 32 refl (LL.lawful D.the-type D′.the-laws 𝓤 H A W .typed r _ isr .0)) $ returns ! (look ! 32 refl) $
-        forget ! 1 refl $ forget ! 5 refl $ forget ! 7 refl $ forget ! 9 refl $ forget ! 11 refl $ forget ! 14 refl $ forget ! 16 refl $ forget ! 18 refl $ forget ! 20 refl $ forget ! 22 refl $ forget ! 24 refl $ forget ! 26 refl $ forget ! 28 refl $ forget ! 30 refl $ forget ! 32 refl $
-        move ! (32 ∷ 33 ∷ []) $ free1 ! $ move ! (30 ∷ 31 ∷ []) $ free1 ! $ move ! (28 ∷ 29 ∷ []) $ free1 ! $ move ! (26 ∷ 27 ∷ []) $ free1 ! $ move ! (24 ∷ 25 ∷ []) $ free1 ! $ move ! (22 ∷ 23 ∷ []) $ free1 ! $ move ! (20 ∷ 21 ∷ []) $ free1 ! $ move ! (18 ∷ 19 ∷ []) $ free1 ! $ move ! (16 ∷ 17 ∷ []) $ free1 ! $ move ! (14 ∷ 15 ∷ []) $ free1 ! $
+        -- [the result; _11; the tokens; out's last list; true; _15; …; _12; …; that _11 dies; _10; …; _0; …]
+        land ! (from ! (stop !)) (init ! 34 refl (LL.lawful D.the-type D′.the-laws 𝓤 H A W .typed r _ isr .0)) $ returns ! (look ! 34 refl) $
+        forget ! 1 refl $ forget ! 5 refl $ forget ! 7 refl $ forget ! 9 refl $ forget ! 11 refl $ forget ! 14 refl $ forget ! 16 refl $ forget ! 18 refl $ forget ! 20 refl $ forget ! 22 refl $ forget ! 24 refl $ forget ! 26 refl $ forget ! 28 refl $ forget ! 30 refl $ forget ! 32 refl $ forget ! 34 refl $
+        move ! (34 ∷ 35 ∷ []) $ free1 ! $ move ! (32 ∷ 33 ∷ []) $ free1 ! $ move ! (30 ∷ 31 ∷ []) $ free1 ! $ move ! (28 ∷ 29 ∷ []) $ free1 ! $ move ! (26 ∷ 27 ∷ []) $ free1 ! $ move ! (24 ∷ 25 ∷ []) $ free1 ! $ move ! (22 ∷ 23 ∷ []) $ free1 ! $ move ! (20 ∷ 21 ∷ []) $ free1 ! $ move ! (18 ∷ 19 ∷ []) $ free1 ! $ move ! (16 ∷ 17 ∷ []) $ free1 ! $ move ! (14 ∷ 15 ∷ []) $ free1 ! $
         move ! (1 ∷ 13 ∷ []) $ free1 ! $ move ! (10 ∷ 11 ∷ []) $ free1 ! $ move ! (8 ∷ 9 ∷ []) $ free1 ! $ move ! (6 ∷ 7 ∷ []) $ free1 ! $ move ! (4 ∷ 5 ∷ []) $ free1 ! $ free0 ! $
-        keep ! (1 ∷ 2 ∷ 0 ∷ []) $ by ! (exits r u (ws .1 .1 .1 .1 .1 .1 .1 .0) e last))))))))))))))))))))))))
+        keep ! (1 ∷ 2 ∷ 0 ∷ []) $ by ! (exits r u (ws .1 .1 .1 .1 .1 .1 .1 .1 .0) e last)))))))))))))))))))))))))
       where
         wt : (T (hasTy ty (only (many-vals ys))) × WT (only (many-vals ys))) × Unit {0}
         wt = array-lawful 𝓤 H A W Row (LL.lawful P.the-type P′.the-laws 𝓤 H A W) 64 .typed ys _ is
@@ -318,32 +322,35 @@ module _ {M : Type 1} (𝓤 : URA M) (H : Heap 𝓤) (A : Atoms 𝓤) (W : Given
 
   lends-walks : (C : Calls 𝓤 H) (Λ : Loops 𝓤 H) → FmC 𝓤 H (W .laws) C → Triple 𝓤 (C #route-decide·decide) (Decides 𝓤 H A W mem run) → Walks 𝓤 H A lends.ended stayed (WpFn 𝓤 H C Λ code.function) (lends.clauses 𝓤 H A mem run)
   lends-walks C Λ fm known = walked 𝓤 H A lends.ended stayed (lends.clauses 𝓤 H A mem run) (WpFn 𝓤 H C Λ code.function)
-      (λ κs. (many-vals, (uint-vals w64, (LL.vals B.the-type B′.the-laws, (slice-vals, (uint-vals w64, (uint-vals w32, (LL.vals F.the-type F′.the-laws, (slice-vals, (slice-vals, tt))))))))))
-      (λ κs. (array-tells Row vals tells 64, (uint-tells w64, (LL.tells B.the-type B′.the-laws, (shr-slice-tells (named 0) (κs .0) u32, (uint-tells w64, (uint-tells w32, (LL.tells F.the-type F′.the-laws, (shr-slice-tells (named 1) (κs .1 .0) u8, (mut-slice-tells (named 2) (κs .1 .1 .0) u8, tt))))))))))
+      (λ κs. (many-vals, (uint-vals w64, (LL.vals B.the-type B′.the-laws, (slice-vals, (slice-vals, (uint-vals w64, (uint-vals w32, (LL.vals F.the-type F′.the-laws, (slice-vals, (slice-vals, tt)))))))))))
+      (λ κs. (array-tells Row vals tells 64, (uint-tells w64, (LL.tells B.the-type B′.the-laws, (shr-slice-tells (named 0) (κs .0) u16, (shr-slice-tells (named 1) (κs .1 .0) u32, (uint-tells w64, (uint-tells w32, (LL.tells F.the-type F′.the-laws, (shr-slice-tells (named 2) (κs .1 .1 .0) u8, (mut-slice-tells (named 3) (κs .1 .1 .1 .0) u8, tt)))))))))))
       (λ κs qs bounds a g are. needs 𝓤 (a .1 .0 ≤ 64) _ (λ h.
-      walk 𝓤 H A W mem run (κs .0) (κs .1 .0) (κs .1 .1 .0) (qs .0) (qs .1 .0) (qs .1 .1 .0) (a .0) (a .1 .0)
-      (record { tables = a .1 .1 .0; routes = a .1 .1 .1 .0; arriving = a .1 .1 .1 .1 .0; destination = a .1 .1 .1 .1 .1 .0; facts = a .1 .1 .1 .1 .1 .1 .0; area = a .1 .1 .1 .1 .1 .1 .1 .0; out = a .1 .1 .1 .1 .1 .1 .1 .1 .0 })
-      (record { tables-are = are .1 .1 .0; facts-are = are .1 .1 .1 .1 .1 .1 .0; fits = are .1 .1 .1 .1 .1 .0 .1; fits-arriving = are .1 .1 .1 .1 .0 .1 }) C Λ fm known
+      walk 𝓤 H A W mem run (κs .0) (κs .1 .0) (κs .1 .1 .0) (κs .1 .1 .1 .0) (qs .0) (qs .1 .0) (qs .1 .1 .0) (qs .1 .1 .1 .0) (a .0) (a .1 .0)
+      (record { tables = a .1 .1 .0; rows = a .1 .1 .1 .0; routes = a .1 .1 .1 .1 .0; arriving = a .1 .1 .1 .1 .1 .0; destination = a .1 .1 .1 .1 .1 .1 .0; facts = a .1 .1 .1 .1 .1 .1 .1 .0; area = a .1 .1 .1 .1 .1 .1 .1 .1 .0; out = a .1 .1 .1 .1 .1 .1 .1 .1 .1 .0 })
+      (record { tables-are = are .1 .1 .0; facts-are = are .1 .1 .1 .1 .1 .1 .1 .0; fits = are .1 .1 .1 .1 .1 .1 .0 .1; fits-arriving = are .1 .1 .1 .1 .1 .0 .1 }) C Λ fm known
       (are .0) (many-of (a .0) (are .0)) (part-of (a .0) (a .1 .0) (many-of (a .0) (are .0)) h) (small (length (take (a .1 .0) (a .0))) (a .1 .0) (part-of (a .0) (a .1 .0) (many-of (a .0) (are .0)) h) h)
-      (are .1 .0 .1) (are .1 .1 .1 .0 .0 .1) (are .1 .1 .1 .1 .1 .1 .1 .0 .0 .1) (are .1 .1 .1 .1 .1 .1 .1 .1 .0 .0 .1)))
+      (are .1 .0 .1) (are .1 .1 .1 .0 .0 .1) (are .1 .1 .1 .1 .0 .0 .1) (are .1 .1 .1 .1 .1 .1 .1 .1 .0 .0 .1) (are .1 .1 .1 .1 .1 .1 .1 .1 .1 .0 .0 .1)))
 
 lends-meets : {M : Type 1} (𝓤 : URA M) (H : Heap 𝓤) (A : Atoms 𝓤) (W : Given 𝓤 H A) (mem : Memory → SProp 𝓤) (run : Routine → Fun 𝓤) (𝓣 : CallTables 𝓤 H)
     → Triple 𝓤 (𝓣 .C #route-decide·decide) (Decides 𝓤 H A W mem run) → Meets 𝓤 H A lends.signature (WpFn 𝓤 H (𝓣 .C) (𝓣 .Λ) code.function) (lends.spec 𝓤 H A mem run)
 lends-meets 𝓤 H A W mem run 𝓣 known = walk-meets 𝓤 H A lends.ended stayed W (
-  goes-dropped 𝓤 H A W 3 (arrayOf (plain (λ _. Row)) 64) yes (λ κs x f. refl),
+  goes-dropped 𝓤 H A W 4 (arrayOf (plain (λ _. Row)) 64) yes (λ κs x f. refl),
   (
-    goes-dropped 𝓤 H A W 3 (plain (λ _. usize)) yes (λ κs x f. refl),
+    goes-dropped 𝓤 H A W 4 (plain (λ _. usize)) yes (λ κs x f. refl),
     (
-      goes-dropped 𝓤 H A W 3 (plain (λ _. B.the-row)) yes (λ κs x f. refl),
+      goes-dropped 𝓤 H A W 4 (plain (λ _. B.the-row)) yes (λ κs x f. refl),
       (
-        goes-dropped 𝓤 H A W 3 (shrSliceOf (0 ∷ []) tt (plain (λ _. u32))) yes (λ κs x f. refl),
+        goes-dropped 𝓤 H A W 4 (shrSliceOf (0 ∷ []) tt (plain (λ _. u16))) yes (λ κs x f. refl),
         (
-          goes-dropped 𝓤 H A W 3 (plain (λ _. usize)) yes (λ κs x f. refl),
+          goes-dropped 𝓤 H A W 4 (shrSliceOf (1 ∷ []) tt (plain (λ _. u32))) yes (λ κs x f. refl),
           (
-            goes-dropped 𝓤 H A W 3 (plain (λ _. u32)) yes (λ κs x f. refl),
+            goes-dropped 𝓤 H A W 4 (plain (λ _. usize)) yes (λ κs x f. refl),
             (
-              goes-dropped 𝓤 H A W 3 (plain (λ _. F.the-row)) yes (λ κs x f. refl),
-              (goes-dropped 𝓤 H A W 3 (shrSliceOf (1 ∷ []) tt (plain (λ _. u8))) yes (λ κs x f. refl), (goes-gave-slice 𝓤 H A W 3 2 tt (plain (λ _. u8)), tt)),
+              goes-dropped 𝓤 H A W 4 (plain (λ _. u32)) yes (λ κs x f. refl),
+              (
+                goes-dropped 𝓤 H A W 4 (plain (λ _. F.the-row)) yes (λ κs x f. refl),
+                (goes-dropped 𝓤 H A W 4 (shrSliceOf (2 ∷ []) tt (plain (λ _. u8))) yes (λ κs x f. refl), (goes-gave-slice 𝓤 H A W 4 3 tt (plain (λ _. u8)), tt)),
+              ),
             ),
           ),
         ),

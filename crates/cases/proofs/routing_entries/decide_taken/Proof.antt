@@ -21,7 +21,7 @@ part-decide-first-start c = search needs
 
 part-decide-first-end : tie.Need-part-decide-first-end
 part-decide-first-end c =
-    let s = c .before .before .before .before .before .before in
+    let s = c .before .before .before .before .before .before .before in
     let l : length (s .args .r .numbers) ≡ 1024 = sized s in
     let h : s .args .r .count ≤ 1024 = few s in
     let g : s .args .r .count ≤ length (s .args .r .numbers) = omega arith in
