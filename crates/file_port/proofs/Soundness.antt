@@ -460,7 +460,7 @@ both-said p h l =
     let b = way-said (p .basic .on) (p .basic .sending) (l .1 .1 .0) in
     let g = given-said (not (p .unlabelled)) p (p .default) (l .1 .1 .1 .1 .1) in (
       port-both p h (way-basic (p .basic .on) (p .basic .receiving) (p .basic .sending) (a .0) (b .0)) (l .1 .1 .1 .0 .1)
-      (default-none (p .unlabelled) (p .lowest) (p .highest) (p .default) ∙ g .0),
+          (default-none (p .unlabelled) (p .lowest) (p .highest) (p .default) ∙ g .0),
       typed-port p (record { lowest = k .0; highest = k .1; assigned = k .2; receiving = a .1; sending = b .1; default = g .1 }),
     )
 

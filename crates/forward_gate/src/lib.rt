@@ -47,7 +47,16 @@ pub fn forward_gates(
 ) -> Decision
     ensures { λ r. ⌜ ((o s g f : List ℕ) → Gated (portIn near (now (lows .entry)) (now (highs .entry)) (now (given .entry)) o (now (receives .entry)) s) (portIn beyond (now (least .entry)) (now (most .entry)) g (now (only .entry)) f (now (sends .entry))) (lent table (now (rows .entry))) levels facts (now (area .entry)) (now (own .entry)) (now (own .exit)) (now (far .entry)) (now (far .exit)) (now (out .entry)) (now (out .exit)) r) ⌝ }
 {
-    let arrived = arrive_gate(near, lows, highs, given, receives, area, NETWORK_PROHIBITED, &mut own[..]);
+    let arrived = arrive_gate(
+        near,
+        lows,
+        highs,
+        given,
+        receives,
+        area,
+        NETWORK_PROHIBITED,
+        &mut own[..],
+    );
     let ready = check_leaving(arrived, out.len(), true);
     let sent = bar_gate(
         ready,
