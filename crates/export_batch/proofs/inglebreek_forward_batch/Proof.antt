@@ -14,13 +14,13 @@ use Rattle.file_read.specs.declared.FileRead.{FileRead}
 use Rattle.file_read.specs.File.{fileReading}
 use Rattle.file_read.proofs.Answers.{used-fits}
 use Rattle.route_ports.specs.Ports.{unlistedPort, portAt}
-use Rattle.export_batch.proofs.Slots.{inside, both-there, none-there, batch-is}
+use Rattle.export_batch.proofs.Picked.{inside, both-there, none-there, batch-is}
 use Rattle.export_batch.proofs.inglebreek_forward_batch.Statement.{statement}
 use Rattle.export_batch.proofs.inglebreek_forward_batch.Tie as tie
 
 -- both numbers have a place
 abbrev start : (c : tie.Then1) → tie.Start
-start c = c .before .before .before .before .before .before .before .before .before .before
+start c = c .before .before .before .before .before .before .before .before .before
 
 from-there : (c : tie.Then1) → start c .args .arriving < 16
 from-there c = ltb-true _ _ (and-left (ltb (start c .args .arriving) 16) (ltb (start c .args .leaving) 16) (c .if1 .taken))
@@ -45,9 +45,6 @@ slice-aggregate-read-file c = search needs
 
 read-file-requires : tie.Need-read-file-requires
 read-file-requires c κs = search needs
-
-count-slots-requires : tie.Need-count-slots-requires
-count-slots-requires c κs = search needs
 
 mul-from : tie.Need-mul-from
 mul-from c = record { fits = omega (arith, from-there c) }
@@ -129,7 +126,6 @@ inglebreek-forward-batch-spec =
     (tie.spec
     slice-aggregate-read-file
     read-file-requires
-    count-slots-requires
     mul-from
     element-copy-out-from
     mul-to
