@@ -57,6 +57,7 @@ pub fn words(number: u8) -> &'static str {
         20 => "option 130 missing",
         21 => "outside the 130 range",
         22 => "no route",
+        23 => "slack spelling",
         _ => "a number that this box has no words for",
     }
 }

@@ -14,4 +14,5 @@ pub mod Guards
 pub mod Renumbering
 pub mod Alone
 pub mod Rules
+pub mod Strict
 pub mod Crosses

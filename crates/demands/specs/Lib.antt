@@ -6,4 +6,5 @@ pub mod Sample
 pub mod Guards
 pub mod Alone
 pub mod Rules
+pub mod Strict
 pub mod Crosses

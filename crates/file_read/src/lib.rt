@@ -236,11 +236,7 @@ pub fn read_file(octets: &[u8], rows: &mut [u16]) -> FileRead
     let head = judge(version.ok, version.at, 0, total <= most_octets(kind));
     let ports = read_ports(octets, head.ok, head.at, kind);
     let tables = read_tables(octets, ports.ok, ports.at, kind, &mut work);
-    keep_rows(
-        tables.ok & (tables.at == n),
-        &work[..tables.used],
-        &mut rows[..],
-    );
+    keep_rows(tables.ok & (tables.at == n), &work[..tables.used], rows);
     if !tables.ok {
         return refuse_field(tables.at, n, rows.len());
     }

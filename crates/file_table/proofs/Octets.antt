@@ -64,7 +64,7 @@ module _ (r : Renumbering) (rows : List ℕ) (n m : ℕ) (l : length (r .levels)
       let u1 : length (take (r .table .pairs) (r .levels)) ≡ n = u .1 in
       let v0 : take 1024 (rowsFrom rows) ≡ take m (rowsFrom rows) = v .0 in
       let v1 : length (take 1024 (rowsFrom rows)) ≡ m = v .1 in
-      all-octets 2 (fieldsOf (record { item = r; rows = rows }))
+      all-octets 3 (fieldsOf (record { item = r; rows = rows }))
       ∙ rw (pairs-octets (0, 0) (take (r .table .pairs) (r .levels)), rows-octets [] (take 1024 (rowsFrom rows)), u1, u0, v1, v0)
 
   pub rows-held : m ≤ length (rowsFrom rows)

@@ -28,7 +28,7 @@ use Rattle.file_read.proofs.Sets.{parts}
 use Rattle.file_read.proofs.Theorems.{accepted-only, given-back}
 use Rattle.file_write.specs.declared.Written.the-variants.{Done, Short, Unsound, Long}
 use Rattle.file_write.specs.Written.{writtenOf, numberOf, fileOutput}
-use Rattle.file_write.specs.Theorems.{Tells, WrittenBack, OneFile, OneFileIn, OneFileEach, allPlain, noneStrict, allSmall, Sayable, Answers}
+use Rattle.file_write.specs.Theorems.{Tells, WrittenBack, OnlyFile, OneFileIn, OneFileEach, allPlain, noneStrict, allSmall, Sayable, Answers}
 use Rattle.file_write.proofs.First.{small-first}
 use Rattle.file_write.proofs.Sizes.{file-length}
 

@@ -30,12 +30,12 @@ WrittenBack = (s : Set) (rows out : List ℕ) (n : ℕ) → writtenOf s rows (le
 -- 2. A set has one file in each version that can say it.
 
 -- its octets in the version tell the set, and no other octets of the version do
-pub record OneFile (version : ℕ) (s : Set) (rows : List ℕ) : Type 0 where
+pub record OnlyFile (version : ℕ) (s : Set) (rows : List ℕ) : Type 0 where
   pub tells : Tells (fileOctets version s rows) s rows
   pub only : (o : List ℕ) → Octets o → getD o 2 0 ≡ version → Tells o s rows → o ≡ fileOctets version s rows
 
 abbrev pub OneFileIn : (version : ℕ) → Type 0
-OneFileIn version = (s : Set) (rows : List ℕ) → setSound s rows ≡ true → sayable version s rows ≡ true → OneFile version s rows
+OneFileIn version = (s : Set) (rows : List ℕ) → setSound s rows ≡ true → sayable version s rows ≡ true → OnlyFile version s rows
 
 pub record OneFileEach : Type 0 where
   pub first : OneFileIn 1
