@@ -54,11 +54,10 @@ returns c =
     let e = c .before .before in
     let v = e .before .before in
     let f = v .before .before .before in
-    let s = f .before .before .before .before in
-    (
+    let s = f .before .before .before .before in (
       e .forward-batch .ensures .0,
       e .forward-batch .ensures .1 ∙ ap (λ (g : Gateway). batchOf g (slotCount (length (s .args .input .now)) (length (s .args .output .now))) (s .args .input .now) (s .args .output .now))
-    (gateway-found (s .args .from) (s .args .to) (s .args .tables) (s .args .rows .now) (lentFound (f .first-table .result) (s .args .rows .now)) (v .levels-of .result) (f .first-table .ensures .0) (v .levels-of .ensures .0)),
+          (gateway-found (s .args .from) (s .args .to) (s .args .tables) (s .args .rows .now) (lentFound (f .first-table .result) (s .args .rows .now)) (v .levels-of .result) (f .first-table .ensures .0) (v .levels-of .ensures .0)),
     )
 
 pub forward-between-spec : {M : Type 1} → statement M

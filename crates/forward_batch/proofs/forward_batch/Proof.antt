@@ -30,7 +30,7 @@ returns : tie.Need-returns
 returns c =
     let f = c .before .before in
     let n = f .before .before .before .before .before .before in
-    let s = n .before .before .before .before .before in (
+    let s = n .before .before .before .before in (
       n .count-slots .ensures .0,
       f .forward-sound .ensures
           ∙ ap (λ (k : ℕ). batchOf (record { arriving = s .args .from; leaving = s .args .to; table = lent (s .args .table) (s .args .rows .now); levels = s .args .levels }) k (s .args .input .now) (s .args .output .now))
@@ -44,7 +44,15 @@ same-length-2 : tie.Need-same-length-2
 same-length-2 c = search needs
 
 returns-2 : tie.Need-returns-2
-returns-2 c = ?
+returns-2 c =
+    let f = c .before .before in
+    let n = f .before .before .before .before in
+    let s = n .before .before .before .before in (
+      n .count-slots .ensures .0,
+      f .forward-each .ensures
+          ∙ ap (λ (k : ℕ). batchOf (record { arriving = s .args .from; leaving = s .args .to; table = lent (s .args .table) (s .args .rows .now); levels = s .args .levels }) k (s .args .input .now) (s .args .output .now))
+          (n .count-slots .ensures .0),
+    )
 
 pub forward-batch-spec : {M : Type 1} → statement M
 forward-batch-spec =

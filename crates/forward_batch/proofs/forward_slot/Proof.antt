@@ -1,16 +1,17 @@
 -- `forward_batch::forward_slot` meets its contract.
 use borrow.Author.Needs.{needs}
 use native.Mathlib.Omega.{arith}
-use Rattle.table.specs.Table.{lent}
+use mathlib.Core.Path.{_≡_}
+use mathlib.Core.Bool.{true}
+use Prim.Native.Nat.{_+_, _≤_}
+use lib.ListN.{length}
+use Rattle.table.specs.Table.{lent, tableSound}
 use Rattle.table.proofs.Sound.{sound}
 use Rattle.gate.specs.Gate.{portIn}
 use Rattle.forward_batch.specs.Stages.{gatewayIn}
 use Rattle.forward_batch.proofs.Slots.{one}
 use Rattle.forward_batch.proofs.forward_slot.Statement.{statement}
 use Rattle.forward_batch.proofs.forward_slot.Tie as tie
-
-shared-slice-read-t19 : tie.Need-shared-slice-read-t19
-shared-slice-read-t19 c = search needs
 
 shared-slice-read-t22 : tie.Need-shared-slice-read-t22
 shared-slice-read-t22 c = search needs
@@ -23,6 +24,9 @@ shared-slice-read-t28 c = search needs
 
 shared-slice-read-t31 : tie.Need-shared-slice-read-t31
 shared-slice-read-t31 c = search needs
+
+shared-slice-read-t34 : tie.Need-shared-slice-read-t34
+shared-slice-read-t34 c = search needs
 
 shared-slice-read-capped : tie.Need-shared-slice-read-capped
 shared-slice-read-capped c = search needs
@@ -56,35 +60,45 @@ forward-gates-requires c κs = search needs
 
 put-head-requires : tie.Need-put-head-requires
 put-head-requires c κs =
-    let s = c .before .before .before .before .before .before .before .before .before .before .before .before .before .before .before .before .before .before .before .before .before .before .before in
-    omega (arith, s .pre .1, c .before .before .slot .given)
+    let s = c .before .before .before .before .before .before .before .before .before .before .before .before .before .before .before .before .before .before .before .before .before .before .before .before .before .before .before .before .before .before .before .before in
+    omega (arith, s .pre .1 .1, c .before .before .slot .given)
 
 same-length : tie.Need-same-length
-same-length c = search needs
+same-length c = let w = c .before .before .before .before .before .before .before .before .before in omega (arith, w .own .given)
+
+same-length-2 : tie.Need-same-length-2
+same-length-2 c = let w = c .before .before .before .before .before .before .before in omega (arith, w .far .given)
+
+same-length-3 : tie.Need-same-length-3
+same-length-3 c = search needs
 
 returns : tie.Need-returns
 returns c =
     let p = c .before .before in
-    let f = p .before .before .before .before in
-    let k = f .before .before .before in
-    let s = k .before .before .before .before .before .before .before .before .before .before .before .before .before .before .before .before .before in (
+    let f = p .before .before .before .before .before .before .before .before in
+    let k = f .before .before .before .before .before in
+    let s = k .before .before .before .before .before .before .before .before .before .before .before .before .before .before .before .before .before .before .before .before in
+    let t = lent (s .args .table) (s .args .rows .now) in
+    let few : tableSound t (s .args .levels) ≡ true → 120 + t .count ≤ length (s .args .far .now) = λ y. omega (arith, sound t (s .args .levels) y .rows-held, s .pre .0 .1) in
+    let far : 120 ≤ length (s .args .far .now) = omega (arith, s .pre .0 .1) in (
       λ o z g w from to.
+          (let d = f .forward-gates .ensures o z g w .forwards from to (s .pre .0 .0) far few in
           one
           (gatewayIn (portIn (s .args .near) (s .args .lows .now) (s .args .highs .now) (s .args .given .now) o (s .args .receives .now) z)
-          (portIn (s .args .beyond) (s .args .least .now) (s .args .most .now) g (s .args .only .now) w (s .args .sends .now)) (lent (s .args .table) (s .args .rows .now)) (s .args .levels))
+          (portIn (s .args .beyond) (s .args .least .now) (s .args .most .now) g (s .args .only .now) w (s .args .sends .now)) t (s .args .levels))
           (s .args .datagram .now)
           (s .args .slot .now)
           (k .capped .result)
           (f .forward-gates .result)
           (f .forward-gates .last .1 .1 .1 .1 .1 .1 .1 .1 .1 .1 .1 .1 .1 .1 .1 .1 .1 .0)
           _
-          (s .pre .0)
-          (s .pre .1)
+          (s .pre .1 .0)
+          (s .pre .1 .1)
           (k .capped .ensures .2)
           (k .capped .ensures .3)
-          (f .forward-gates .ensures o z g w from to .0)
-          (f .forward-gates .ensures o z g w from to .1)
-          (p .put-head .ensures .0),
+          (d .0)
+          (d .1)
+          (p .put-head .ensures .0)),
       p .put-head .ensures .1,
     )
 
@@ -92,11 +106,11 @@ pub forward-slot-spec : {M : Type 1} → statement M
 forward-slot-spec =
     tie.close
     (tie.spec
-    shared-slice-read-t19
     shared-slice-read-t22
     shared-slice-read-t25
     shared-slice-read-t28
     shared-slice-read-t31
+    shared-slice-read-t34
     shared-slice-read-capped
     capped-requires
     add-end
@@ -109,4 +123,6 @@ forward-slot-spec =
     forward-gates-requires
     put-head-requires
     same-length
+    same-length-2
+    same-length-3
     returns)

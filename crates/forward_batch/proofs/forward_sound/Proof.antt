@@ -1,6 +1,7 @@
 -- `forward_batch::forward_sound` meets its contract.
 use borrow.Author.Needs.{needs}
 use native.Mathlib.Omega.{arith}
+use Rattle.table.specs.Table.{lent}
 use Rattle.gate.proofs.Back.{Places}
 use Rattle.forward_batch.proofs.Lists.{Counts, counts, keys-part, fields-part, sound-batch}
 use Rattle.forward_batch.proofs.forward_sound.Statement.{statement}
@@ -12,12 +13,12 @@ port-places-requires c κs = search needs
 port-places-requires-2 : tie.Need-port-places-requires-2
 port-places-requires-2 c κs = search needs
 
-places-from : (c : tie.After-port-places2) → Places (c .before .before .before .before .args .from)
+places-from : (c : tie.After-port-places2) → Places (c .before .before .before .before .before .args .from)
 places-from c =
     let e = c .before .port-places .ensures in
     record { assigned = e .0; default = e .1; receiving = e .2; sending = e .3 }
 
-places-to : (c : tie.After-port-places2) → Places (c .before .before .before .before .args .to)
+places-to : (c : tie.After-port-places2) → Places (c .before .before .before .before .before .args .to)
 places-to c =
     let e = c .port-places2 .ensures in
     record { assigned = e .0; default = e .1; receiving = e .2; sending = e .3 }
@@ -79,7 +80,7 @@ part-forward-gated-start c = search needs
 part-forward-gated-end : tie.Need-part-forward-gated-end
 part-forward-gated-end c =
     let f = c .before .before .before .before .before .before .before .before .before .before .before .before .before .before .before .before .before .before .before .before .before .before .before .before in
-    let s = f .before .before .before .before .before .before .before in
+    let s = f .before .before .before .before .before .before .before .before in
     omega (arith, counts-from s .lowest, f .lows2 .given)
 
 sub-forward-gated-2 : tie.Need-sub-forward-gated-2
@@ -91,7 +92,7 @@ part-forward-gated-start-2 c = search needs
 part-forward-gated-end-2 : tie.Need-part-forward-gated-end-2
 part-forward-gated-end-2 c =
     let f = c .before .before .before .before .before .before .before .before .before .before .before .before .before .before .before .before .before .before .before .before .before .before .before in
-    let s = f .before .before .before .before .before .before .before .before .before .before in
+    let s = f .before .before .before .before .before .before .before .before .before .before .before in
     omega (arith, counts-from s .highest, f .highs2 .given)
 
 sub-forward-gated-3 : tie.Need-sub-forward-gated-3
@@ -103,7 +104,7 @@ part-forward-gated-start-3 c = search needs
 part-forward-gated-end-3 : tie.Need-part-forward-gated-end-3
 part-forward-gated-end-3 c =
     let f = c .before .before .before .before .before .before .before .before .before .before .before .before .before .before .before .before .before .before .before .before .before .before in
-    let s = f .before .before .before .before .before .before .before .before .before .before .before .before .before in
+    let s = f .before .before .before .before .before .before .before .before .before .before .before .before .before .before in
     omega (arith, counts-from s .assigned, f .given2 .given)
 
 sub-forward-gated-4 : tie.Need-sub-forward-gated-4
@@ -115,7 +116,7 @@ part-forward-gated-start-4 c = search needs
 part-forward-gated-end-4 : tie.Need-part-forward-gated-end-4
 part-forward-gated-end-4 c =
     let y = c .before .before .before .before .before .before .before .before .before .before .before .before .before .before .before .before .before .before .before .before .before .before .before .before .before .before .before .before .before .before .before .before .before in
-    let s = y .before .before .before .before in
+    let s = y .before .before .before .before .before in
     omega (arith, counts-from s .receiving, places-from y .receiving)
 
 sub-forward-gated-5 : tie.Need-sub-forward-gated-5
@@ -127,7 +128,7 @@ part-forward-gated-start-5 c = search needs
 part-forward-gated-end-5 : tie.Need-part-forward-gated-end-5
 part-forward-gated-end-5 c =
     let f = c .before .before .before .before .before .before .before .before .before .before .before .before .before .before .before .before .before .before .before .before .before .before .before in
-    let s = f .before .before .before .before .before .before .before .before .before .before .before .before .before .before .before .before in
+    let s = f .before .before .before .before .before .before .before .before .before .before .before .before .before .before .before .before .before in
     omega (arith, counts-to s .lowest, f .least2 .given)
 
 sub-forward-gated-6 : tie.Need-sub-forward-gated-6
@@ -139,7 +140,7 @@ part-forward-gated-start-6 c = search needs
 part-forward-gated-end-6 : tie.Need-part-forward-gated-end-6
 part-forward-gated-end-6 c =
     let f = c .before .before .before .before .before .before .before .before .before .before .before .before .before .before .before .before .before .before .before .before .before .before in
-    let s = f .before .before .before .before .before .before .before .before .before .before .before .before .before .before .before .before .before .before .before in
+    let s = f .before .before .before .before .before .before .before .before .before .before .before .before .before .before .before .before .before .before .before .before in
     omega (arith, counts-to s .highest, f .most2 .given)
 
 sub-forward-gated-7 : tie.Need-sub-forward-gated-7
@@ -151,7 +152,7 @@ part-forward-gated-start-7 c = search needs
 part-forward-gated-end-7 : tie.Need-part-forward-gated-end-7
 part-forward-gated-end-7 c =
     let f = c .before .before .before .before .before .before .before .before .before .before .before .before .before .before .before .before .before .before .before .before .before in
-    let s = f .before .before .before .before .before .before .before .before .before .before .before .before .before .before .before .before .before .before .before .before .before .before in
+    let s = f .before .before .before .before .before .before .before .before .before .before .before .before .before .before .before .before .before .before .before .before .before .before .before in
     omega (arith, counts-to s .default, f .only2 .given)
 
 sub-forward-gated-8 : tie.Need-sub-forward-gated-8
@@ -163,12 +164,12 @@ part-forward-gated-start-8 c = search needs
 part-forward-gated-end-8 : tie.Need-part-forward-gated-end-8
 part-forward-gated-end-8 c =
     let y = c .before .before .before .before .before .before .before .before .before .before .before .before .before .before .before .before .before .before .before .before .before .before .before .before .before .before .before .before .before .before .before .before .before .before .before .before .before .before .before .before .before in
-    let s = y .before .before .before .before in
+    let s = y .before .before .before .before .before in
     omega (arith, counts-to s .sending, places-to y .sending)
 
 forward-gated-requires : tie.Need-forward-gated-requires
 forward-gated-requires c κs =
-    let s = c .before .before .before .before .before .before .before .before .before .before .before .before .before .before .before .before .before .before .before .before .before .before .before .before .before .before .before .before .before .before .before .before .before .before .before .before .before .before .before .before .before .before .before .before .before .before .before in
+    let s = c .before .before .before .before .before .before .before .before .before .before .before .before .before .before .before .before .before .before .before .before .before .before .before .before .before .before .before .before .before .before .before .before .before .before .before .before .before .before .before .before .before .before .before .before .before .before .before .before in
     s .pre .1
 
 same-length : tie.Need-same-length
@@ -185,10 +186,10 @@ returns c =
     let k2 = k3 .before .before .before in
     let k1 = k2 .before .before .before in
     let y = k1 .before .before in
-    let s = y .before .before .before .before in
+    let s = y .before .before .before .before .before in
     let m = counts-from s in
     let n = counts-to s in
-    sound-batch (s .args .from) (s .args .to) (s .args .table) (s .args .levels) (s .args .n) (s .args .input .now) (s .args .output .now) _
+    sound-batch (s .args .from) (s .args .to) (lent (s .args .table) (s .args .rows .now)) (s .args .levels) (s .args .n) (s .args .input .now) (s .args .output .now) _
     _ _ _ _ _ _ _ _ _ _
     (s .pre .0 .0) (s .pre .0 .1) (places-from y) (places-to y)
     (l .before .before .gate-of .ensures)
