@@ -52,7 +52,7 @@ reach-is : (p : Port) (area : List ℕ) (l : Label) → MeansAt p area l → bad
     → firstOf (arrivalChecks p area 9) ≡ reachOf p (arrivingBasic p area) l
 unfolding missingBasicCheck basicRangeCheck rangeCheck
 reach-is p area l o good d =
-    let q = label-reads p area l (own (o .0) (o .1) (o .2) (o .3) d) in
+    let q = label-reads p area l (own (o .0) (o .1) (o .2) (o .3) d (o .4)) in
     rw (q .walk, q .required, q .option, good) (ap (λ (z : Label). reachOf p (arrivingBasic p area) z) (q .label))
 
 -- without a route: 22 after the arriving port's checks

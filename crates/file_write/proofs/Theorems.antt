@@ -50,7 +50,8 @@ unfolding tableSayable
 all-tables version [] v e = refl
 all-tables version (x ∷ xs) v e =
     let t = sound (lentOf x) (levelsOf (x .item)) (and-left (lentSound x) _ e) in
-    and-both (rw (le-leb 2 version v) (and-both (le-leb (x .item .table .pairs) 256 (t .pairs-held)) (le-leb (x .item .table .count) 1024 (t .rows-held)))) (all-tables version xs v (and-right (lentSound x) _ e))
+    let a : tableSayable version x ≡ true = rw (le-leb 2 version v) (and-both (le-leb (x .item .table .pairs) 256 (t .pairs-held)) (le-leb (x .item .table .count) 1024 (t .rows-held))) in
+    and-both a (all-tables version xs v (and-right (lentSound x) _ e))
 
 plain-ports : (ps : List Port) → portsSayable 1 ps ≡ allPlain ps
 unfolding portSayable

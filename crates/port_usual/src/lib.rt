@@ -23,7 +23,8 @@ pub fn looks_usual(port: Port) -> bool
 {
     let low = port.lowest.count;
     let high = port.highest.count;
-    port.required & (!port.unlabelled & (!port.strict & (!port.basic.on & ((low == 0) & (high <= 1)))))
+    port.required
+        & (!port.unlabelled & (!port.strict & (!port.basic.on & ((low == 0) & (high <= 1)))))
 }
 
 // Whether it is, and is sound. Every place is fixed and no test ends it early, so that nothing is copied and all of the port is read at once;
