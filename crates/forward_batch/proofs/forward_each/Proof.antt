@@ -1,14 +1,14 @@
--- `export_batch::forward_each` meets its contract.
+-- `forward_batch::forward_each` meets its contract.
 use mathlib.Core.Path.{_≡_, refl, _∙_}
 use mathlib.Core.List.{_++_}
 use native.Mathlib.Omega.{arith}
 use Prim.Native.Nat.{_≤_, _-_, _*_, _+_}
 use lib.ListN.{length, take, drop}
 use Rattle.table.specs.Table.{lent}
-use Rattle.export_batch.specs.Batch.{batchOf}
-use Rattle.export_batch.proofs.Slots.{at-start, turn, part-length, whole-length, at-end}
-use Rattle.export_batch.proofs.forward_each.Statement.{statement}
-use Rattle.export_batch.proofs.forward_each.Tie as tie
+use Rattle.forward_batch.specs.Batch.{batchOf}
+use Rattle.forward_batch.proofs.Slots.{at-start, turn, part-length, whole-length, at-end}
+use Rattle.forward_batch.proofs.forward_each.Statement.{statement}
+use Rattle.forward_batch.proofs.forward_each.Tie as tie
 
 abbrev Inv-loop : tie.InvT-loop
 Inv-loop arriving leaving table rows levels n input output₀ at₀ i₀ output at i =

@@ -1,71 +1,19 @@
--- Records and slots: one datagram's slot, a turn of the loop over all, and the records picked from a file's set.
+-- Records and slots: one datagram's slot, and a turn of the loop over all.
 use mathlib.Core.Path.{_≡_, refl, sym, _∙_, ap}
-use mathlib.Core.Bool.{Bool, true, false, cond, _&&_}
-use mathlib.Core.List.{List, [], _∷_, _++_, append-assoc, append-nil}
-use Prim.Native.Nat.{ℕ, zero, suc, _+_, _-_, _<_, _≤_}
+use mathlib.Core.Bool.{Bool, true, false}
+use mathlib.Core.List.{List, [], _++_, append-assoc, append-nil}
+use Prim.Native.Nat.{ℕ, suc, _+_, _-_, _<_, _≤_}
 use native.Mathlib.Omega.{arith}
-use native.Mathlib.Nat.{not-suc-le-zero, le-of-suc-le-suc}
-use native.Mathlib.Numerals.{add-one}
-use lib.Dec.{leb, ltb}
+use lib.Dec.{leb}
 use borrow.Author.Tests.{leb-true, leb-false}
-use lib.ListN.{length, getD, take, drop, replicate, length-replicate, length-drop, length-append, take-append-drop, drop-of-length-le}
-use lib.Seq.{take-all, take-at, drop-at, drop-drop, drop-cons, length-take-le}
+use lib.ListN.{length, getD, take, drop, length-drop, length-append, take-append-drop, drop-of-length-le}
+use lib.Seq.{take-all, take-at, drop-at, drop-drop, length-take-le}
 use Rattle.decision.specs.declared.Decision.{Decision}
 use Rattle.forward_rules.specs.Crossing.{Forwarding}
-use Rattle.forward_rules.specs.Forward.{forwardOf, outputOf}
-use Rattle.forward_rules.specs.Forward.{forwardingOf}
-use Rattle.port.specs.declared.Port.{Port}
-use Rattle.table.specs.Renumbering.{LentTable, lentOf, levelsOf}
-use Rattle.table_choose.specs.declared.Tables.{Tables}
-use Rattle.table_choose.specs.Tables.{usedTables, tablesFrom, firstTable}
-use Rattle.file_set.specs.Set.{tablesIn}
-use Rattle.file_read.specs.declared.FileRead.{FileRead}
-use Rattle.file_read.specs.File.{fileReading, fileRoom}
-use Rattle.route_ports.specs.Ports.{unlistedPort, portAt}
-use Rattle.export_batch.specs.Batch.{Gateway, gatewayBy, between, setRead, rowsRead, gatewayOf, factsIn, areaIn, withHead, forwardingIn, slotOf, batchOf}
+use Rattle.forward_rules.specs.Forward.{forwardingOf, forwardOf, outputOf}
+use Rattle.forward_batch.specs.Batch.{Gateway, factsIn, areaIn, withHead, forwardingIn, slotOf, batchOf}
 
--- 1. What is picked.
-
--- an element inside does not depend on what stands for those past the end
-pub inside : {A : Type 0} (xs : List A) (i : ℕ) (d e : A) → i < length xs → getD xs i d ≡ getD xs i e
-inside [] i d e h = absurd (not-suc-le-zero h)
-inside (x ∷ xs) zero d e h = refl
-inside (x ∷ xs) (suc i) d e h = inside xs i d e (le-of-suc-le-suc h)
-
--- the records that were picked are the gateway's
-pub gateway-found : (a l : Port) (ts : Tables) (ns : List ℕ) (x : LentTable) (ls : List (List ℕ)) → x ≡ firstTable (a .domain) (l .domain) (tablesFrom (usedTables ts) ns) → ls ≡ levelsOf (x .item)
-    → record { arriving = a; leaving = l; table = lentOf x; levels = ls } ≡ between a l ts ns
-gateway-found a l ts ns x ls e f =
-    ap (λ (z : List (List ℕ)). record { arriving = a; leaving = l; table = lentOf x; levels = z }) f ∙ ap (gatewayBy a l) e
-
--- what was read of a file, into room for all rows that a sound one may have
-module _ (o : List ℕ) (f : FileRead) (rows : List ℕ) (e : f ≡ fileReading o (length (replicate {A = ℕ} 24576 0))) (er : rows ≡ fileRoom o (replicate 24576 0)) where
-  read : f ≡ fileReading o 24576
-  read = e ∙ ap (fileReading o) (length-replicate {A = ℕ} 24576 0)
-
-  rows-lent : take (f .used) rows ≡ rowsRead o
-  rows-lent = λ i. take (read i .used) (er i)
-
-  abbrev by-numbers : (t : Bool) (a l : ℕ) → Gateway
-  by-numbers t a l =
-      cond t (between (portAt (setRead o .ports) a) (portAt (setRead o .ports) l) (tablesIn (setRead o)) (rowsRead o))
-      (between unlistedPort unlistedPort (tablesIn (setRead o)) (rowsRead o))
-
-  module _ (a l : ℕ) where
-    pub both-there : (p q : Port) → (ltb a 16 && ltb l 16) ≡ true → p ≡ portAt (f .set .ports) a → q ≡ portAt (f .set .ports) l
-        → between p q (tablesIn (f .set)) (take (f .used) rows) ≡ gatewayOf (setRead o) (rowsRead o) a l
-    both-there p q t ep eq =
-        (λ i. between (ep i) (eq i) (tablesIn (f .set)) (rows-lent i))
-        ∙ (λ i. between (portAt (read i .set .ports) a) (portAt (read i .set .ports) l) (tablesIn (read i .set)) (rowsRead o))
-        ∙ ap (λ (b : Bool). by-numbers b a l) (sym t)
-
-    pub none-there : (p : Port) → (ltb a 16 && ltb l 16) ≡ false → p ≡ unlistedPort → between p p (tablesIn (f .set)) (take (f .used) rows) ≡ gatewayOf (setRead o) (rowsRead o) a l
-    none-there p t ep = (λ i. between (ep i) (ep i) (tablesIn (read i .set)) (rows-lent i)) ∙ ap (λ (b : Bool). by-numbers b a l) (sym t)
-
-pub batch-is : (g g′ : Gateway) (n m : ℕ) (ins outs w : List ℕ) → g ≡ g′ → n ≡ m → w ≡ batchOf g n ins outs → w ≡ batchOf g′ m ins outs
-batch-is g g′ n m ins outs w eg en e = e ∙ rw (eg, en)
-
--- 2. One record, as the code cuts it up.
+-- 1. One record, as the code cuts it up.
 
 -- its length octet may say more than a record holds
 area-by : (zs : List ℕ) (n k : ℕ) → length zs ≡ 56 → (n ≤ 56 → k ≡ n) → (56 ≤ n → k ≡ 56) → (t : Bool) → leb n 56 ≡ t → take k zs ≡ take n zs
@@ -103,7 +51,7 @@ one g r s k d ys last er es small large e₁ e₂ e₃ =
     ∙ ap (λ (zs : List ℕ). withHead (forwardOf (forwardingIn g r)) (take 24 s ++ zs)) (ap (λ (zs : List ℕ). ys ++ zs) over ∙ append-nil ys
     ∙ e₂ ∙ ap (λ (f : Forwarding). outputOf f (take (length s - 24) (drop 24 s))) same ∙ ap (outputOf (forwardingIn g r)) tail)
 
--- 3. A turn over a buffer of slots: what is done stands in front, and the rest is still to be done.
+-- 2. A turn over a buffer of slots: what is done stands in front, and the rest is still to be done.
 
 split-front : (front rest out : List ℕ) (k : ℕ) → length front ≡ k → out ≡ front ++ rest → (take k out ≡ front) × (drop k out ≡ rest)
 split-front front rest out k long e = (ap (take k) e ∙ take-at front rest k long, ap (drop k) e ∙ drop-at front rest k long)

@@ -1,9 +1,9 @@
--- `export_batch::put_head` meets its contract.
+-- `forward_batch::put_head` meets its contract.
 use borrow.Author.Needs.{needs}
 use native.Mathlib.Omega.{arith}
 use lib.ListN.{length-set}
-use Rattle.export_batch.proofs.put_head.Statement.{statement}
-use Rattle.export_batch.proofs.put_head.Tie as tie
+use Rattle.forward_batch.proofs.put_head.Statement.{statement}
+use Rattle.forward_batch.proofs.put_head.Tie as tie
 
 slice-write-slot : tie.Need-slice-write-slot
 slice-write-slot c = search needs

@@ -1,10 +1,10 @@
--- `export_batch::forward_one` meets its contract.
+-- `forward_batch::forward_one` meets its contract.
 use borrow.Author.Needs.{needs}
 use native.Mathlib.Omega.{arith}
 use Rattle.table.specs.Table.{lent}
-use Rattle.export_batch.proofs.Slots.{one}
-use Rattle.export_batch.proofs.forward_one.Statement.{statement}
-use Rattle.export_batch.proofs.forward_one.Tie as tie
+use Rattle.forward_batch.proofs.Slots.{one}
+use Rattle.forward_batch.proofs.forward_one.Statement.{statement}
+use Rattle.forward_batch.proofs.forward_one.Tie as tie
 
 shared-slice-read-t12 : tie.Need-shared-slice-read-t12
 shared-slice-read-t12 c = search needs

@@ -1,9 +1,9 @@
--- `export_batch::count_slots` meets its contract.
+-- `forward_batch::count_slots` meets its contract.
 use native.Mathlib.Omega.{arith}
 use borrow.Author.Tests.{lt-ltb, le-ltb}
-use Rattle.export_batch.specs.Batch.{slotCount}
-use Rattle.export_batch.proofs.count_slots.Statement.{statement}
-use Rattle.export_batch.proofs.count_slots.Tie as tie
+use Rattle.forward_batch.specs.Batch.{slotCount}
+use Rattle.forward_batch.proofs.count_slots.Statement.{statement}
+use Rattle.forward_batch.proofs.count_slots.Tie as tie
 
 returns : tie.Need-returns
 unfolding slotCount
