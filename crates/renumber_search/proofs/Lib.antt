@@ -1,0 +1,5 @@
+pub mod Halves
+pub mod Bisecting
+pub mod Cuts
+pub mod Joining
+pub mod Whole
