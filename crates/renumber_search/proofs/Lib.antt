@@ -3,3 +3,5 @@ pub mod Bisecting
 pub mod Cuts
 pub mod Joining
 pub mod Whole
+pub mod Search
+pub mod Carries

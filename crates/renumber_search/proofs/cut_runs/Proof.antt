@@ -86,8 +86,8 @@ loop-again c =
     let n : length (r .cut-run .last .1 .1 .1 .0) ≡ length (l .loop .far) = search needs in (
       omega (arith, d .loop-test .taken),
       all-again (rowsFrom (s .args .rows .now)) (keyRuns (take (s .args .n) own)) (s .args .far .now) (l .loop .w) (l .loop .i) (l .loop .j) (l .loop .far) (l .loop .inv .1)
-      (keyRun (getD own (l .loop .i) 0)) (next-key own (s .args .n) (l .loop .i) (d .loop-test .taken) (s .pre .0)) (f .find-row .result) (f .find-row .ensures) (omega (arith, many s, d .loop-test .taken)) (room s)
-      (r .cut-run .result .row) (r .cut-run .result .count) (r .cut-run .last .1 .1 .1 .0) (rw (not-false (r .cut-run .result .whole) (c .if1 .left)) at (r .cut-run .ensures)) n,
+          (keyRun (getD own (l .loop .i) 0)) (next-key own (s .args .n) (l .loop .i) (d .loop-test .taken) (s .pre .0)) (f .find-row .result) (f .find-row .ensures) (omega (arith, many s, d .loop-test .taken)) (room s)
+          (r .cut-run .result .row) (r .cut-run .result .count) (r .cut-run .last .1 .1 .1 .0) (rw (not-false (r .cut-run .result .whole) (c .if1 .left)) at (r .cut-run .ensures)) n,
     )
 
 to-cut-requires : tie.Need-to-cut-requires Inv-loop μ-loop
