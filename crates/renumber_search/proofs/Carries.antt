@@ -30,7 +30,8 @@ use Rattle.renumber_keys.proofs.Carrying.{runs-label, all-few, there-back, carr
 use Rattle.renumber_search.specs.Search.{bisect, givesTo, RunCut, cutNone, cutLast, cutMore, runCut, cutsOn, cutsFrom, roomFor, over, searchedTo, searchedOf, searchedKeys}
 use Rattle.renumber_search.specs.Theorems.{Carrying, SearchCarries}
 use Rattle.renumber_search.proofs.Search.{search-cuts}
-use Rattle.renumber_search.proofs.Cuts.{bisect-on, run-few}
+use Rattle.renumber_search.proofs.Bisecting.{bisect-on}
+use Rattle.renumber_search.proofs.Cuts.{run-few}
 use Rattle.renumber_search.proofs.Whole.{head-taken, sorted-many}
 
 -- What keys cover does not depend on their order.

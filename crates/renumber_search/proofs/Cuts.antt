@@ -2,9 +2,8 @@
 use mathlib.Core.Path.{_≡_, refl, sym, _∙_, ap}
 use mathlib.Core.Bool.{Bool, true, false, cond}
 use mathlib.Core.List.{List, [], _∷_, _++_, append-assoc, append-nil}
-use Prim.Native.Nat.{ℕ, zero, suc, _+_, _-_, _/_, _≤_, _<_, min}
+use Prim.Native.Nat.{ℕ, zero, suc, _+_, _-_, _≤_, _<_, min}
 use native.Mathlib.Omega.{arith}
-use native.Mathlib.Decide.{decLe}
 use lib.Dec.{leb}
 use lib.ListN.{length, take, drop, getD, set, length-append, length-set, length-drop, drop-of-length-le}
 use lib.Seq.{set-at, append-snoc, length-take-le, drop-cons, drop-drop, take-at, drop-at}
@@ -17,9 +16,9 @@ use Rattle.label.specs.declared.Run.{Run}
 use Rattle.table.specs.declared.Row.{Row}
 use Rattle.table.specs.Table.{noRow}
 use Rattle.renumber_keys.specs.Stages.{pieceKey}
-use Rattle.renumber_search.specs.Search.{endOf, halved, bisect, givesTo, RunCut, cutNone, cutLast, cutMore, runCut, Cuts, cutsOn, cutsFrom, over}
+use Rattle.renumber_search.specs.Search.{bisect, givesTo, RunCut, cutNone, cutLast, cutMore, runCut, Cuts, cutsOn, cutsFrom, over}
 use Rattle.renumber_search.specs.Stages.{RunIsCut, AllCut}
-use Rattle.renumber_search.proofs.Halves.{halved-none, halved-done, halved-up, halved-down}
+use Rattle.renumber_search.proofs.Bisecting.{bisect-on}
 
 -- One number more behind those that were written
 paint-more : (w : ℕ) (ks was : List ℕ) (p : ℕ) → w + length ks < length was → set (paint w ks was) (w + length ks) p ≡ paint w (ks ++ (p ∷ [])) was
@@ -130,21 +129,6 @@ module _ (rs : List Row) (row w high : ℕ) (c : RunCut) (was : List ℕ) (j k l
           written = more-written;
           sized = length-set far k p ∙ s .sized;
         }
-
--- The search answers a place at or behind that where it began, and none past the last row.
-halved-on : (n : ℕ) (rs : List Row) (c low high : ℕ) → low ≤ high → (low ≤ halved n rs c low high) × (halved n rs c low high ≤ high)
-halved-on zero rs c low high l = rw (halved-none rs c low high) (omega arith, l)
-halved-on (suc n) rs c low high l =
-    elim (decLe high low) [
-      | yes u ↦ rw (halved-done (suc n) rs c low high u) (omega arith, l)
-      | no u ↦ elim (decLe c (endOf rs (low + (high - low) / 2))) [
-        | yes w ↦ (let i = halved-on n rs c low (low + (high - low) / 2) (omega arith) in rw (halved-down n rs c low high (omega arith) w) (i .0, omega (arith, i .1)))
-        | no w ↦ (let i = halved-on n rs c (low + (high - low) / 2 + 1) high (omega arith) in rw (halved-up n rs c low high (omega arith) (omega arith)) (omega (arith, i .0), i .1))
-      ]
-    ]
-
-pub bisect-on : (rs : List Row) (from c : ℕ) → from ≤ length rs → (from ≤ bisect rs from c) × (bisect rs from c ≤ length rs)
-bisect-on rs from c h = halved-on (length rs) rs c from (length rs) h
 
 -- A run has a piece for each row that ends in it, and one more; each of these rows is there.
 pub run-few : (rs : List Row) (low high : ℕ) → runCut rs low high .whole ≡ true → (length (runCut rs low high .keys) ≡ runCut rs low high .passed + 1) × (runCut rs low high .passed < length rs)

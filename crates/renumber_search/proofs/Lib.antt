@@ -1,4 +1,3 @@
-pub mod Halves
 pub mod Bisecting
 pub mod Cuts
 pub mod Joining

@@ -26,7 +26,7 @@ use Rattle.renumber_keys.proofs.Carrying.{pieces-none}
 use Rattle.renumber_search.specs.Search.{endOf, bisect, givesTo, RunCut, cutNone, cutLast, cutMore, runCut, Cuts, cutsOn, cutsFrom}
 use Rattle.renumber_search.specs.Theorems.{Skips}
 use Rattle.renumber_search.proofs.Bisecting.{bisect-skips}
-use Rattle.renumber_search.proofs.Cuts.{bisect-on, run-few}
+use Rattle.renumber_search.proofs.Cuts.{run-few}
 
 -- Rows that lie behind a run, or behind where it begins, see no difference.
 run-behind : (f : ℕ) (rs : List Row) (x : Run) (xs : List Run) → rising f rs ≡ true → x .high < f → pieces rs (x ∷ xs) ≡ pieces rs xs

@@ -1,9 +1,10 @@
 -- Carrying by search (document 01, "Records"; document 02, wish 8): what is answered of whatever rows and runs. `specs/Theorems.antt` says what it is of sound ones.
 use mathlib.Core.Bool.{Bool, true, false, cond, _&&_}
 use mathlib.Core.List.{List, [], _∷_, _++_}
-use Prim.Native.Nat.{ℕ, zero, suc, _+_, _-_, _/_, min}
+use Prim.Native.Nat.{ℕ, suc, _+_, _-_, min}
 use lib.Dec.{leb, ltb}
 use lib.ListN.{length, drop, getD}
+use Rattle.lists_search.specs.Halves.{halved}
 use Rattle.lists_sort.specs.Order.{sortKeys}
 use Rattle.label.specs.declared.Run.{Run}
 use Rattle.table.specs.declared.Row.{Row}
@@ -15,17 +16,9 @@ use Rattle.renumber_search.specs.declared.Searched.{Searched}
 abbrev pub endOf : List Row → ℕ → ℕ
 endOf rs i = getD rs i noRow .high
 
--- between the places `low` and `high`, by halves, at most n times
-unfoldable pub halved : ℕ → List Row → ℕ → ℕ → ℕ → ℕ
-halved zero rs c low high = low
-halved (suc n) rs c low high =
-    cond (ltb low high)
-    (cond (ltb (endOf rs (low + (high - low) / 2)) c) (halved n rs c (low + (high - low) / 2 + 1) high) (halved n rs c low (low + (high - low) / 2)))
-    low
-
--- of rows that rise the first from `from` on that ends at c or after it
+-- of rows that rise the first from `from` on that ends at c or after it, by halves
 abbrev pub bisect : List Row → ℕ → ℕ → ℕ
-bisect rs from c = halved (length rs) rs c from (length rs)
+bisect rs from c = halved (length rs) (λ i. ltb (endOf rs i) c) from (length rs)
 
 -- the row gives a number to each category from a to b: it begins at a or before, and its numbers keep to the highest category
 abbrev pub givesTo : Row → ℕ → ℕ → Bool

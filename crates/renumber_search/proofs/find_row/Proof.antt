@@ -1,17 +1,26 @@
 -- `renumber_search::find_row` meets its contract.
 use native.Mathlib.Omega.{arith}
-use Prim.Native.Nat.{_+_, _-_, _*_, _/_, _≤_}
+use Prim.Native.Nat.{ℕ, _+_, _-_, _*_, _/_, _≤_}
 use mathlib.Core.Path.{_≡_, sym}
+use mathlib.Core.Bool.{Bool}
+use mathlib.Core.List.{List}
+use lib.Dec.{ltb}
+use borrow.Author.Tests.{lt-ltb, le-ltb}
 use lib.ListN.{length, getD}
 use Rattle.table.specs.Table.{rowsFrom}
-use Rattle.renumber_search.specs.Search.{endOf}
-use Rattle.renumber_search.proofs.Halves.{Halving, halving-start, halving-up, halving-down, halving-end, end-read}
+use Rattle.renumber_search.specs.Search.{endOf, bisect}
+use Rattle.lists_search.proofs.Halves.{Halving, halving-start, halving-up, halving-down, halving-end}
+use Rattle.renumber_search.proofs.Bisecting.{end-read}
 use Rattle.table.proofs.Lent.{rows-length}
 use Rattle.renumber_search.proofs.find_row.Statement.{statement}
 use Rattle.renumber_search.proofs.find_row.Tie as tie
 
+-- the row ends before the category
+abbrev past : List ℕ → ℕ → ℕ → Bool
+past rows c i = ltb (endOf (rowsFrom rows) i) c
+
 abbrev Inv-loop : tie.InvT-loop
-Inv-loop rows from c low₀ high₀ low high = Halving (rowsFrom rows) from c low high
+Inv-loop rows from c low₀ high₀ low high = Halving (past rows c) (bisect (rowsFrom rows) from c) (length (rowsFrom rows)) low high
 
 abbrev μ-loop : tie.MeasureT-loop
 μ-loop rows from c low₀ high₀ low high = high - low
@@ -32,7 +41,8 @@ ended c =
 loop-holds : tie.Need-loop-holds Inv-loop μ-loop
 loop-holds c =
     let s = c .before in
-    halving-start (rowsFrom (s .args .rows .now)) (s .args .from) (s .args .c) (length (s .args .rows .now) / 3) (sym (rows-length (s .args .rows .now)))
+    let rs = rowsFrom (s .args .rows .now) in
+    rw (sym (rows-length (s .args .rows .now))) (halving-start (past (s .args .rows .now) (s .args .c)) (length rs) (s .args .from) (length rs) (omega arith))
 
 sub-middle : tie.Need-sub-middle Inv-loop μ-loop
 sub-middle c = omega (arith, c .loop-test .taken)
@@ -67,7 +77,8 @@ loop-again c =
     let l = w .before .before .before in
     let s = l .before .before in
     let i = w .before .before .loop-test .taken in
-    halving-up (rowsFrom (s .args .rows .now)) (s .args .from) (s .args .c) (l .loop .low) (l .loop .high) i (l .loop .inv) (rw (ended (w .before .before), ← w .widen .ensures .0) (c .if1 .taken))
+    halving-up (past (s .args .rows .now) (s .args .c)) (bisect (rowsFrom (s .args .rows .now)) (s .args .from) (s .args .c)) (length (rowsFrom (s .args .rows .now))) (l .loop .low) (l .loop .high) i (l .loop .inv)
+    (lt-ltb _ (s .args .c) (rw (ended (w .before .before), ← w .widen .ensures .0) (c .if1 .taken)))
 
 loop-less-2 : tie.Need-loop-less-2 Inv-loop μ-loop
 loop-less-2 c = omega (arith, c .before .before .before .loop-test .taken)
@@ -78,13 +89,14 @@ loop-again-2 c =
     let l = w .before .before .before in
     let s = l .before .before in
     let i = w .before .before .loop-test .taken in
-    halving-down (rowsFrom (s .args .rows .now)) (s .args .from) (s .args .c) (l .loop .low) (l .loop .high) i (l .loop .inv) (rw (ended (w .before .before), ← w .widen .ensures .0) (c .if1 .left))
+    halving-down (past (s .args .rows .now) (s .args .c)) (bisect (rowsFrom (s .args .rows .now)) (s .args .from) (s .args .c)) (length (rowsFrom (s .args .rows .now))) (l .loop .low) (l .loop .high) i (l .loop .inv)
+    (le-ltb _ (s .args .c) (rw (ended (w .before .before), ← w .widen .ensures .0) (c .if1 .left)))
 
 returns : tie.Need-returns Inv-loop μ-loop
 returns c =
     let l = c .before in
     let s = l .before .before in
-    halving-end (rowsFrom (s .args .rows .now)) (s .args .from) (s .args .c) (l .loop .low) (l .loop .high) (l .loop .inv) (c .loop-test .left)
+    halving-end (past (s .args .rows .now) (s .args .c)) (bisect (rowsFrom (s .args .rows .now)) (s .args .from) (s .args .c)) (length (rowsFrom (s .args .rows .now))) (l .loop .low) (l .loop .high) (l .loop .inv) (c .loop-test .left)
 
 pub find-row-spec : {M : Type 1} → statement M
 find-row-spec =
