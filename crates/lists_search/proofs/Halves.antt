@@ -3,6 +3,7 @@ use mathlib.Core.Path.{_≡_, refl, sym, _∙_, ap}
 use mathlib.Core.Bool.{Bool, true, false}
 use Prim.Native.Nat.{ℕ, zero, suc, _+_, _-_, _/_, _≤_, _<_}
 use native.Mathlib.Omega.{arith}
+use native.Mathlib.Decide.{decLe}
 use borrow.Author.Tests.{lt-ltb, le-ltb}
 use Rattle.lists_search.specs.Halves.{halved}
 
@@ -22,6 +23,24 @@ halved-up n past low high h l = rw (lt-ltb low high h, l)
 pub halved-down : (n : ℕ) (past : ℕ → Bool) (low high : ℕ) → low < high → past (low + (high - low) / 2) ≡ false → halved (suc n) past low high ≡ halved n past low (low + (high - low) / 2)
 unfolding halved
 halved-down n past low high h l = rw (lt-ltb low high h, l)
+
+-- tests that agree at every place below the upper end come to the same
+pub halved-same : (n : ℕ) (p q : ℕ → Bool) (low high : ℕ) → ((i : ℕ) → i < high → p i ≡ q i) → halved n p low high ≡ halved n q low high
+halved-same zero p q low high h = halved-none p low high ∙ sym (halved-none q low high)
+halved-same (suc n) p q low high h =
+    elim (decLe high low) [
+      | yes u ↦ halved-done (suc n) p low high u ∙ sym (halved-done (suc n) q low high u)
+      | no u ↦ go (p (low + (high - low) / 2)) refl (omega arith) (h (low + (high - low) / 2) (omega arith))
+          (halved-same n p q (low + (high - low) / 2 + 1) high h)
+          (halved-same n p q low (low + (high - low) / 2) (λ i l. h i (omega arith)))
+    ]
+  where
+    go : (b : Bool) → p (low + (high - low) / 2) ≡ b → low < high → p (low + (high - low) / 2) ≡ q (low + (high - low) / 2)
+        → halved n p (low + (high - low) / 2 + 1) high ≡ halved n q (low + (high - low) / 2 + 1) high
+        → halved n p low (low + (high - low) / 2) ≡ halved n q low (low + (high - low) / 2)
+        → halved (suc n) p low high ≡ halved (suc n) q low high
+    go true e l same up down = halved-up n p low high l e ∙ up ∙ sym (halved-up n q low high l (sym same ∙ e))
+    go false e l same up down = halved-down n p low high l e ∙ down ∙ sym (halved-down n q low high l (sym same ∙ e))
 
 -- Where the loop stands: what is left says the same as the whole, and the turns that are left are enough.
 pub record Halving (past : ℕ → Bool) (whole top low high : ℕ) : Type 0 where

@@ -39,8 +39,8 @@ module _ (past : ℕ → Bool) where
         elim (decLe high low) [
           | yes u ↦ none-between (suc n) low high u a l h b t
           | no u ↦ go (past (low + (high - low) / 2)) refl (omega arith)
-            (λ e. halved-parts n low (low + (high - low) / 2) (omega arith) a (omega arith) (omega arith) b (λ z. e))
-            (λ e. halved-parts n (low + (high - low) / 2 + 1) high (omega arith) (omega arith) (omega arith) h (λ j p q. once j (low + (high - low) / 2) (omega arith) (omega arith) e) t)
+              (λ e. halved-parts n low (low + (high - low) / 2) (omega arith) a (omega arith) (omega arith) b (λ z. e))
+              (λ e. halved-parts n (low + (high - low) / 2 + 1) high (omega arith) (omega arith) (omega arith) h (λ j p q. once j (low + (high - low) / 2) (omega arith) (omega arith) e) t)
         ]
       where
         go : (v : Bool) → past (low + (high - low) / 2) ≡ v → low < high
