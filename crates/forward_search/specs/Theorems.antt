@@ -20,10 +20,10 @@ module _ (r : Verdict) (domain leaving : ℕ) (t : Lent) (ls : List (List ℕ)) 
   abbrev pub keys : List ℕ
   keys = actsKeys r (eqb domain leaving) (eqb (t .from) domain && eqb (t .to) leaving) (partnersIn (take (t .pairs) ls) was) (usedRows t) own far
 
-  -- the verdict is the same; the keys are those that the other leaves in a list that holds these already
+  -- the verdict is the same; where it goes on, the keys are those that the other leaves in a list that holds these already
   pub record Crosses : Type 0 where
     pub verdict : acts ≡ crossedBy r domain leaving t ls own (length far)
-    pub far-keys : keys ≡ crossedKeys r domain leaving t ls own keys
+    pub far-keys : acts .number ≡ 0 → keys ≡ crossedKeys r domain leaving t ls own keys
     pub sized : length keys ≡ length far
 
 pub record ActsCross : Type 0 where

@@ -56,9 +56,9 @@ listing-next p ps was partners a b h s ea eb l =
       rest = drop-set-lt 256 partners a b (omega arith) ∙ s .rest;
       each = λ v w. elim (ℕ-discrete a v) [
         | yes e ↦ (let q : getD p 0 0 ≡ v = sym ea ∙ e in
-          ap (λ (k : ℕ). getD (set partners a b) k 256) (sym e) ∙ getD-set-same partners a b 256 (omega (arith, s .sized)) ∙ eb ∙ sym (rw (eq-eqb (getD p 0 0) v q)))
+            ap (λ (k : ℕ). getD (set partners a b) k 256) (sym e) ∙ getD-set-same partners a b 256 (omega (arith, s .sized)) ∙ eb ∙ sym (rw (eq-eqb (getD p 0 0) v q)))
         | no e ↦ (let q : (getD p 0 0 ≡ v → ⊥) = λ z. e (ea ∙ z) in
-          getD-set-other partners a v b 256 (λ z. e (sym z)) ∙ s .each v w ∙ sym (rw (ne-eqb (getD p 0 0) v q)))
+            getD-set-other partners a v b 256 (λ z. e (sym z)) ∙ s .each v w ∙ sym (rw (ne-eqb (getD p 0 0) v q)))
       ];
     }
 

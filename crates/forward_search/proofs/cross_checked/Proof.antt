@@ -1,58 +1,64 @@
 -- `forward_search::cross_checked` meets its contract.
 use borrow.Author.Needs.{needs}
+use mathlib.Core.Path.{_≡_, sym, _∙_, ap}
+use borrow.Author.Tests.{not-true, not-false}
+use Rattle.forward_search.proofs.Acts.{acts-same, acts-stopped, acts-none, acts-searched}
+use Rattle.table.specs.Table.{rowsFrom}
 use Rattle.forward_search.proofs.cross_checked.Statement.{statement}
 use Rattle.forward_search.proofs.cross_checked.Tie as tie
-use Rattle.forward_search.proofs.cross_checked.Reads as reads
-use Rattle.forward_search.proofs.cross_checked.Lts as lts
-use Rattle.decision.proofs.stop.Reads as stop-reads
-use Rattle.forward_search.proofs.verdict_of.Reads as verdict-of-reads
-use Rattle.lists.proofs.copy_keys.Reads as copy-keys-reads
-use Rattle.renumber_partners.proofs.partner_at.Reads as partner-at-reads
-use Rattle.renumber_search.proofs.carry_rows.Reads as carry-rows-reads
 
--- src/lib.rt:32:9
 copy-keys-requires : tie.Need-copy-keys-requires
 copy-keys-requires c κs = search needs
 
--- src/lib.rt:33:9
 same-length : tie.Need-same-length
 same-length c = search needs
 
--- src/lib.rt:33:9
 returns : tie.Need-returns
-returns c = search needs
+returns c =
+    let k = c .before .before in
+    let t = k .before .before in
+    let a = t .before .before .before .before .before .args in
+    acts-same (a .arrived) (a .same) (a .there) (a .partners .now) (rowsFrom (a .rows .now)) (a .own .now) (a .far .now) (t .if1 .taken) (k .copy-keys .last .1 .0) (k .copy-keys .ensures)
 
--- src/lib.rt:36:9
 returns-2 : tie.Need-returns-2
-returns-2 c = search needs
+returns-2 c =
+    let e = c .before .before in
+    let a = e .before .before .before .before .before .args in
+    acts-stopped (a .arrived) (a .same) (a .there) (a .partners .now) (rowsFrom (a .rows .now)) (a .own .now) (a .far .now) (e .if1 .left) (c .if2 .taken)
 
--- src/lib.rt:38:9
 partner-at-requires : tie.Need-partner-at-requires
 partner-at-requires c κs = search needs
 
--- src/lib.rt:41:9
 stop-requires : tie.Need-stop-requires
 stop-requires c κs = search needs
 
--- src/lib.rt:41:9
 returns-3 : tie.Need-returns-3
-returns-3 c = search needs
+returns-3 c =
+    let p = c .before .before in
+    let g = p .before in
+    let e = g .before .before in
+    let a = e .before .before .before .before .before .args in
+    acts-none (a .arrived) (a .same) (a .there) (a .partners .now) (rowsFrom (a .rows .now)) (a .own .now) (a .far .now) (e .if1 .left) (g .if2 .left) (p .partner-at .result) (p .partner-at .ensures) (not-true _ (c .before .if3 .taken)) (c .stop .result) (c .stop .ensures)
 
--- src/lib.rt:43:9
 carry-rows-requires : tie.Need-carry-rows-requires
 carry-rows-requires c κs = search needs
 
--- src/lib.rt:44:5
 verdict-of-requires : tie.Need-verdict-of-requires
 verdict-of-requires c κs = search needs
 
--- src/lib.rt:19:1
 same-length-2 : tie.Need-same-length-2
 same-length-2 c = search needs
 
--- src/lib.rt:19:1
 returns-4 : tie.Need-returns-4
-returns-4 c = search needs
+returns-4 c =
+    let s = c .before .before .before in
+    let q = s .before .before in
+    let p = q .before in
+    let g = p .before in
+    let e = g .before .before in
+    let a = e .before .before .before .before .before .args in
+    acts-searched (a .arrived) (a .same) (a .there) (a .partners .now) (rowsFrom (a .rows .now)) (a .own .now) (a .far .now) (e .if1 .left) (g .if2 .left) (p .partner-at .result) (p .partner-at .ensures) (not-false _ (q .if3 .left))
+    (s .carry-rows .result) (s .carry-rows .ensures .0) (s .carry-rows .last .1 .1 .1 .0) (s .carry-rows .ensures .1) (c .verdict-of .result) (c .verdict-of .ensures)
 
 pub cross-checked-spec : {M : Type 1} → statement M
 cross-checked-spec =

@@ -82,9 +82,10 @@ loop-again c =
     let n : length (k .clear .last .0) ≡ length (s .args .partners .now) = search needs in
     let z : i - 1 + 1 ≡ i = omega (arith, d .loop-test .taken) in
     let e : drop (i - 1) (take (s .args .pairs) (s .args .t1)) ≡ getD (s .args .t1) (i - 1) [] ∷ drop i (take (s .args .pairs) (s .args .t1)) =
-    rw z at (next-there [] (s .args .t1) (s .args .pairs) (i - 1) (omega (arith, l .loop .inv .0, d .loop-test .taken)) (omega (arith, l .loop .inv .0, d .loop-test .taken, sized s))) in
-    (omega (arith, l .loop .inv .0),
-    rw e (listing-next (getD (s .args .t1) (i - 1) []) (drop i (take (s .args .pairs) (s .args .t1))) (k .clear .last .0) (l .loop .partners) (p .place .result) (c .wide .result) (omega (arith, n, k .before .before .if1 .left)) (l .loop .inv .1) (p .place .ensures .0) (c .wide .ensures) (p .place .ensures .1)))
+    rw z at (next-there [] (s .args .t1) (s .args .pairs) (i - 1) (omega (arith, l .loop .inv .0, d .loop-test .taken)) (omega (arith, l .loop .inv .0, d .loop-test .taken, sized s))) in (
+      omega (arith, l .loop .inv .0),
+      rw e (listing-next (getD (s .args .t1) (i - 1) []) (drop i (take (s .args .pairs) (s .args .t1))) (k .clear .last .0) (l .loop .partners) (p .place .result) (c .wide .result) (omega (arith, n, k .before .before .if1 .left)) (l .loop .inv .1) (p .place .ensures .0) (c .wide .ensures) (p .place .ensures .1)),
+    )
 
 same-length : tie.Need-same-length Inv-loop μ-loop
 same-length c =
