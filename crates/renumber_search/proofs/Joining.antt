@@ -6,12 +6,17 @@ use Prim.Native.Nat.{ℕ, suc, _+_, _-_, _≤_, _<_}
 use native.Mathlib.Omega.{arith}
 use lib.ListN.{length, take, drop, getD, set, length-set, length-append, take-append-drop}
 use lib.Seq.{getD-drop, drop-set-lt, length-take-le, append-snoc}
-use Rattle.lists_sort.proofs.Merge.{put}
+use lib.Dec.{leb}
+use borrow.Author.Tests.{leb-true}
+use Rattle.lists_sort.specs.Order.{Sorted, sortKeys}
+use Rattle.lists_sort.proofs.Merge.{put, sorted-self}
+use Rattle.label.proofs.Bools.{and-left, and-right}
 use Rattle.label.proofs.Steps.{next-used, used-up}
 use Rattle.label_ranges.specs.Ranges.{reached, stretched}
 use Rattle.renumber_keys.specs.Stages.{joinFrom, joinAll}
 use Rattle.renumber_keys.proofs.Turns.{same-later}
 use Rattle.renumber_search.specs.Search.{over}
+use Rattle.renumber_search.specs.Stages.{ascends}
 
 -- The first w are joined; the one at hand and those from i on are left.
 pub record Joining (was : List ℕ) (n : ℕ) (keys : List ℕ) (last w i : ℕ) : Type 0 where
@@ -69,3 +74,11 @@ module _ (was : List ℕ) (n : ℕ) (h : n ≤ length was) (keys : List ℕ) (la
       let m : w + 1 ≡ length (joinAll (take n was)) = sym (length-take-le (w + 1) (set keys w last) (omega (arith, length-set keys w last))) ∙ ap length (sym e) in
       let d : drop (w + 1) (set keys w last) ≡ drop (length (joinAll (take n was))) was = drop-set-lt (w + 1) keys w last (omega arith) ∙ same-later keys was w (w + 1) (omega arith) (s .rest) ∙ ap (λ (k : ℕ). drop k was) m in
       (m, sym (take-append-drop (w + 1) (set keys w last)) ∙ ap (λ (z : List ℕ). z ++ drop (w + 1) (set keys w last)) (sym e) ∙ ap (λ (z : List ℕ). joinAll (take n was) ++ z) d)
+
+-- Keys that stand in order.
+pub stands-sorted : (lo : ℕ) (ks : List ℕ) → ascends lo ks ≡ true → Sorted lo ks
+stands-sorted lo [] e = tt
+stands-sorted lo (k ∷ ks) e = (leb-true lo k (and-left (leb lo k) _ e), stands-sorted k ks (and-right (leb lo k) _ e))
+
+pub stands-same : (keys : List ℕ) (n : ℕ) → ascends 0 (take n keys) ≡ true → keys ≡ sortKeys (take n keys) ++ drop n keys
+stands-same keys n e = sym (take-append-drop n keys) ∙ ap (λ (z : List ℕ). z ++ drop n keys) (sym (sorted-self 0 (take n keys) (stands-sorted 0 (take n keys) e)))

@@ -16,9 +16,13 @@ use Rattle.renumber_search.specs.declared.Searched.{Searched}
 abbrev pub endOf : List Row → ℕ → ℕ
 endOf rs i = getD rs i noRow .high
 
--- of rows that rise the first from `from` on that ends at c or after it, by halves
-abbrev pub bisect : List Row → ℕ → ℕ → ℕ
-bisect rs from c = halved (length rs) (λ i. ltb (endOf rs i) c) from (length rs)
+-- by halves between row `from` and the last
+abbrev pub halves : List Row → ℕ → ℕ → ℕ
+halves rs from c = halved (length rs) (λ i. ltb (endOf rs i) c) from (length rs)
+
+-- of rows that rise the first from `from` on that ends at c or after it: a look at the row at hand, then by halves
+unfoldable pub bisect : List Row → ℕ → ℕ → ℕ
+bisect rs from c = cond (ltb from (length rs) && leb c (endOf rs from)) from (halves rs from c)
 
 -- the row gives a number to each category from a to b: it begins at a or before, and its numbers keep to the highest category
 abbrev pub givesTo : Row → ℕ → ℕ → Bool

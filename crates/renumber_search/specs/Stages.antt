@@ -1,11 +1,17 @@
 -- What the private functions answer; no public contract names these.
 use mathlib.Core.Path.{_≡_}
-use mathlib.Core.Bool.{Bool, true}
-use mathlib.Core.List.{List}
+use mathlib.Core.Bool.{Bool, true, _&&_}
+use mathlib.Core.List.{List, [], _∷_}
 use Prim.Native.Nat.{ℕ, _+_}
+use lib.Dec.{leb}
 use lib.ListN.{length}
 use Rattle.lists.specs.Lists.{paint}
 use Rattle.renumber_search.specs.Search.{RunCut, Cuts, over}
+
+-- each number is the one before it or above it, the first `lo` or above
+abbrev pub ascends : ℕ → List ℕ → Bool
+ascends lo [] = true
+ascends lo (x ∷ xs) = leb lo x && ascends x xs
 
 -- one run, whose pieces are written from place w on
 pub record RunIsCut (c : RunCut) (row w : ℕ) (whole : Bool) (at count : ℕ) (was far : List ℕ) : Type 0 where

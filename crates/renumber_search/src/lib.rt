@@ -7,19 +7,35 @@ use lists_sort::sort_keys;
 use table::Row;
 use table::row_at;
 ghost use mathlib.Core.Path.{_≡_};
-ghost use mathlib.Core.Bool.{true};
+ghost use mathlib.Core.List.{_++_};
 ghost use Prim.Native.Nat.{_+_, _-_, _*_, _/_, _%_, _≤_, min};
 ghost use lib.ListN.{length, take, drop};
 ghost use Rattle.label_keys.specs.Keys.{keyRuns};
 ghost use Rattle.table.specs.Table.{rowsFrom};
 ghost use Rattle.renumber_keys.specs.Stages.{joinAll, pieceKey};
-ghost use Rattle.renumber_search.specs.Search.{bisect, givesTo, runCut, cutsFrom, over, roomFor, searchedTo, searchedOf, searchedKeys};
-ghost use Rattle.renumber_search.specs.Stages.{RunIsCut, AllCut};
+ghost use Rattle.renumber_search.specs.Search.{halves, bisect, givesTo, runCut, cutsFrom, over, roomFor, searchedTo, searchedOf, searchedKeys};
+ghost use Rattle.renumber_search.specs.Stages.{ascends, RunIsCut, AllCut};
+ghost use Rattle.lists_sort.specs.Order.{sortKeys};
 
 // From row `from` on: the number of the first row that ends at c or after it, that of all rows where there is none. Of rows that do not rise it
-// answers what halving comes to; from a place past the last row on it answers that place.
+// answers what the search comes to; from a place past the last row on it answers that place.
 pub fn find_row(rows: &[u16], from: usize, c: u32) -> usize
     ensures { λ r. ⌜ r ≡ bisect (rowsFrom (now (rows .entry))) from c ⌝ }
+{
+    if rows.len() / 3 <= from {
+        return from;
+    }
+    // the row at hand first: runs that follow one another often lie in one row
+    let row = row_at(rows, from);
+    let end = widen(row.high);
+    if c <= end {
+        return from;
+    }
+    halve_rows(rows, from, c)
+}
+
+fn halve_rows(rows: &[u16], from: usize, c: u32) -> usize
+    ensures { λ r. ⌜ r ≡ halves (rowsFrom (now (rows .entry))) from c ⌝ }
 {
     let mut low = from;
     let mut high = rows.len() / 3;
@@ -71,7 +87,7 @@ pub fn carry_rows(own: &[u32], n: usize, rows: &[u16], far: &mut [u32]) -> Searc
     if !cut.whole {
         return to_searched(false, 0);
     }
-    sort_keys(far, k);
+    order_keys(far, k);
     let count = join_keys(far, k);
     to_searched(true, count)
 }
@@ -186,6 +202,34 @@ fn piece_key(row: Row, low: u32, high: u32) -> u32
     let target = row.target as u32;
     let base = row.low as u32;
     (target + (low - base)) * 65536 + (target + (high - base))
+}
+
+// The first n keys are put in order, where they do not stand so.
+fn order_keys(keys: &mut [u32], n: usize)
+    requires { ⌜ n ≤ length (now keys) ⌝ }
+    ensures { λ _. ⌜ now (keys .exit) ≡ sortKeys (take n (now (keys .entry))) ++ drop n (now (keys .entry)) ⌝ }
+{
+    if stand_in_order(keys, n) {
+        return;
+    }
+    sort_keys(keys, n);
+}
+
+fn stand_in_order(keys: &[u32], n: usize) -> bool
+    requires { ⌜ n ≤ length (now keys) ⌝ }
+    ensures { λ r. ⌜ r ≡ ascends 0 (take n (now (keys .entry))) ⌝ }
+{
+    let mut last: u32 = 0;
+    let mut i: usize = 0;
+    while i < n {
+        let key = keys[i];
+        if key < last {
+            return false;
+        }
+        last = key;
+        i += 1;
+    }
+    true
 }
 
 // The first n keys, which are in order, joined where they touch, at the head of the list; the rest stays.

@@ -74,15 +74,19 @@ returns-2 c =
     (not-whole (rowsFrom (a .rows .now)) (keyRuns (take (a .n) (a .own .now))) (a .far .now) (sym (room h) ∙ not-false _ (e .if1 .left)) (r .cut-runs .result .count) (r .cut-runs .last .1 .1 .1 .0)
     (rw (not-true (r .cut-runs .result .whole) (c .before .if2 .taken)) at (cut r)))
 
-sort-keys-requires : tie.Need-sort-keys-requires
-sort-keys-requires c κs = search needs
+order-keys-requires : tie.Need-order-keys-requires
+order-keys-requires c κs =
+    let q = c .before in
+    let r = q .before .before .before .before in
+    let a = start (r .before .before .before) .args in
+    cut-inside (rowsFrom (a .rows .now)) (keyRuns (take (a .n) (a .own .now))) (r .cut-runs .result .whole) (r .cut-runs .result .count) (a .far .now) (r .cut-runs .last .1 .1 .1 .0) (cut r)
 
 join-keys-requires : tie.Need-join-keys-requires
 join-keys-requires c κs =
     let k = c .before .before .before in
     let r = k .before .before .before .before .before .before in
     let a = start (r .before .before .before) .args in
-    let n : length (k .sort-keys .last .0) ≡ length (r .cut-runs .last .1 .1 .1 .0) = search needs in
+    let n : length (k .order-keys .last .0) ≡ length (r .cut-runs .last .1 .1 .1 .0) = search needs in
     omega (arith, n, cut-inside (rowsFrom (a .rows .now)) (keyRuns (take (a .n) (a .own .now))) (r .cut-runs .result .whole) (r .cut-runs .result .count) (a .far .now) (r .cut-runs .last .1 .1 .1 .0) (cut r))
 
 to-searched-requires-3 : tie.Need-to-searched-requires-3
@@ -102,7 +106,7 @@ returns-3 c =
     let a = start h .args in
     rw (c .to-searched3 .ensures)
     (carried-whole (rowsFrom (a .rows .now)) (keyRuns (take (a .n) (a .own .now))) (a .far .now) (sym (room h) ∙ not-false _ (e .if1 .left)) (r .cut-runs .result .count) (r .cut-runs .last .1 .1 .1 .0)
-    (rw (not-false (r .cut-runs .result .whole) (q .if2 .left)) at (cut r)) (k .sort-keys .last .0) (k .sort-keys .ensures) (j .join-keys .result) (j .join-keys .last .0) (j .join-keys .ensures .0) (j .join-keys .ensures .1))
+    (rw (not-false (r .cut-runs .result .whole) (q .if2 .left)) at (cut r)) (k .order-keys .last .0) (k .order-keys .ensures) (j .join-keys .result) (j .join-keys .last .0) (j .join-keys .ensures .0) (j .join-keys .ensures .1))
 
 pub carry-rows-spec : {M : Type 1} → statement M
 carry-rows-spec =
@@ -116,7 +120,7 @@ carry-rows-spec =
     to-searched-requires-2
     same-length
     returns-2
-    sort-keys-requires
+    order-keys-requires
     join-keys-requires
     to-searched-requires-3
     same-length-2

@@ -1,120 +1,48 @@
 -- `renumber_search::find_row` meets its contract.
+use borrow.Author.Needs.{needs}
 use native.Mathlib.Omega.{arith}
-use Prim.Native.Nat.{ℕ, _+_, _-_, _*_, _/_, _≤_}
-use mathlib.Core.Path.{_≡_, sym}
-use mathlib.Core.Bool.{Bool}
-use mathlib.Core.List.{List}
-use lib.Dec.{ltb}
-use borrow.Author.Tests.{lt-ltb, le-ltb}
-use lib.ListN.{length, getD}
+use mathlib.Core.Path.{_≡_, sym, _∙_, ap}
+use lib.ListN.{length}
+use Rattle.table.specs.declared.Row.{Row}
 use Rattle.table.specs.Table.{rowsFrom}
-use Rattle.renumber_search.specs.Search.{endOf, bisect}
-use Rattle.lists_search.proofs.Halves.{Halving, halving-start, halving-up, halving-down, halving-end}
-use Rattle.renumber_search.proofs.Bisecting.{end-read}
 use Rattle.table.proofs.Lent.{rows-length}
+use Rattle.renumber_search.specs.Search.{endOf}
+use Rattle.renumber_search.proofs.Bisecting.{bisect-here, bisect-before, bisect-past}
 use Rattle.renumber_search.proofs.find_row.Statement.{statement}
 use Rattle.renumber_search.proofs.find_row.Tie as tie
 
--- the row ends before the category
-abbrev past : List ℕ → ℕ → ℕ → Bool
-past rows c i = ltb (endOf (rowsFrom rows) i) c
+-- the end of the row at hand
+end-is : (c : tie.After-widen) →
+    let s = c .before .before .before .before in
+    c .widen .result ≡ endOf (rowsFrom (s .args .rows .now)) (s .args .from)
+end-is c = c .widen .ensures .0 ∙ ap (λ (r : Row). r .high) (c .before .row-at .ensures)
 
-abbrev Inv-loop : tie.InvT-loop
-Inv-loop rows from c low₀ high₀ low high = Halving (past rows c) (bisect (rowsFrom rows) from c) (length (rowsFrom rows)) low high
-
-abbrev μ-loop : tie.MeasureT-loop
-μ-loop rows from c low₀ high₀ low high = high - low
-
--- the rows that are left are rows of the list
-inside : (c : tie.In-loop Inv-loop μ-loop) → c .before .loop .high ≤ length (c .before .before .before .args .rows .now) / 3
-inside c = omega (arith, c .before .loop .inv .inside, rows-length (c .before .before .before .args .rows .now))
-
--- the end of the row in the middle, where it lies
-ended : (c : tie.In-loop Inv-loop μ-loop) →
-    let l = c .before .loop in
-    let rows = c .before .before .before .args .rows .now in
-    endOf (rowsFrom rows) (l .low + (l .high - l .low) / 2) ≡ getD rows ((l .low + (l .high - l .low) / 2) * 3 + 1) 0
-ended c =
-    let l = c .before .loop in
-    end-read (c .before .before .before .args .rows .now) (l .low + (l .high - l .low) / 2) (omega (arith, c .loop-test .taken, inside c))
-
-loop-holds : tie.Need-loop-holds Inv-loop μ-loop
-loop-holds c =
-    let s = c .before in
-    let rs = rowsFrom (s .args .rows .now) in
-    rw (sym (rows-length (s .args .rows .now))) (halving-start (past (s .args .rows .now) (s .args .c)) (length rs) (s .args .from) (length rs) (omega arith))
-
-sub-middle : tie.Need-sub-middle Inv-loop μ-loop
-sub-middle c = omega (arith, c .loop-test .taken)
-
-add-middle : tie.Need-add-middle Inv-loop μ-loop
-add-middle c = omega (arith, c .loop-test .taken, inside c)
-
-mul-at : tie.Need-mul-at Inv-loop μ-loop
-mul-at c = omega (arith, c .loop-test .taken, inside c)
-
-add-at : tie.Need-add-at Inv-loop μ-loop
-add-at c = omega (arith, c .loop-test .taken, inside c)
-
-mul-widen : tie.Need-mul-widen Inv-loop μ-loop
-mul-widen c = omega (arith, c .loop-test .taken, inside c)
-
-shared-slice-read-widen : tie.Need-shared-slice-read-widen Inv-loop μ-loop
-shared-slice-read-widen c = omega (arith, c .before .loop-test .taken, inside (c .before))
-
-widen-requires : tie.Need-widen-requires Inv-loop μ-loop
-widen-requires c κs = tt
-
-add-low : tie.Need-add-low Inv-loop μ-loop
-add-low c = omega (arith, c .before .before .before .loop-test .taken, inside (c .before .before .before))
-
-loop-less : tie.Need-loop-less Inv-loop μ-loop
-loop-less c = omega (arith, c .before .before .before .loop-test .taken)
-
-loop-again : tie.Need-loop-again Inv-loop μ-loop
-loop-again c =
-    let w = c .before in
-    let l = w .before .before .before in
-    let s = l .before .before in
-    let i = w .before .before .loop-test .taken in
-    halving-up (past (s .args .rows .now) (s .args .c)) (bisect (rowsFrom (s .args .rows .now)) (s .args .from) (s .args .c)) (length (rowsFrom (s .args .rows .now))) (l .loop .low) (l .loop .high) i (l .loop .inv)
-    (lt-ltb _ (s .args .c) (rw (ended (w .before .before), ← w .widen .ensures .0) (c .if1 .taken)))
-
-loop-less-2 : tie.Need-loop-less-2 Inv-loop μ-loop
-loop-less-2 c = omega (arith, c .before .before .before .loop-test .taken)
-
-loop-again-2 : tie.Need-loop-again-2 Inv-loop μ-loop
-loop-again-2 c =
-    let w = c .before in
-    let l = w .before .before .before in
-    let s = l .before .before in
-    let i = w .before .before .loop-test .taken in
-    halving-down (past (s .args .rows .now) (s .args .c)) (bisect (rowsFrom (s .args .rows .now)) (s .args .from) (s .args .c)) (length (rowsFrom (s .args .rows .now))) (l .loop .low) (l .loop .high) i (l .loop .inv)
-    (le-ltb _ (s .args .c) (rw (ended (w .before .before), ← w .widen .ensures .0) (c .if1 .left)))
-
-returns : tie.Need-returns Inv-loop μ-loop
+returns : tie.Need-returns
 returns c =
-    let l = c .before in
-    let s = l .before .before in
-    halving-end (past (s .args .rows .now) (s .args .c)) (bisect (rowsFrom (s .args .rows .now)) (s .args .from) (s .args .c)) (length (rowsFrom (s .args .rows .now))) (l .loop .low) (l .loop .high) (l .loop .inv) (c .loop-test .left)
+    let s = c .before .before in
+    bisect-past (rowsFrom (s .args .rows .now)) (s .args .from) (s .args .c) (omega (arith, rows-length (s .args .rows .now), c .if1 .taken))
+
+row-at-requires : tie.Need-row-at-requires
+row-at-requires c κs = search needs
+
+widen-requires : tie.Need-widen-requires
+widen-requires c κs = search needs
+
+returns-2 : tie.Need-returns-2
+returns-2 c =
+    let w = c .before in
+    let e = w .before .before in
+    let s = e .before .before in
+    bisect-here (rowsFrom (s .args .rows .now)) (s .args .from) (s .args .c) (omega (arith, rows-length (s .args .rows .now), e .if1 .left)) (rw (← end-is w) (c .if2 .taken))
+
+halve-rows-requires : tie.Need-halve-rows-requires
+halve-rows-requires c κs = search needs
+
+returns-3 : tie.Need-returns-3
+returns-3 c =
+    let w = c .before .before in
+    let s = w .before .before .before .before in
+    c .halve-rows .ensures ∙ bisect-before (rowsFrom (s .args .rows .now)) (s .args .from) (s .args .c) (rw (← end-is w) (c .before .if2 .left))
 
 pub find-row-spec : {M : Type 1} → statement M
-find-row-spec =
-    tie.close
-    (tie.spec
-    Inv-loop
-    μ-loop
-    loop-holds
-    sub-middle
-    add-middle
-    mul-at
-    add-at
-    mul-widen
-    shared-slice-read-widen
-    widen-requires
-    add-low
-    loop-less
-    loop-again
-    loop-less-2
-    loop-again-2
-    returns)
+find-row-spec = tie.close (tie.spec returns row-at-requires widen-requires returns-2 halve-rows-requires returns-3)
