@@ -49,8 +49,8 @@ pub record Halving (past : ℕ → Bool) (whole top low high : ℕ) : Type 0 whe
   pub enough : high - low ≤ turns
   pub same : whole ≡ halved turns past low high
 
-pub halving-start : (past : ℕ → Bool) (n low high : ℕ) → high - low ≤ n → Halving past (halved n past low high) high low high
-halving-start past n low high h = record { inside = omega arith; turns = n; enough = h; same = refl }
+pub halving-start : (past : ℕ → Bool) (n low high top : ℕ) → high ≡ top → top - low ≤ n → Halving past (halved n past low top) top low high
+halving-start past n low high top e h = record { inside = omega arith; turns = n; enough = omega arith; same = ap (λ (k : ℕ). halved n past low k) (sym e) }
 
 module _ (past : ℕ → Bool) (whole top low high : ℕ) (h : low < high) where
   pub halving-up : Halving past whole top low high → past (low + (high - low) / 2) ≡ true → Halving past whole top (low + (high - low) / 2 + 1) high

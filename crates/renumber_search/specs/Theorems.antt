@@ -1,4 +1,4 @@
--- What carrying by search is of rows that rise, and so of every sound table: the landed answer.
+-- What carrying by search is of rows that rise, and so of every sound table: what `renumber_keys::carry` answers.
 use mathlib.Core.Bool.{true, false, cond, _&&_}
 use mathlib.Core.List.{List, map}
 use mathlib.Core.Path.{_≡_}

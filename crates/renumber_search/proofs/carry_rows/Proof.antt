@@ -79,7 +79,7 @@ order-keys-requires c κs =
     let q = c .before in
     let r = q .before .before .before .before in
     let a = start (r .before .before .before) .args in
-    cut-inside (rowsFrom (a .rows .now)) (keyRuns (take (a .n) (a .own .now))) (r .cut-runs .result .whole) (r .cut-runs .result .count) (a .far .now) (r .cut-runs .last .1 .1 .1 .0) (cut r)
+    omega (arith, cut-inside (rowsFrom (a .rows .now)) (keyRuns (take (a .n) (a .own .now))) (r .cut-runs .result .whole) (r .cut-runs .result .count) (a .far .now) (r .cut-runs .last .1 .1 .1 .0) (cut r))
 
 join-keys-requires : tie.Need-join-keys-requires
 join-keys-requires c κs =

@@ -42,7 +42,7 @@ loop-holds : tie.Need-loop-holds Inv-loop μ-loop
 loop-holds c =
     let s = c .before in
     let rs = rowsFrom (s .args .rows .now) in
-    rw (sym (rows-length (s .args .rows .now))) (halving-start (past (s .args .rows .now) (s .args .c)) (length rs) (s .args .from) (length rs) (omega arith))
+    halving-start (past (s .args .rows .now) (s .args .c)) (length rs) (s .args .from) _ (length rs) (omega (arith, rows-length (s .args .rows .now))) (omega arith)
 
 sub-middle : tie.Need-sub-middle Inv-loop μ-loop
 sub-middle c = omega (arith, c .loop-test .taken)

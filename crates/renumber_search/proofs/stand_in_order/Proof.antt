@@ -36,7 +36,7 @@ shared-slice-read-key c = search needs
 returns : tie.Need-returns Inv-loop μ-loop
 returns c =
     let d = c .before .before in
-    sym (d .before .loop .inv .1 ∙ ap (ascends (d .before .loop .last)) (seen d) ∙ rw (lt-leb _ _ (c .if1 .taken)))
+    sym (d .before .loop .inv .1 ∙ ap (ascends (d .before .loop .last)) (seen d) ∙ rw (lt-leb (d .before .loop .last) (getD (d .before .before .args .keys .now) (d .before .loop .i) 0) (c .if1 .taken)))
 
 add-i : tie.Need-add-i Inv-loop μ-loop
 add-i c = search needs
@@ -47,7 +47,7 @@ loop-less c = search needs
 loop-again : tie.Need-loop-again Inv-loop μ-loop
 loop-again c =
     let d = c .before .before in
-    (omega (arith, d .loop-test .taken), d .before .loop .inv .1 ∙ ap (ascends (d .before .loop .last)) (seen d) ∙ rw (le-leb _ _ (c .if1 .left)))
+    (omega (arith, d .loop-test .taken), d .before .loop .inv .1 ∙ ap (ascends (d .before .loop .last)) (seen d) ∙ rw (le-leb (d .before .loop .last) (getD (d .before .before .args .keys .now) (d .before .loop .i) 0) (c .if1 .left)))
 
 returns-2 : tie.Need-returns-2 Inv-loop μ-loop
 returns-2 c =

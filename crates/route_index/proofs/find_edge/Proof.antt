@@ -23,7 +23,7 @@ abbrev μ-loop : tie.MeasureT-loop
 μ-loop index n address low₀ high₀ low high = high - low
 
 loop-holds : tie.Need-loop-holds Inv-loop μ-loop
-loop-holds c = halving-start (past (c .args .index .now) (c .args .address)) (c .args .n) 0 (c .args .n) (omega arith)
+loop-holds c = halving-start (past (c .args .index .now) (c .args .address)) (c .args .n) 0 _ (c .args .n) (omega arith) (omega arith)
 
 sub-middle : tie.Need-sub-middle Inv-loop μ-loop
 sub-middle c = search needs
