@@ -28,7 +28,7 @@ use Rattle.route_index.specs.Theorems.{IndexLongest}
 use Rattle.route_index.proofs.Put.{edges-many}
 
 -- the addresses with the same first bits are those from the first on, as many as a block has
-in-block : (p a b : ℕ) → 0 < b → eqb (p / b) (a / b) ≡ (leb (p / b * b) a && ltb a (p / b * b + b))
+pub in-block : (p a b : ℕ) → 0 < b → eqb (p / b) (a / b) ≡ (leb (p / b * b) a && ltb a (p / b * b + b))
 in-block p a b h = go (eqb (p / b) (a / b)) refl
   where
     go : (t : Bool) → eqb (p / b) (a / b) ≡ t → t ≡ (leb (p / b * b) a && ltb a (p / b * b + b))
@@ -93,7 +93,7 @@ module _ (b a : ℕ) (up : b ≤ a) (top : a < 4294967296) where
   same-port rs e = ap portNumber (sym (same-chosen NoRoute rs e))
 
 -- Numbers in order.
-sorted-up : (lo : ℕ) (xs : List ℕ) (i j : ℕ) → Sorted lo xs → i ≤ j → j < length xs → getD xs i 0 ≤ getD xs j 0
+pub sorted-up : (lo : ℕ) (xs : List ℕ) (i j : ℕ) → Sorted lo xs → i ≤ j → j < length xs → getD xs i 0 ≤ getD xs j 0
 sorted-up lo [] i j s l h = absurd (omega arith)
 sorted-up lo (x ∷ xs) zero zero s l h = omega arith
 sorted-up lo (x ∷ xs) zero (suc j) s l h = sorted-first x xs j (s .1) (omega arith)
