@@ -14,7 +14,8 @@ use Rattle.file_set.specs.Set.{tablesIn}
 use Rattle.file_read.specs.declared.FileRead.{FileRead}
 use Rattle.file_read.specs.File.{fileReading, fileRoom}
 use Rattle.route_ports.specs.Ports.{unlistedPort, portAt}
-use Rattle.export_batch.specs.Batch.{Gateway, gatewayBy, between, setRead, rowsRead, gatewayOf, batchOf}
+use Rattle.forward_batch.specs.Batch.{Gateway, batchOf}
+use Rattle.export_batch.specs.Batch.{gatewayBy, between, setRead, rowsRead, gatewayOf}
 
 -- an element inside does not depend on what stands for those past the end
 pub inside : {A : Type 0} (xs : List A) (i : ℕ) (d e : A) → i < length xs → getD xs i d ≡ getD xs i e

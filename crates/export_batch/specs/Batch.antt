@@ -12,7 +12,7 @@ use Rattle.file_set.specs.declared.Set.{Set}
 use Rattle.file_set.specs.Set.{tablesIn}
 use Rattle.file_read.specs.File.{fileReading, fileRoom}
 use Rattle.route_ports.specs.Ports.{unlistedPort, portAt}
-pub use Rattle.forward_batch.specs.Batch.{Gateway, factsIn, areaIn, forwardingIn, withHead, slotOf, slotCount, batchOf}
+use Rattle.forward_batch.specs.Batch.{Gateway}
 
 abbrev pub gatewayBy : Port → Port → LentTable → Gateway
 gatewayBy a l x = record { arriving = a; leaving = l; table = lentOf x; levels = levelsOf (x .item) }

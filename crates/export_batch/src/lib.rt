@@ -2,7 +2,8 @@
 // those of `forward_batch`.
 ghost use mathlib.Core.Path.{_≡_};
 ghost use lib.ListN.{length};
-ghost use Rattle.export_batch.specs.Batch.{between, setRead, rowsRead, gatewayOf, slotCount, batchOf};
+ghost use Rattle.forward_batch.specs.Batch.{slotCount, batchOf};
+ghost use Rattle.export_batch.specs.Batch.{between, setRead, rowsRead, gatewayOf};
 use file_read::read_file;
 use file_set::MAX_PORTS;
 use forward_batch::forward_batch;

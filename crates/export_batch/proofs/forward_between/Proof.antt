@@ -5,7 +5,7 @@ use mathlib.Core.Path.{_∙_, ap}
 use Prim.Native.Nat.{_*_, _<_}
 use lib.ListN.{length}
 use Rattle.table_choose.specs.Tables.{lentFound}
-use Rattle.export_batch.specs.Batch.{Gateway, slotCount, batchOf}
+use Rattle.forward_batch.specs.Batch.{Gateway, slotCount, batchOf}
 use Rattle.export_batch.proofs.Picked.{gateway-found}
 use Rattle.export_batch.proofs.forward_between.Statement.{statement}
 use Rattle.export_batch.proofs.forward_between.Tie as tie

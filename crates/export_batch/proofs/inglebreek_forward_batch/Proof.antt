@@ -14,7 +14,7 @@ use Rattle.file_read.specs.declared.FileRead.{FileRead}
 use Rattle.file_read.specs.File.{fileReading}
 use Rattle.file_read.proofs.Answers.{used-fits}
 use Rattle.route_ports.specs.Ports.{unlistedPort, portAt}
-use Rattle.export_batch.specs.Batch.{slotCount}
+use Rattle.forward_batch.specs.Batch.{slotCount}
 use Rattle.export_batch.proofs.Picked.{inside, both-there, none-there, batch-is}
 use Rattle.export_batch.proofs.inglebreek_forward_batch.Statement.{statement}
 use Rattle.export_batch.proofs.inglebreek_forward_batch.Tie as tie
