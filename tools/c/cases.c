@@ -33,9 +33,9 @@ static uint32_t four(struct input *in) {
     return high << 16 | two(in);
 }
 
-// The next octets, of which there must be so many.
+// The next octets, of which there must be so many, at most CASE; zeros where there are fewer.
 static const uint8_t *some(struct input *in, size_t count) {
-    static const uint8_t none[1];
+    static const uint8_t none[CASE];
     if (in->count - in->at < count) {
         in->bad = true;
         return none;
@@ -176,7 +176,7 @@ static void put_way(struct input *in, struct file *file) {
     for (unsigned i = 0; i < stored; i++) put(file, two(in), 2);
 }
 
-// A port of a case in the octets of a file of version 2; the label of unlabelled hosts goes to `facing`.
+// A port of a case in the octets of a file of version 3; the label of unlabelled hosts goes to `facing`.
 static void put_port(struct input *in, struct file *file, bool wide, struct label *facing, bool *unlabelled) {
     put(file, four(in), 4);
     for (int i = 0; i < 3; i++) {
@@ -185,7 +185,6 @@ static void put_port(struct input *in, struct file *file, bool wide, struct labe
         put_label(file, &label);
     }
     unsigned groups = wide ? one(in) : 0;
-    if (groups & 8) in->bad = true;
     if (groups & 1) {
         put(file, one(in), 1);
         put_way(in, file);
@@ -200,6 +199,7 @@ static void put_port(struct input *in, struct file *file, bool wide, struct labe
     if (groups & 4) *facing = read_label(in);
     put(file, *unlabelled, 1);
     put_label(file, facing);
+    put(file, groups & 8 ? one(in) : 0, 1);
 }
 
 static void put_table(struct input *in, struct file *file, bool wide) {
@@ -248,7 +248,7 @@ static void forward(struct input *in, bool wide, bool mark) {
     struct label facing, own;
     bool unlabelled, plain;
     file.count = 0;
-    put(&file, 2 << 8 | 2, 4); // room for the length; version 2, two ports
+    put(&file, 3 << 8 | 2, 4); // room for the length; version 3, two ports
     put_port(in, &file, wide, &own, &plain);
     put_port(in, &file, wide, &facing, &unlabelled);
     put(&file, 1, 1);
