@@ -1,6 +1,9 @@
 // A box of many ports, written for speed: every record is checked, and the routes are gone through once.
 
-use super::{cross, refuse, sizes_fit, Decision, Label, Port, Refusal, Renumbering, Table, MAX_ROWS};
+use super::{
+    cross, refuse, rows_sound, sizes_fit, Decision, Label, Port, Refusal, Renumbering, Rows, Table, FEW_PIECES, FEW_ROWS, MAX_PIECES,
+    MAX_ROWS,
+};
 
 pub const MAX_PORTS: usize = 64;
 pub const MAX_TABLES: usize = 8;
@@ -43,9 +46,16 @@ fn longest(routes: &[Route], ports: &[Port], destination: u32) -> Result<Option<
     Ok(found)
 }
 
+/// The rows of a table at the head of those that are lent, and the rest; none where there are fewer.
+#[inline]
+pub fn part<'a>(table: &Table, rows: &'a [u16]) -> Option<(&'a [u16], &'a [u16])> {
+    rows.split_at_checked(3 * table.row_count as usize)
+}
+
 fn decide(
     ports: &[Port],
     tables: &[Table],
+    rows: &[u16],
     routes: &[Route],
     arriving: u8,
     destination: u32,
@@ -64,27 +74,49 @@ fn decide(
         None => return refuse(2, 0),
     };
     let leaving = longest(routes, ports, destination)?.map(|place| &ports[routes[place].port as usize]);
-    let mut order = [0; MAX_ROWS];
-    let mut chosen = None;
-    for table in tables {
-        let mut scratch = [0; MAX_ROWS];
-        let targets = match table.sound(&mut scratch) {
-            Some(targets) => targets,
-            None => return refuse(2, 0),
-        };
-        if chosen.is_none() && table.from == arriving.domain && leaving.is_some_and(|leaving| leaving.domain == table.to) {
-            chosen = Some((table, targets));
-            order = scratch;
-        }
+    if tables.iter().all(Table::has_few_rows) {
+        choose::<FEW_ROWS, { FEW_ROWS + 1 }, FEW_PIECES>(arriving, leaving, tables, rows, area, output, label)
+    } else {
+        choose::<MAX_ROWS, { MAX_ROWS + 1 }, MAX_PIECES>(arriving, leaving, tables, rows, area, output, label)
     }
-    let renumbering = chosen.map(|(table, targets)| Renumbering { table, targets, order: &order });
-    cross(arriving, leaving, renumbering, area, output, label)
 }
 
-/// Forwards a datagram that came in by a port of the box, or says why not.
+/// Checks the tables, whose rows are lent one behind the other, and decides by the first that fits.
+fn choose<const ROWS: usize, const ENDS: usize, const PIECES: usize>(
+    arriving: &Port,
+    leaving: Option<&Port>,
+    tables: &[Table],
+    rows: &[u16],
+    area: &[u8],
+    output: &mut [u8],
+    label: &mut Label,
+) -> Result<u8, Refusal> {
+    let (mut order, mut other) = ([0; ROWS], [0; ROWS]);
+    let mut chosen = None;
+    let mut left = rows;
+    for table in tables {
+        let Some((own, rest)) = part(table, left) else { return refuse(2, 0) };
+        let Some(rows) = table.lent(own) else { return refuse(2, 0) };
+        let fits = chosen.is_none() && table.from == arriving.domain && leaving.is_some_and(|leaving| leaving.domain == table.to);
+        let work = if fits { &mut order } else { &mut other };
+        let Some(targets) = rows_sound(rows, &mut work[..rows.len()]) else { return refuse(2, 0) };
+        if fits {
+            chosen = Some((table, rows, targets));
+        }
+        left = rest;
+    }
+    if !left.is_empty() {
+        return refuse(2, 0);
+    }
+    let renumbering = chosen.map(|(table, rows, targets)| Renumbering { table, rows: Rows { rows, targets, order: &order[..rows.len()] } });
+    cross::<ENDS, PIECES>(arriving, leaving, renumbering, area, output, label)
+}
+
+/// Forwards a datagram that came in by a port of the box, or says why not. The rows of the tables are lent one behind the other.
 pub fn forward_in_box(
     ports: &[Port],
     tables: &[Table],
+    rows: &[u16],
     routes: &[Route],
     arriving: u8,
     destination: u32,
@@ -93,7 +125,7 @@ pub fn forward_in_box(
     output: &mut [u8],
 ) -> Decision {
     let mut decision = Decision { number: 0, icmp_type: 0, icmp_code: 0, pointer: 0, count: 0, label: Label::ALL_ZERO };
-    let outcome = decide(ports, tables, routes, arriving, destination, area, output, &mut decision.label);
+    let outcome = decide(ports, tables, rows, routes, arriving, destination, area, output, &mut decision.label);
     decision.report(outcome, silenced);
     decision
 }

@@ -1,16 +1,15 @@
 // Holds the fast variant against the plain reference on generated cases of the entries that it has.
 //
-// The fast variant is for measuring and has document 01's tables, files of version 1 and no strict ports: what goes beyond them is passed
-// over.
+// The fast variant is for measuring. It decides nothing for strict ports: such cases are passed over.
 
 use crate::basic::WayRecord;
-use crate::cases::{hex, parse, Case, Line};
+use crate::cases::{hex, parse, Case, Line, Output, FILE_ROOM};
 use crate::entries::Entries;
 use crate::fast;
-use crate::file::{FIRST, VERSIONS, VERSION_AT};
+use crate::file::SetRecord;
 use crate::generator::Generator;
 use crate::label::{HeldLabel, Run};
-use crate::records::{PortRecord, TableRecord, FIRST_LEVEL_PAIRS, FIRST_ROWS};
+use crate::records::{PortRecord, TableRecord};
 use crate::routes::Route;
 
 fn label(held: &HeldLabel) -> fast::Label {
@@ -34,6 +33,7 @@ fn port(record: &PortRecord) -> fast::Port {
         spellings: record.spellings,
         unlabelled: record.unlabelled,
         default: label(&record.default),
+        strict: record.strict,
     }
 }
 
@@ -41,24 +41,50 @@ fn way(record: &WayRecord) -> fast::basic::Way {
     fast::basic::Way { lowest: record.lowest, highest: record.highest, count: record.count, fields: record.places }
 }
 
-/// None where a table has more than document 01's places, or rows that are not lent as counted.
-fn table(record: &TableRecord) -> Option<fast::Table> {
-    let fits = record.pairs_needed() <= FIRST_LEVEL_PAIRS && record.rows.len() <= FIRST_ROWS;
-    if !fits || record.rows.len() != record.row_count as usize {
-        return None;
-    }
-    let (mut levels, mut rows) = ([[0, 0]; FIRST_LEVEL_PAIRS], [fast::Row { low: 0, high: 0, target_low: 0 }; FIRST_ROWS]);
-    levels.copy_from_slice(&record.levels[..FIRST_LEVEL_PAIRS]);
-    for (place, row) in rows.iter_mut().zip(&record.rows) {
-        *place = fast::Row { low: row.low, high: row.high, target_low: row.target_low };
-    }
-    Some(fast::Table { from: record.from, to: record.to, level_count: record.level_count, levels, row_count: record.row_count, rows })
+fn table(record: &TableRecord) -> fast::Table {
+    fast::Table { from: record.from, to: record.to, level_count: record.level_count, levels: record.levels, row_count: record.row_count }
 }
 
-fn read_file(octets: &[u8]) -> Result<fast::file::Set, fast::file::Refusal> {
-    let mut set = fast::file::Set::EMPTY;
-    fast::file::read_file(octets, &mut set)?;
-    Ok(set)
+fn rows(record: &TableRecord) -> Vec<u16> {
+    record.rows.iter().flat_map(|row| [row.low, row.high, row.target_low]).collect()
+}
+
+/// The rows of all tables, one behind the other. None where those of a table before the last are not as many as counted: then it is not said
+/// which table has which.
+fn all_rows(records: &[TableRecord]) -> Option<Vec<u16>> {
+    let before_last = &records[..records.len().max(1) - 1];
+    if before_last.iter().any(|record| record.rows.len() != record.row_count as usize) {
+        return None;
+    }
+    Some(records.iter().flat_map(rows).collect())
+}
+
+fn set(record: &SetRecord) -> Option<(fast::file::Set, Vec<u16>)> {
+    let mut set = fast::file::Set { port_count: record.port_count, table_count: record.table_count, ..fast::file::Set::EMPTY };
+    for (place, record) in set.ports.iter_mut().zip(&record.ports) {
+        *place = port(record);
+    }
+    for (place, record) in set.tables.iter_mut().zip(&record.tables) {
+        *place = table(record);
+    }
+    Some((set, all_rows(&record.tables)?))
+}
+
+/// A set and room for rows that were read into before: what was left there must not show.
+struct Room {
+    set: fast::file::Set,
+    rows: Vec<u16>,
+}
+
+impl Room {
+    /// After a refusal the room must be as it was.
+    fn read(&mut self, octets: &[u8]) -> Result<usize, fast::file::Refusal> {
+        let before = self.rows.clone();
+        let read = fast::file::read_file(octets, &mut self.set, &mut self.rows);
+        let kept = read.unwrap_or(0);
+        assert!(before[kept..] == self.rows[kept..], "room past the rows is not as it was");
+        read
+    }
 }
 
 fn add_refusal(line: &mut Line, refusal: fast::file::Refusal) {
@@ -71,12 +97,19 @@ fn add_refusal(line: &mut Line, refusal: fast::file::Refusal) {
             line.word("VERSION");
             line.number(version as usize);
         }
+        fast::file::Refusal::Room => line.word("ROOM"),
     }
 }
 
-/// What is not known to the fast variant is a file of a later version.
-fn of_later_version(octets: &[u8]) -> bool {
-    octets.get(VERSION_AT).map_or(false, |octet| *octet != FIRST.octet && VERSIONS.iter().any(|version| version.octet == *octet))
+fn add_written(line: &mut Line, set: &fast::file::Set, rows: &[u16], output: Output) {
+    let mut octets = vec![output.fill; output.length];
+    let written = fast::file::write_file(set, rows, &mut octets);
+    match written {
+        Err(fast::file::NAMED) => line.word("NAMED"),
+        _ => line.number(written.err().unwrap_or(0) as usize),
+    }
+    line.number(written.unwrap_or(0));
+    line.output(&octets);
 }
 
 fn add_spelled(line: &mut Line, spelled: Result<u8, u8>, octets: &[u8]) {
@@ -105,7 +138,7 @@ fn route(record: &Route) -> fast::boxes::Route {
 }
 
 /// The fast variant's line, or none for an entry that it doesn't have.
-fn answer(case: &Case) -> Option<String> {
+fn answer(case: &Case, room: &mut Room) -> Option<String> {
     let mut line = Line::new();
     match case {
         Case::Spell(held, output) => {
@@ -131,31 +164,39 @@ fn answer(case: &Case) -> Option<String> {
         Case::InBox(case) if case.records.ports.iter().any(|port| port.strict) => return None,
         Case::Forward(case) | Case::ForwardFacts(case) | Case::ForwardWide(case) => {
             let mut octets = vec![case.output.fill; case.output.length];
-            let (arriving, leaving, table) = (port(&case.arriving), port(&case.leaving), table(&case.table)?);
-            let decision = fast::forward(&arriving, &leaving, &table, case.facts.silence(), &case.area, &mut octets);
+            let (arriving, leaving, table, rows) = (port(&case.arriving), port(&case.leaving), table(&case.table), rows(&case.table));
+            let decision = fast::forward(&arriving, &leaving, &table, &rows, case.facts.silence(), &case.area, &mut octets);
             add_decision(&mut line, &decision);
             line.output(&octets);
         }
         Case::InBox(case) => {
             let mut octets = vec![case.output.fill; case.output.length];
             let ports: Vec<fast::Port> = case.records.ports.iter().map(port).collect();
-            let tables: Vec<fast::Table> = case.records.tables.iter().map(table).collect::<Option<_>>()?;
+            let tables: Vec<fast::Table> = case.records.tables.iter().map(table).collect();
+            let rows = all_rows(&case.records.tables)?;
             let routes: Vec<fast::boxes::Route> = case.records.routes.iter().map(route).collect();
-            let silenced = case.facts.silence();
+            let (arriving, destination, silenced) = (case.arriving, case.destination, case.facts.silence());
             let decision =
-                fast::boxes::forward_in_box(&ports, &tables, &routes, case.arriving, case.destination, silenced, &case.area, &mut octets);
+                fast::boxes::forward_in_box(&ports, &tables, &rows, &routes, arriving, destination, silenced, &case.area, &mut octets);
             add_decision(&mut line, &decision);
             line.output(&octets);
         }
-        Case::ReadFile(octets) if of_later_version(octets) => return None,
-        Case::ReadFile(octets) => match read_file(octets) {
-            Ok(read) => {
+        Case::ReadFile(octets) => match room.read(octets) {
+            Ok(_) => {
                 line.word("ACCEPTED");
-                line.number(read.port_count as usize);
-                line.number(read.table_count as usize);
+                line.number(room.set.port_count as usize);
+                line.number(room.set.table_count as usize);
             }
             Err(refusal) => add_refusal(&mut line, refusal),
         },
+        Case::ReadAndWrite(octets, output) => match room.read(octets) {
+            Ok(used) => add_written(&mut line, &room.set, &room.rows[..used], *output),
+            Err(refusal) => add_refusal(&mut line, refusal),
+        },
+        Case::WriteFile(record, output) => {
+            let (set, rows) = set(record)?;
+            add_written(&mut line, &set, &rows, *output);
+        }
         Case::ReadBasic(octets) => {
             let marking = fast::basic::read_basic(octets);
             line.number(if marking.is_some() { 0 } else { 19 });
@@ -196,10 +237,11 @@ fn answer(case: &Case) -> Option<String> {
 pub fn run(count: usize, seed: u64) -> bool {
     let entries = Entries::known();
     let mut generator = Generator::new(seed, &entries);
+    let mut room = Room { set: fast::file::Set::EMPTY, rows: vec![0; 3 * FILE_ROOM] };
     let mut compared = 0;
     for number in 1..=count {
         let (octets, expected) = generator.next();
-        let found = match parse(&octets, &entries).as_ref().and_then(answer) {
+        let found = match parse(&octets, &entries).as_ref().and_then(|case| answer(case, &mut room)) {
             Some(line) => line,
             None => continue,
         };

@@ -60,13 +60,14 @@ pub extern "C" fn time_spell(octets: &[u8], size: usize, out: &mut [u8], times: 
 
 // Forwards the areas of `size` octets that stand one after the other, `times` in all, from the first again after the last. The arriving port of
 // domain 5 takes the levels from `lower` to `upper` with the categories 0 to `high`; the leaving port is the sample's, and so is the table but
-// for its rows, which are lent: low, high and target of each.
+// for its rows, which are lent: low, high and target of each. The rows of several tables, `width` numbers each, stand one behind the other and take turns.
 #[no_mangle]
 pub extern "C" fn time_forward(
     lower: u8,
     upper: u8,
     high: u16,
     rows: &[u16],
+    width: usize,
     area: &[u8],
     size: usize,
     out: &mut [u8],
@@ -75,8 +76,9 @@ pub extern "C" fn time_forward(
     forward_many(
         port_of(lower, upper, high),
         leaving(),
-        table_of(rows.len() / 3),
+        table_of(width / 3),
         rows,
+        width,
         area,
         size,
         out,
@@ -89,6 +91,7 @@ fn forward_many(
     leaving: Port,
     table: Table,
     rows: &[u16],
+    width: usize,
     area: &[u8],
     size: usize,
     out: &mut [u8],
@@ -96,6 +99,10 @@ fn forward_many(
 ) -> usize {
     let n = area.len();
     if n < size {
+        return 0;
+    }
+    let m = rows.len();
+    if m < width {
         return 0;
     }
     let levels = levels();
@@ -107,16 +114,19 @@ fn forward_many(
         source: false,
     };
     let last = n - size;
+    let last_table = m - width;
     let mut at: usize = 0;
+    let mut from: usize = 0;
     let mut total: usize = 0;
     let mut i: usize = 0;
     while i < times {
         let end = at + size;
+        let to = from + width;
         let d = forward(
             arriving,
             leaving,
             table,
-            rows,
+            &rows[from..to],
             levels,
             facts,
             &area[at..end],
@@ -124,6 +134,7 @@ fn forward_many(
         );
         total = mix(total, decision_digest(d));
         at = next_place(at, size, last);
+        from = next_place(from, width, last_table);
         i += 1;
     }
     total

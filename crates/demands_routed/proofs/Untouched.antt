@@ -23,7 +23,7 @@ use Rattle.arrive.specs.Checks.{firstOf}
 use Rattle.forward_rules.specs.Crossing.{Forwarding}
 use Rattle.forward_rules.specs.Forward.{forwardChecks, forwardOf, outputOf, written}
 use Rattle.route_decide.specs.Routing.{Routing, routingChecks, routingOf, routedOutput}
-use Rattle.export_batch.specs.Batch.{Gateway, forwardingIn, withHead, slotOf}
+use Rattle.forward_batch.specs.Batch.{Gateway, forwardingIn, withHead, slotOf}
 use Rattle.demands_routed.specs.Untouched.{Untouched}
 
 -- a number that is not 0 chooses what was there

@@ -17,7 +17,7 @@ use Rattle.renumber_reverse.specs.Reverse.{reversedOf, withRows}
 use Rattle.forward_rules.specs.Crossing.{Forwarding}
 use Rattle.forward_rules.specs.Forward.{forwardOf, outputOf}
 use Rattle.route_decide.specs.Routing.{Routing, routingOf, routedOutput}
-use Rattle.export_batch.specs.Batch.{Gateway, forwardingIn, withHead, slotOf}
+use Rattle.forward_batch.specs.Batch.{Gateway, forwardingIn, withHead, slotOf}
 
 pub record Untouched : Type 0 where
   pub spell : (p : Spellings) (l : Label) (out : List ℕ) → (spellingAnswer p l (length out) .number ≡ 0 → ⊥) → spellingOut p l out ≡ out

@@ -21,7 +21,8 @@ use Rattle.area.specs.Area.{badArea}
 use Rattle.arrive.specs.Checks.{silent, when, firstOf}
 use Rattle.forward_rules.specs.Crossing.{Forwarding, sizes, records, sameDomain, crossing, leavingLabel}
 use Rattle.forward_rules.specs.Forward.{forwardOf, forwardChecks, leavingCount}
-use Rattle.export_batch.specs.Batch.{between, forwardingIn}
+use Rattle.forward_batch.specs.Batch.{forwardingIn}
+use Rattle.export_batch.specs.Batch.{between}
 use Rattle.export_batch.specs.Theorems.{RefusedFile, NoPort}
 
 -- 1. A refused file.

@@ -8,7 +8,8 @@ use Rattle.file_set.specs.declared.Set.{Set}
 use Rattle.file_read.specs.File.{fileReading}
 use Rattle.forward_rules.specs.Forward.{forwardOf}
 use Rattle.route_ports.specs.Ports.{portAt}
-use Rattle.export_batch.specs.Batch.{gatewayOf, forwardingIn}
+use Rattle.forward_batch.specs.Batch.{forwardingIn}
+use Rattle.export_batch.specs.Batch.{gatewayOf}
 
 -- a refused file has no sound port of any number
 abbrev pub RefusedFile : Type 0

@@ -181,11 +181,11 @@ join-few k (x ∷ xs) = go (leb (x / 65536) (k % 65536 + 1)) (join-few (stretche
     go true p q = omega arith
     go false p q = omega arith
 
-all-few : (ks : List ℕ) → length (joinAll ks) ≤ length ks
+pub all-few : (ks : List ℕ) → length (joinAll ks) ≤ length ks
 all-few [] = omega arith
 all-few (k ∷ ks) = omega (arith, join-few k ks)
 
-pieces-none : (rs : List Row) → pieces rs [] ≡ []
+pub pieces-none : (rs : List Row) → pieces rs [] ≡ []
 pieces-none [] = refl
 pieces-none (r ∷ rs) = pieces-none rs
 
@@ -226,6 +226,11 @@ module _ (rows : List Row) (runs : List Run) (cut start : List ℕ) (few : lengt
     pub gathered-of : (was : List ℕ) (count : ℕ) (keys : List ℕ) → Joined (partsOf (take m order) start cut) was count keys → Gathered rows runs was count keys
     gathered-of was count keys j = record { held = omega (arith, j .few, parts-few); joined = j .joined ∙ ap (joinOnto []) parts-are; rest = j .rest }
 
+-- the keys of the runs that keys stand for are these
+pub there-back : (ks : List ℕ) → map runKey (keyRuns ks) ≡ ks
+there-back [] = refl
+there-back (k ∷ ks) = let z : k / 65536 * 65536 + k % 65536 ≡ k = omega arith in λ i. z i ∷ there-back ks i
+
 -- Rows that rise, with targets apart, and spaced runs.
 module _ (rows : List Row) (runs : List Run) (few : length rows ≤ 65536) (e : rising 0 rows ≡ true) (a : targetsApart rows ≡ true) (s : spaced 0 runs ≡ true) where
   image-length : length (runsOf (inImage rows runs)) ≡ length (joinOnto [] (pieces (inOrder rows) runs))
@@ -234,12 +239,8 @@ module _ (rows : List Row) (runs : List Run) (few : length rows ≤ 65536) (e : 
   image-bound : length (runsOf (inImage rows runs)) ≤ length rows + length runs
   image-bound = omega (arith, image-length, ap length (onto-all (pieces (inOrder rows) runs)), all-few (pieces (inOrder rows) runs), order-few rows runs few e s)
 
-  -- the keys that were gathered are those of the image
-  there-back : (ks : List ℕ) → map runKey (keyRuns ks) ≡ ks
-  there-back [] = refl
-  there-back (k ∷ ks) = let z : k / 65536 * 65536 + k % 65536 ≡ k = omega arith in λ i. z i ∷ there-back ks i
-
   module _ (was : List ℕ) (count : ℕ) (keys : List ℕ) (g : Gathered rows runs was count keys) (room : 120 + length rows ≤ length keys) where
+    -- the keys that were gathered are those of the image
     gathered-keys : take count keys ≡ map runKey (runsOf (inImage rows runs))
     gathered-keys = g .joined ∙ sym (there-back (joinOnto [] (pieces (inOrder rows) runs))) ∙ ap (map runKey) (gathered-runs rows runs few e a s)
 

@@ -102,19 +102,19 @@ module _ (rows : List Row) (runs : List Run) (cut start : List ℕ) (w i j f : �
       }
 
 -- over plain numbers
-same-start : (r : Row) (a c h : ℕ) (xs : List Run) → a ≤ r .low → c ≤ r .low → rowPieces r (run a h ∷ xs) ≡ rowPieces r (run c h ∷ xs)
+pub same-start : (r : Row) (a c h : ℕ) (xs : List Run) → a ≤ r .low → c ≤ r .low → rowPieces r (run a h ∷ xs) ≡ rowPieces r (run c h ∷ xs)
 same-start r a c h xs p q =
     let m : max a (r .low) ≡ r .low = omega arith in
     let n : max c (r .low) ≡ r .low = omega arith in
     rw (m, n)
 
-whole-piece : (r : Row) (a h : ℕ) (xs : List Run) → r .low ≤ a → a ≤ h → h ≤ r .high → rowPieces r (run a h ∷ xs) ≡ pieceKey r a h ∷ rowPieces r xs
+pub whole-piece : (r : Row) (a h : ℕ) (xs : List Run) → r .low ≤ a → a ≤ h → h ≤ r .high → rowPieces r (run a h ∷ xs) ≡ pieceKey r a h ∷ rowPieces r xs
 whole-piece r a h xs p o q =
     let m : max a (r .low) ≡ a = omega arith in
     let n : min h (r .high) ≡ h = omega arith in
     rw (m, n) (simp (le-leb a h o))
 
-first-piece : (r : Row) (a h : ℕ) (xs : List Run) → r .low ≤ a → a ≤ r .high → r .high < h → rowPieces r (run a h ∷ xs) ≡ pieceKey r a (r .high) ∷ rowPieces r xs
+pub first-piece : (r : Row) (a h : ℕ) (xs : List Run) → r .low ≤ a → a ≤ r .high → r .high < h → rowPieces r (run a h ∷ xs) ≡ pieceKey r a (r .high) ∷ rowPieces r xs
 first-piece r a h xs p o q =
     let m : max a (r .low) ≡ a = omega arith in
     let n : min h (r .high) ≡ r .high = omega arith in

@@ -164,7 +164,7 @@ allGiving (r ∷ rs) = giving r && allGiving rs
 pub gives : (r : Row) → giving r ≡ true → Giving r
 gives r e = record { ordered = leb-true _ _ (and-left (leb (r .low) (r .high)) _ e); end = leb-true _ _ (and-right (leb (r .low) (r .high)) _ e) }
 
-rise-giving : (f : ℕ) (rs : List Row) → rising f rs ≡ true → allGiving rs ≡ true
+pub rise-giving : (f : ℕ) (rs : List Row) → rising f rs ≡ true → allGiving rs ≡ true
 rise-giving f [] e = refl
 rise-giving f (r ∷ rs) e =
     let g = good f r rs e in
@@ -179,12 +179,12 @@ pieces-sorted f (r ∷ rs) xs e c s =
     let u : Sorted (targetEnd r * 65536 + 65535) (pieces rs xs) = sorted-lower (targetEnd r * 65536 + 65535) ((targetEnd r + 1) * 65536) (pieces rs xs) (omega arith) t in
     sorted-append (f * 65536) (targetEnd r * 65536 + 65535) (rowPieces r xs) (pieces rs xs) (row-sorted r g 0 (f * 65536) xs s (omega arith)) (row-under r g xs) (omega arith) u
 
-pieces-keys : (rs : List Row) (xs : List Run) → allGiving rs ≡ true → all Key (pieces rs xs) ≡ true
+pub pieces-keys : (rs : List Row) (xs : List Run) → allGiving rs ≡ true → all Key (pieces rs xs) ≡ true
 pieces-keys [] xs e = refl
 pieces-keys (r ∷ rs) xs e =
     all-append Key (rowPieces r xs) (pieces rs xs) (row-keys r (gives r (and-left (giving r) _ e)) xs) (pieces-keys rs xs (and-right (giving r) _ e))
 
-pieces-hits : (rs : List Row) (xs : List Run) (d : ℕ) → allGiving rs ≡ true → covers (keyRuns (pieces rs xs)) d ≡ hits rs xs d
+pub pieces-hits : (rs : List Row) (xs : List Run) (d : ℕ) → allGiving rs ≡ true → covers (keyRuns (pieces rs xs)) d ≡ hits rs xs d
 pieces-hits [] xs d e = refl
 pieces-hits (r ∷ rs) xs d e =
     ap (λ (z : List Run). covers z d) (map-append keyRun (rowPieces r xs) (pieces rs xs))

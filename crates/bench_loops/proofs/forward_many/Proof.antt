@@ -7,13 +7,16 @@ use Rattle.bench_loops.proofs.forward_many.Statement.{statement}
 use Rattle.bench_loops.proofs.forward_many.Tie as tie
 
 abbrev Inv-loop : tie.InvT-loop
-Inv-loop arriving leaving table rows area size out₀ times n levels facts last at₀ total₀ i₀ out at total i = (i ≤ times) × (at ≤ last) × (length out ≡ length out₀)
+Inv-loop arriving leaving table rows width area size out₀ times n m levels facts last last-table at₀ from₀ total₀ i₀ out at from total i = (i ≤ times) × (at ≤ last) × (from ≤ last-table) × (length out ≡ length out₀)
 
 abbrev μ-loop : tie.MeasureT-loop
-μ-loop arriving leaving table rows area size out₀ times n levels facts last at₀ total₀ i₀ out at total i = times - i
+μ-loop arriving leaving table rows width area size out₀ times n m levels facts last last-table at₀ from₀ total₀ i₀ out at from total i = times - i
 
 returns : tie.Need-returns Inv-loop μ-loop
 returns c = search needs
+
+returns-2 : tie.Need-returns-2 Inv-loop μ-loop
+returns-2 c = search needs
 
 levels-requires : tie.Need-levels-requires Inv-loop μ-loop
 levels-requires c κs = search needs
@@ -24,6 +27,12 @@ loop-holds c = search needs
 add-end : tie.Need-add-end Inv-loop μ-loop
 add-end c = search needs
 
+add-to : tie.Need-add-to Inv-loop μ-loop
+add-to c = search needs
+
+mul-forward : tie.Need-mul-forward Inv-loop μ-loop
+mul-forward c = search needs
+
 sub-forward : tie.Need-sub-forward Inv-loop μ-loop
 sub-forward c = search needs
 
@@ -32,6 +41,15 @@ part-forward-start c = search needs
 
 part-forward-end : tie.Need-part-forward-end Inv-loop μ-loop
 part-forward-end c = search needs
+
+sub-forward-2 : tie.Need-sub-forward-2 Inv-loop μ-loop
+sub-forward-2 c = search needs
+
+part-forward-start-2 : tie.Need-part-forward-start-2 Inv-loop μ-loop
+part-forward-start-2 c = search needs
+
+part-forward-end-2 : tie.Need-part-forward-end-2 Inv-loop μ-loop
+part-forward-end-2 c = search needs
 
 forward-requires : tie.Need-forward-requires Inv-loop μ-loop
 forward-requires c κs = search needs
@@ -45,6 +63,9 @@ mix-requires c κs = search needs
 next-place-requires : tie.Need-next-place-requires Inv-loop μ-loop
 next-place-requires c κs = search needs
 
+next-place-requires-2 : tie.Need-next-place-requires-2 Inv-loop μ-loop
+next-place-requires-2 c κs = search needs
+
 add-i : tie.Need-add-i Inv-loop μ-loop
 add-i c = search needs
 
@@ -55,10 +76,10 @@ loop-again : tie.Need-loop-again Inv-loop μ-loop
 loop-again c = search needs
 
 same-length : tie.Need-same-length Inv-loop μ-loop
-same-length c = c .before .loop .inv .2
+same-length c = c .before .loop .inv .3
 
-returns-2 : tie.Need-returns-2 Inv-loop μ-loop
-returns-2 c = search needs
+returns-3 : tie.Need-returns-3 Inv-loop μ-loop
+returns-3 c = search needs
 
 pub forward-many-spec : {M : Type 1} → statement M
 forward-many-spec =
@@ -67,18 +88,25 @@ forward-many-spec =
     Inv-loop
     μ-loop
     returns
+    returns-2
     levels-requires
     loop-holds
     add-end
+    add-to
+    mul-forward
     sub-forward
     part-forward-start
     part-forward-end
+    sub-forward-2
+    part-forward-start-2
+    part-forward-end-2
     forward-requires
     decision-digest-requires
     mix-requires
     next-place-requires
+    next-place-requires-2
     add-i
     loop-less
     loop-again
     same-length
-    returns-2)
+    returns-3)

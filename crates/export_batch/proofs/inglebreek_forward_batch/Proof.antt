@@ -14,13 +14,14 @@ use Rattle.file_read.specs.declared.FileRead.{FileRead}
 use Rattle.file_read.specs.File.{fileReading}
 use Rattle.file_read.proofs.Answers.{used-fits}
 use Rattle.route_ports.specs.Ports.{unlistedPort, portAt}
-use Rattle.export_batch.proofs.Slots.{inside, both-there, none-there, batch-is}
+use Rattle.forward_batch.specs.Batch.{slotCount}
+use Rattle.export_batch.proofs.Picked.{inside, both-there, none-there, batch-is}
 use Rattle.export_batch.proofs.inglebreek_forward_batch.Statement.{statement}
 use Rattle.export_batch.proofs.inglebreek_forward_batch.Tie as tie
 
 -- both numbers have a place
 abbrev start : (c : tie.Then1) → tie.Start
-start c = c .before .before .before .before .before .before .before .before .before .before
+start c = c .before .before .before .before .before .before .before .before .before
 
 from-there : (c : tie.Then1) → start c .args .arriving < 16
 from-there c = ltb-true _ _ (and-left (ltb (start c .args .arriving) 16) (ltb (start c .args .leaving) 16) (c .if1 .taken))
@@ -46,9 +47,6 @@ slice-aggregate-read-file c = search needs
 read-file-requires : tie.Need-read-file-requires
 read-file-requires c κs = search needs
 
-count-slots-requires : tie.Need-count-slots-requires
-count-slots-requires c κs = search needs
-
 mul-from : tie.Need-mul-from
 mul-from c = record { fits = omega (arith, from-there c) }
 
@@ -62,7 +60,7 @@ element-copy-out-to : tie.Need-element-copy-out-to
 element-copy-out-to c = to-there (c .before)
 
 array-share-prefix-rows : tie.Need-array-share-prefix-rows
-array-share-prefix-rows c = fits (c .before .before .before .before .before .before .before)
+array-share-prefix-rows c = fits (c .before .before .before .before .before .before)
 
 slice-aggregate-forward-between : tie.Need-slice-aggregate-forward-between
 slice-aggregate-forward-between c = sym (length-take-le _ _ (array-share-prefix-rows (c .before)))
@@ -78,24 +76,22 @@ unfolding portAt
 returns c =
     let f = c .before .before in
     let t = f .before .before .before .before .before in
-    let n = t .before in
-    let r = n .before .before .before .before in
+    let r = t .before .before .before .before in
     let s = start t in
     let e = r .read-file .ensures in
     let l : length (r .read-file .result .set .ports) ≡ 16 = sized r in (
-      n .count-slots .ensures .0,
-      batch-is _ _ (n .count-slots .result) _ (s .args .input .now) (s .args .output .now) _
+      f .forward-between .ensures .0,
+      batch-is _ _ (slotCount (length (s .args .input .now)) (length (s .args .output .now))) (s .args .input .now) (s .args .output .now) _
           (both-there (s .args .file .now) (r .read-file .result) (r .read-file .last .1 .0) (e .0) (e .1) (s .args .arriving) (s .args .leaving) _ _ (t .if1 .taken)
           (inside (r .read-file .result .set .ports) (s .args .arriving) _ unlistedPort (omega (arith, from-there t))) (inside (r .read-file .result .set .ports) (s .args .leaving) _ unlistedPort (omega (arith, to-there t))))
-          (n .count-slots .ensures .0)
-          (f .forward-between .ensures),
+          (f .forward-between .ensures .1),
     )
 
 no-port-requires : tie.Need-no-port-requires
 no-port-requires c κs = search needs
 
 array-share-prefix-rows-2 : tie.Need-array-share-prefix-rows-2
-array-share-prefix-rows-2 c = fits (c .before .before .before .before .before .before)
+array-share-prefix-rows-2 c = fits (c .before .before .before .before .before)
 
 slice-aggregate-forward-between-2 : tie.Need-slice-aggregate-forward-between-2
 slice-aggregate-forward-between-2 c = sym (length-take-le _ _ (array-share-prefix-rows-2 (c .before)))
@@ -111,16 +107,14 @@ returns-2 c =
     let f = c .before .before in
     let p = f .before .before .before in
     let t = p .before in
-    let n = t .before in
-    let r = n .before .before .before .before in
+    let r = t .before .before .before .before in
     let s = r .before .before .before .before .before in
     let e = r .read-file .ensures in (
-      n .count-slots .ensures .0,
-      batch-is _ _ (n .count-slots .result) _ (s .args .input .now) (s .args .output .now) _
+      f .forward-between2 .ensures .0,
+      batch-is _ _ (slotCount (length (s .args .input .now)) (length (s .args .output .now))) (s .args .input .now) (s .args .output .now) _
           (none-there (s .args .file .now) (r .read-file .result) (r .read-file .last .1 .0) (e .0) (e .1) (s .args .arriving) (s .args .leaving) (p .no-port .result) (t .if1 .left)
           (p .no-port .ensures))
-          (n .count-slots .ensures .0)
-          (f .forward-between2 .ensures),
+          (f .forward-between2 .ensures .1),
     )
 
 pub inglebreek-forward-batch-spec : {M : Type 1} → statement M
@@ -129,7 +123,6 @@ inglebreek-forward-batch-spec =
     (tie.spec
     slice-aggregate-read-file
     read-file-requires
-    count-slots-requires
     mul-from
     element-copy-out-from
     mul-to

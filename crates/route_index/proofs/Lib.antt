@@ -1,0 +1,4 @@
+pub mod Examples
+pub mod Put
+pub mod Found
+pub mod Paint

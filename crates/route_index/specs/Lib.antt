@@ -1,0 +1,4 @@
+pub mod Index
+pub mod Stages
+pub mod Theorems
+pub mod Examples
