@@ -1,6 +1,6 @@
 # Builds, installs and packs Inglebreek. `rt` is needed to build, and not to run what is installed.
 #
-#   make                    builds the library and the programs (make PROVED=--proved: proved first)
+#   make                    builds the library and the programs, which rt proves first
 #   make install            installs below PREFIX (/usr/local), into the folder DESTDIR where that is given
 #   make uninstall          takes it away again
 #   make deb                makes the Debian package target/package/inglebreek_VERSION_amd64.deb

@@ -1143,7 +1143,7 @@ output and a digest stand for the label.)
 - The largest gateway file of version 1 has 16 ports of three labels with 120 runs each and 8 tables of 64 rows; it is written as version 3. Of those
   of version 3, both of 61,439 octets, one has 8 tables of 256 level pairs and 1,024 scattered rows, and little in its 16 ports; the other has 16 ports
   of four labels with 120 runs and 256 flag fields each way, and two such tables.
-- The box is compiled as `rt staticlib` does it, the Rust variant with `rustc -O`; neither is told of a processor. Instructions are counted by
+- The box is compiled as `rt lib` does it, the Rust variant with `rustc -O`; neither is told of a processor. Instructions are counted by
   callgrind, for one call; copies are made without string instructions, of which it would count every octet.
 
 ![box and Rust side by side](speed.svg)

@@ -6,7 +6,7 @@ import sys
 
 from common import ROOT
 
-Crate = collections.namedtuple("Crate", "name uses family")
+Crate = collections.namedtuple("Crate", "name uses family static")
 
 
 def read(path):
@@ -43,8 +43,8 @@ def families():
 
 
 def crates():
-    """The crates as crates.txt has them, each with what it uses and its family."""
-    return [Crate(name, uses.split(), family) for name, uses, family in re.findall(r"^(\w+):(.*)# (\w+)$", read("crates.txt"), re.MULTILINE)]
+    """The crates as crates.txt has them, each with what it uses, its family, and whether it is a static library."""
+    return [Crate(name, uses.split(), family, bool(static)) for name, static, uses, family in re.findall(r"^(\w+)( staticlib)?:(.*)# (\w+)$", read("crates.txt"), re.MULTILINE)]
 
 
 def is_program(crate):
@@ -65,9 +65,9 @@ def purpose(crate):
 
 # ---- definitions
 
-WORD = re.compile(r"[^\W\d_][\w′]*(?:[-·][\w′]+)*")
-HEAD = re.compile(r"^(?:abbrev |unfoldable )?(?:pub )?(?:record |data )?([^\W\d_][\w′]*(?:-[\w′]+)*)\b.*?(?: :|$)")
-IMPORT = re.compile(r"^(?:pub |ghost )?use Rattle·(\w+)(?:·specs)?\.specs\.(\w+)\.\{([^}]*)\}", re.MULTILINE)
+WORD = re.compile(r"[^\W\d_][\w']*(?:-[\w']+)*")
+HEAD = re.compile(r"^(?:abbrev |unfoldable )?(?:pub )?(?:record |data )?([^\W\d_][\w']*(?:-[\w']+)*).*?(?: :|$)")
+IMPORT = re.compile(r"^(?:pub |ghost )?use Rattle\.(\w+)\.specs\.(\w+)\.\{([^}]*)\}", re.MULTILINE)
 
 
 def imports(text):
@@ -115,7 +115,7 @@ class Definitions:
                 name = (crate, module, found.group(1))
             if name:
                 self.text[name] += line + "\n"
-                part = re.match(r"  (?:pub )?([^\W\d_][\w′]*(?:-[\w′]+)*) :", line)
+                part = re.match(r"  (?:pub )?([^\W\d_][\w']*(?:-[\w']+)*) :", line)
                 if part:
                     self.known.setdefault((crate, module, part.group(1)), name)
 

@@ -1,5 +1,7 @@
 // The options area of an IPv4 header (RFC 791; document 01, "The order of checks"; document 02, Wishes 3 and 9): an option's type and length, the size of the area, and the
 // walk over its options, which gives 3, 4 and 5 and the places of the options 134 and 130.
+#![tactic(auto)]
+
 ghost use Rattle.std.specs.Prelude.{◌≡◌, ◌<◌};
 ghost use Rattle.area.specs.Kinds.{kind_of, size_of};
 ghost use Rattle.area.specs.declared.Place.TheVariants.{Nowhere};
@@ -12,7 +14,7 @@ ghost use Rattle.area.specs.Stages.{is_met, octet_of, place_of};
 pub const AREA_OCTETS: usize = 40;
 
 // The types of options that the walk tells apart: 0, 1, 130 (basic security), 133 (extended security), 134, and all others.
-#[derive(Drop)]
+#[derive(Clone, Copy)]
 pub enum Kind {
     End,
     NoOperation,
@@ -23,7 +25,7 @@ pub enum Kind {
 }
 
 // The length of an option: whole, or missing, under 2 or past the area.
-#[derive(Drop)]
+#[derive(Clone, Copy)]
 pub enum Size {
     Whole(usize),
     Bad,
@@ -62,21 +64,21 @@ pub fn read_size(rest: &[u8]) -> Size
 }
 
 // Where an option is: nowhere, or at an octet of the area.
-#[derive(Drop)]
+#[derive(Clone, Copy)]
 pub enum Place {
     Nowhere,
     At(usize),
 }
 
 // What the walk answers: the places of the option 134 and of the option 130, or a refusal (3, 4 or 5) with the octet of the option's type.
-#[derive(Drop)]
+#[derive(Clone, Copy)]
 pub enum Walk {
     Sound(Place, Place),
     Refused(u8, usize),
 }
 
 // What one option makes of the walk: it is done, or goes on over some octets.
-#[derive(Drop)]
+#[derive(Clone, Copy)]
 pub enum Turn {
     Done(Walk),
     On(usize, Place, Place),

@@ -1,4 +1,6 @@
 // The leaving options area (document 01, "The leaving area"): the kept options are written behind the option 134, and zeros pad the area.
+#![tactic(auto)]
+
 ghost use Rattle.std.specs.Prelude.{◌≡◌, ◌+◌, ◌≤◌, ◌<◌, length, take};
 ghost use Rattle.lists.specs.Lists.{paint};
 ghost use Rattle.area.specs.Area.{span_of};
@@ -37,7 +39,7 @@ fn kept_len(kind: Kind, n: usize) -> usize
 }
 
 // What the walk does at an option: it ends, or goes on over n octets, of which the first `kept` are kept.
-#[derive(Drop)]
+#[derive(Clone, Copy)]
 pub enum Next {
     Stop,
     Over { n: usize, kept: usize },

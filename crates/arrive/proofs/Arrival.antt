@@ -3,18 +3,17 @@ use mathlib.Core.Path.{◌≡◌, refl, sym, ◌∙◌, ap, subst}
 use mathlib.Core.Bool.{Bool, true, false, cond, not, ◌||◌, true≢false}
 use mathlib.Core.List.{List, [], ◌∷◌, ◌++◌}
 use mathlib.Core.Option.{Option, none, some}
-use Prim.Native.Nat.{ℕ, suc, ◌+◌, ◌-◌, ◌%◌, ◌≤◌, ◌<◌}
+use Prim.Native.Nat.{ℕ, ◌+◌, ◌-◌, ◌%◌, ◌≤◌}
 use native.Mathlib.Omega.{arith}
 use lib.Dec.{ltb, eqb}
-use lib.ListN.{length, get_or, take, drop, length-drop, length-take, get_or-eq_default}
-use mathlib.Core.Logic.{◌⊎◌, inl, inr, ⊎_elim}
-use lib.Seq.{get_or-drop, get_or-take, length-take-le}
-use borrow.Author.Tests.{eqb-false, eq-eqb, ne_eqb, le-leb, le-ltb, ltb-false}
+use lib.ListN.{length, get_or, take, drop}
+use mathlib.Core.Logic.{⊎_elim}
+use borrow.Author.Tests.{eqb-false, eq-eqb, ne_eqb, le-ltb, ltb-false}
 use Rattle.label.specs.declared.Run.{Run}
 use Rattle.label.specs.declared.Label.{Label}
 use Rattle.label.specs.Label.{used, well_formed, leq, in_range}
 use Rattle.label_keys.specs.Keys.{key_runs, with_keys}
-use Rattle.label.proofs.Bools.{and_left, less_or}
+use Rattle.label.proofs.Bools.{and_left}
 use Rattle.label.proofs.Labels.{leq_says, used_of}
 use Rattle.option.specs.Option.{Octets}
 use Rattle.option_read.specs.declared.Reading.{Reading}
@@ -29,7 +28,6 @@ use Rattle.area.specs.declared.Place.{Place}
 use Rattle.area.specs.declared.Place.TheVariants.{Nowhere, At}
 use Rattle.area.specs.declared.Walk.{Walk}
 use Rattle.area.specs.declared.Walk.TheVariants.{Sound, Refused}
-use Rattle.area.specs.declared.Kind.{Kind}
 use Rattle.area.specs.declared.Kind.TheVariants.{Cipso}
 use Rattle.area.specs.Area.{bad_area, walk_of, octets_at, WholeAt}
 use Rattle.area.proofs.KindLaws.{cipso_octet}

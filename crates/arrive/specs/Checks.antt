@@ -1,6 +1,6 @@
 -- Document 01, "The order of checks, and each number": the checks that both jobs share, what each asks and what it reports, and their order. Document 02,
 -- Wish 3: 19, 20 and 21; Wish 10: 23. Of 1 and 2, `bad_area` stands in `area`, and what makes a record sound with the record.
-use Rattle.std.specs.Prelude.{◌≡◌, Bool, true, false, not, ◌&&◌, List, [], ◌∷◌, ◌++◌, ℕ, ◌+◌, eqb, get_or, take, drop}
+use Rattle.std.specs.Prelude.{◌≡◌, Bool, true, false, not, ◌&&◌, List, [], ◌∷◌, ◌++◌, ℕ, ◌+◌, eqb}
 use Rattle.std.proofs.Math.Option.{Option, none, some}
 use Rattle.label.specs.declared.Label.{Label}
 use Rattle.label.specs.Label.{in_range}

@@ -1,5 +1,7 @@
 // What both jobs share: checks 1 to 14, 19 to 21 and 23 of a datagram that arrives at a port (document 01, "The order of checks"; document 02, Wishes 3
 // and 10).
+#![tactic(auto)]
+
 ghost use Rattle.std.specs.Prelude.{◌≡◌, true, cond, ◌≤◌, length};
 ghost use Rattle.area.specs.Area.{walk_of, octets_at, placed_within, WholeAt};
 ghost use Rattle.area.specs.declared.Kind.TheVariants.{Basic, Cipso};

@@ -15,7 +15,7 @@ use Rattle.basic.specs.declared.BasicReading.{BasicReading}
 use Rattle.basic.specs.declared.BasicWriting.{BasicWriting}
 use Rattle.basic.specs.Levels.{is_level}
 use Rattle.basic.specs.Option.{basic_level, basic_flags, basic_valid, BasicMeans}
-use Rattle.basic.specs.Alone.{basic_found, basic_reading, flag_octets_for, basic_option, writable, writing_number, basic_writing, basic_out}
+use Rattle.basic.specs.Alone.{basic_found, basic_reading, basic_option, writable, writing_number, basic_writing, basic_out}
 use Rattle.basic.specs.OptionTheorems.{ReadsBasic, OneMeaning, ShortestBasic, WritesBasic}
 use Rattle.basic.proofs.Levels.{level_octet}
 use Rattle.basic.proofs.Form.{Form, bare, one, two, form, bare_valid, one_valid, two_valid}

@@ -1,5 +1,7 @@
 // Option 130, the Basic Security Option (document 02, Wish 3; RFC 1108, section 2): its four levels in a fixed list with their order, one option read and one written, and
 // what a port permits of it each way.
+#![tactic(auto)]
+
 ghost use Rattle.std.specs.Prelude.{◌≡◌, length, get_or, take, drop, ◌≤◌, min, eqb};
 ghost use Rattle.basic.specs.Levels.{rank_of, at_most};
 ghost use Rattle.basic.specs.Option.{flag_field};
@@ -8,7 +10,7 @@ ghost use Rattle.basic.specs.Stages.{framed_at, ended_at};
 ghost use Rattle.basic.specs.Settings.{unused, no_way, basic_off, is_off, way_sound, way_zero, basic_sound, among, passes_way};
 
 // A level's octet, and its rank: its place in the order of levels.
-#[derive(Drop)]
+#[derive(Clone, Copy)]
 pub struct Level {
     pub octet: u8,
     pub rank: u8,
@@ -86,7 +88,7 @@ const OCTET_FLAGS: u16 = 128;
 const ALL_FLAGS: u16 = 16383;
 
 // Number 0, the level's octet and the flag field; else 19 and zeros.
-#[derive(Drop)]
+#[derive(Clone, Copy)]
 pub struct BasicReading {
     pub number: u8,
     pub level: u8,
@@ -107,7 +109,7 @@ impl BasicReading {
 }
 
 // Number 0 and the option's length; or the number of a refusal and 0.
-#[derive(Drop)]
+#[derive(Clone, Copy)]
 pub struct BasicWriting {
     pub number: u8,
     pub count: usize,
@@ -223,7 +225,7 @@ pub fn write_basic(level: u8, flags: u16, out: &mut [u8]) -> BasicWriting
 pub const MAX_FIELDS: usize = 256;
 
 // What a port permits one way: levels from lowest to highest, and the flag fields in the first `count` places.
-#[derive(Drop)]
+#[derive(Clone, Copy)]
 pub struct Way {
     pub lowest: u8,
     pub highest: u8,
@@ -232,7 +234,7 @@ pub struct Way {
 }
 
 // What a port permits of the option: nothing of it is read where it is switched off.
-#[derive(Drop)]
+#[derive(Clone, Copy)]
 pub struct Basic {
     pub on: bool,
     pub receiving: Way,

@@ -2,6 +2,8 @@
 //
 // Every function answers the paper's number and writes its answer's numbers into what is lent. A label stands there as its domain, level and
 // count, and its runs as keys, low · 65536 + high, in a list of their own: what `inglebreek_read` writes, `inglebreek_spell` takes.
+#![tactic(auto)]
+
 ghost use Rattle.std.specs.Prelude.{◌≡◌, ◌≤◌, length};
 ghost use Rattle.bench_exports.specs.Answers.{with_numbers, label_of_keys, facts_of, sample_forwarding, Reads, Spells, Forwards};
 
@@ -23,8 +25,7 @@ const DECISION_NUMBERS: usize = 8;
 
 // Reads one option. `answer` gets number, pointer, domain, level and count of runs, `runs` the runs; 1 and nothing where `answer` has under 5
 // places or `runs` under 120.
-#[unsafe(no_mangle)]
-pub extern "C" fn inglebreek_read(octets: &[u8], answer: &mut [u64], runs: &mut [u32]) -> u8
+pub fn inglebreek_read(octets: &[u8], answer: &mut [u64], runs: &mut [u32]) -> u8
     ensures { Reads octets.now answer.old runs.old answer.new runs.new result }
 {
     if answer.len() < READING_NUMBERS {
@@ -48,8 +49,7 @@ pub extern "C" fn inglebreek_read(octets: &[u8], answer: &mut [u64], runs: &mut 
 }
 
 // Spells the label of a domain, a level and runs, as many as are lent. `answer` gets number and length; 1 and nothing where it has under 2 places.
-#[unsafe(no_mangle)]
-pub extern "C" fn inglebreek_spell(
+pub fn inglebreek_spell(
     domain: u32,
     level: u8,
     runs: &[u32],
@@ -71,8 +71,7 @@ pub extern "C" fn inglebreek_spell(
 
 // Forwards an area through the sample's records; the five facts are those of `Facts`, in its order. `answer` gets number, type, code, pointer, count, domain, level and count of
 // runs of the leaving label, `runs` its runs; 1 and nothing where `answer` has under 8 places or `runs` under 120.
-#[unsafe(no_mangle)]
-pub extern "C" fn inglebreek_forward(
+pub fn inglebreek_forward(
     error: bool,
     group: bool,
     link: bool,

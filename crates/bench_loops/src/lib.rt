@@ -2,6 +2,8 @@
 // records counts. The functions are for measuring alone; those for use are in the crate `bench_exports`. Every answer depends on all results, by
 // fixed places of them. The loops of the bitmap and of the house file are in the crate `bench_parts`: a second caller in one library would keep a
 // function from being put into its first.
+#![tactic(auto)]
+
 ghost use Rattle.std.specs.Prelude.{◌≤◌};
 
 use decision::{Decision, Facts};
@@ -18,8 +20,7 @@ use table::Table;
 const LABELS: usize = 8;
 
 // Reads the options of `size` octets that stand one after the other, `times` in all, from the first again after the last.
-#[unsafe(no_mangle)]
-pub extern "C" fn time_read(octets: &[u8], size: usize, times: usize) -> usize {
+pub fn time_read(octets: &[u8], size: usize, times: usize) -> usize {
     let n = octets.len();
     if n < size {
         return 0;
@@ -39,8 +40,7 @@ pub extern "C" fn time_read(octets: &[u8], size: usize, times: usize) -> usize {
 }
 
 // Reads the first 8 options of `size` octets, and spells their labels in turn, `times` in all.
-#[unsafe(no_mangle)]
-pub extern "C" fn time_spell(octets: &[u8], size: usize, out: &mut [u8], times: usize) -> usize {
+pub fn time_spell(octets: &[u8], size: usize, out: &mut [u8], times: usize) -> usize {
     let labels = read_labels(octets, size);
     let permitted = Spellings::usual();
     let mut total: usize = 0;
@@ -57,8 +57,7 @@ pub extern "C" fn time_spell(octets: &[u8], size: usize, out: &mut [u8], times: 
 // Forwards the areas of `size` octets that stand one after the other, `times` in all, from the first again after the last. The arriving port of
 // domain 5 takes the levels from `lower` to `upper` with the categories 0 to `high`; the leaving port is the sample's, and so is the table but
 // for its rows, which are lent: low, high and target of each. The rows of several tables, `width` numbers each, stand one behind the other and take turns.
-#[unsafe(no_mangle)]
-pub extern "C" fn time_forward(
+pub fn time_forward(
     lower: u8,
     upper: u8,
     high: u16,

@@ -1,5 +1,7 @@
 // What tools/bench times of the parts: the bitmap alone, and the house file. As in the crate `bench_loops`, the functions are for measuring alone, and every
 // answer depends on all results.
+#![tactic(auto)]
+
 ghost use Rattle.std.specs.Prelude.{◌≤◌};
 
 use file_read::read_file;
@@ -13,8 +15,7 @@ use table_choose::MAX_TABLES;
 const ROOM: usize = MAX_TABLES * MAX_ROWS * 3;
 
 // Reads the bitmaps of `size` octets that stand one after the other, `times` in all, from the first again after the last.
-#[unsafe(no_mangle)]
-pub extern "C" fn time_bitmap(octets: &[u8], size: usize, times: usize) -> usize {
+pub fn time_bitmap(octets: &[u8], size: usize, times: usize) -> usize {
     let n = octets.len();
     if n < size {
         return 0;
@@ -40,8 +41,7 @@ pub extern "C" fn time_bitmap(octets: &[u8], size: usize, times: usize) -> usize
 }
 
 // Reads the gateway file, `times` in all.
-#[unsafe(no_mangle)]
-pub extern "C" fn time_read_file(octets: &[u8], times: usize) -> usize {
+pub fn time_read_file(octets: &[u8], times: usize) -> usize {
     let mut rows = [0u16; ROOM];
     read_again(octets, &mut rows, times)
 }
@@ -58,8 +58,7 @@ fn read_again(octets: &[u8], rows: &mut [u16], times: usize) -> usize {
 }
 
 // Reads the gateway file once, and writes its set, `times` in all.
-#[unsafe(no_mangle)]
-pub extern "C" fn time_write_file(octets: &[u8], out: &mut [u8], times: usize) -> usize {
+pub fn time_write_file(octets: &[u8], out: &mut [u8], times: usize) -> usize {
     let mut rows = [0u16; ROOM];
     let read = read_file(octets, &mut rows);
     let set = read.set;

@@ -1,4 +1,6 @@
 // The words of a line of the program `cases`: each function puts its words behind the octets that wait, and answers the place behind them.
+#![tactic(auto)]
+
 ghost use Rattle.std.specs.Prelude.{◌++◌, ◌*◌, ◌/◌, ◌%◌, take, get_or};
 ghost use Rattle.label.specs.Label.{used};
 ghost use Rattle.text.specs.Put.{Puts};

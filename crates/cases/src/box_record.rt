@@ -14,7 +14,7 @@ use table_levels::{LevelPair, Levels, MAX_PAIRS};
 pub const NUMBERS: usize = MAX_TABLES * MAX_ROWS * 3 + 1;
 
 // The ports of a case: the first `count` are used.
-#[derive(Drop)]
+#[derive(Clone, Copy)]
 pub struct TakenPorts {
     pub ports: [Port; 64],
     pub count: usize,
@@ -22,7 +22,7 @@ pub struct TakenPorts {
 }
 
 // The tables of a case, how many rows they lend together, and whether each lends as many as it counts.
-#[derive(Drop)]
+#[derive(Clone, Copy)]
 pub struct TakenTables {
     pub tables: Tables,
     pub rows: usize,
@@ -31,7 +31,7 @@ pub struct TakenTables {
 }
 
 // The routes of a case, four numbers a route: the first `count` numbers are used.
-#[derive(Drop)]
+#[derive(Clone, Copy)]
 pub struct TakenRoutes {
     pub numbers: [u32; 1024],
     pub count: usize,
@@ -39,7 +39,7 @@ pub struct TakenRoutes {
 }
 
 // One route: prefix, prefix length, port number, domain.
-#[derive(Drop)]
+#[derive(Clone, Copy)]
 pub struct TakenRoute {
     pub prefix: u32,
     pub length: u32,
@@ -49,7 +49,7 @@ pub struct TakenRoute {
 }
 
 // The datagram and the output: the number of the port that it arrives at, its destination, the facts, and where its options area lies in the case.
-#[derive(Drop)]
+#[derive(Clone, Copy)]
 pub struct TakenDatagram {
     pub arriving: usize,
     pub destination: u32,

@@ -7,32 +7,32 @@ use case_lines::LONGEST;
 // No place of a case; what is taken from there on is cut off too.
 pub const CUT: usize = usize::MAX;
 
-#[derive(Drop)]
+#[derive(Clone, Copy)]
 pub struct Octet {
     pub value: u8,
     pub next: usize,
 }
 
-#[derive(Drop)]
+#[derive(Clone, Copy)]
 pub struct Short {
     pub value: u16,
     pub next: usize,
 }
 
-#[derive(Drop)]
+#[derive(Clone, Copy)]
 pub struct Word {
     pub value: u32,
     pub next: usize,
 }
 
-#[derive(Drop)]
+#[derive(Clone, Copy)]
 pub struct Flag {
     pub value: bool,
     pub next: usize,
 }
 
 // Octets of the case from `from` up to `end`.
-#[derive(Drop)]
+#[derive(Clone, Copy)]
 pub struct Part {
     pub from: usize,
     pub end: usize,
@@ -40,7 +40,7 @@ pub struct Part {
 }
 
 // A lent output: its length and the octet that it is filled with.
-#[derive(Drop)]
+#[derive(Clone, Copy)]
 pub struct Output {
     pub room: usize,
     pub fill: u8,

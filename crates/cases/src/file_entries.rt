@@ -117,7 +117,7 @@ fn used_rows(rows: &[u16], used: usize) -> &[u16] {
 }
 
 // A set, how many rows its tables lend together, whether each lends as many as it counts, and the place after it.
-#[derive(Drop)]
+#[derive(Clone, Copy)]
 struct TakenSet {
     set: Set,
     rows: usize,

@@ -2,6 +2,8 @@
 //
 // A case is led by its length in two octets, and its first octet names the entry; every number is big-endian. A case that does not parse is
 // answered by BROKEN, and one that is cut off too, after which the program ends.
+#![tactic(auto)]
+
 ghost use Rattle.std.specs.Prelude.{◌≤◌, length};
 
 mod box_record;
@@ -19,6 +21,7 @@ mod table_entries;
 
 use case_lines::put_broken;
 use entry::answer;
+use std::io::{Stdin, Stdout};
 use stream::{Place, begin, feed, flush, go_on, spare, stop};
 use text::put_octet;
 
@@ -30,10 +33,10 @@ const OUTPUT: usize = 524288;
 const LINE: usize = 263168;
 
 // The line of a case of `size` octets in the window, or BROKEN where it is cut off. What waits is written where a line might not fit.
-fn answer_case(input: &[u8], out: &mut [u8], place: Place, size: usize) -> Place
+fn answer_case(stdout: Stdout, input: &[u8], out: &mut [u8], place: Place, size: usize) -> Place
     requires { (place.window.at ≤ place.window.end) × (place.window.end ≤ length input.now) × (2 ≤ size) }
 {
-    let ready = spare(out, place, LINE);
+    let ready = spare(stdout, out, place, LINE);
     if !ready.more {
         return ready;
     }
@@ -52,8 +55,8 @@ fn answer_case(input: &[u8], out: &mut [u8], place: Place, size: usize) -> Place
 }
 
 // One case; nothing where the input ends. What waits is written before the input is read, and a write that fails ends the program.
-fn turn(input: &mut [u8], out: &mut [u8], place: Place) -> Place {
-    let led = feed(input, out, place, 2);
+fn turn(stdin: Stdin, stdout: Stdout, input: &mut [u8], out: &mut [u8], place: Place) -> Place {
+    let led = feed(stdin, stdout, input, out, place, 2);
     if !led.more {
         return led;
     }
@@ -61,11 +64,11 @@ fn turn(input: &mut [u8], out: &mut [u8], place: Place) -> Place {
     if size < 2 {
         return stop(led.waiting);
     }
-    let fed = feed(input, out, led, size);
+    let fed = feed(stdin, stdout, input, out, led, size);
     if !fed.more {
         return fed;
     }
-    answer_case(input, out, fed, size)
+    answer_case(stdout, input, out, fed, size)
 }
 
 // How many octets the case has that the window begins with: 0 where the input ends, 2 where it ends within the two that lead the case.
@@ -98,15 +101,17 @@ fn case_size(high: u8, low: u8) -> usize
     high as usize * 256 + low as usize + 2
 }
 
-fn main() {
+fn main(rt: HostRuntime) {
+    let stdin = rt.stdin();
+    let stdout = rt.stdout();
     let mut input = [0u8; INPUT];
     let mut out = [0u8; OUTPUT];
     let mut place = begin();
     // a proved loop has to end, and nothing says that the input does: no run has so many cases
     let mut turns = u64::MAX;
     while turns > 0 && place.more {
-        place = turn(&mut input, &mut out, place);
+        place = turn(stdin, stdout, &mut input, &mut out, place);
         turns -= 1;
     }
-    flush(&out, place);
+    flush(stdout, &out, place);
 }

@@ -6,14 +6,14 @@ use memory_message::note_message;
 use text::{put_decimal, put_next, put_octet};
 
 // A memory, and the place after it.
-#[derive(Drop)]
+#[derive(Clone, Copy)]
 pub struct TakenMemory {
     pub memory: Memory,
     pub next: usize,
 }
 
 // A call, and the place after it: an address for 1 to 3, octets for 5.
-#[derive(Drop)]
+#[derive(Clone, Copy)]
 pub struct TakenCall {
     pub call: u8,
     pub address: u32,
@@ -23,7 +23,7 @@ pub struct TakenCall {
 }
 
 // After some calls: the memory, the place of the next call, and the place behind what was put.
-#[derive(Drop)]
+#[derive(Clone, Copy)]
 pub struct Called {
     pub memory: Memory,
     pub next: usize,

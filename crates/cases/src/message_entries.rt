@@ -6,7 +6,7 @@ use message_build::{Report, build_message};
 use text::{put_decimal, put_next};
 
 // A report, and the place after it.
-#[derive(Drop)]
+#[derive(Clone, Copy)]
 pub struct TakenReport {
     pub report: Report,
     pub next: usize,

@@ -30,50 +30,50 @@ const OLD_ROWS: usize = 64;
 // How many numbers the rows of one table have at most.
 pub const TABLE_NUMBERS: usize = MAX_ROWS * 3;
 
-#[derive(Drop)]
+#[derive(Clone, Copy)]
 pub struct TakenLabel {
     pub label: Label,
     pub next: usize,
 }
 
-#[derive(Drop)]
+#[derive(Clone, Copy)]
 pub struct TakenPort {
     pub port: Port,
     pub next: usize,
 }
 
-#[derive(Drop)]
+#[derive(Clone, Copy)]
 pub struct TakenSpellings {
     pub spellings: Spellings,
     pub next: usize,
 }
 
-#[derive(Drop)]
+#[derive(Clone, Copy)]
 struct TakenDefault {
     unlabelled: bool,
     label: Label,
     next: usize,
 }
 
-#[derive(Drop)]
+#[derive(Clone, Copy)]
 struct TakenBasic {
     basic: Basic,
     next: usize,
 }
 
-#[derive(Drop)]
+#[derive(Clone, Copy)]
 struct TakenWay {
     way: Way,
     next: usize,
 }
 
-#[derive(Drop)]
+#[derive(Clone, Copy)]
 pub struct TakenHost {
     pub host: Host,
     pub next: usize,
 }
 
-#[derive(Drop)]
+#[derive(Clone, Copy)]
 pub struct TakenFacts {
     pub facts: Facts,
     pub next: usize,
@@ -81,7 +81,7 @@ pub struct TakenFacts {
 
 // The table without its level pairs, which begin at an octet of the case, and how many of these are stored; and the place of the row behind its last, in
 // the list that they were put into.
-#[derive(Drop)]
+#[derive(Clone, Copy)]
 pub struct TakenTable {
     pub table: Table,
     pub levels: usize,
@@ -91,7 +91,7 @@ pub struct TakenTable {
 }
 
 // The place of the row behind the last that was put into a list, and the place of the case after it.
-#[derive(Drop)]
+#[derive(Clone, Copy)]
 struct TakenRows {
     end: usize,
     next: usize,

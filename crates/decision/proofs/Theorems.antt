@@ -3,9 +3,8 @@ use mathlib.Core.Path.{◌≡◌, refl, sym}
 use mathlib.Core.Bool.{Bool, true, false, ◌||◌}
 use mathlib.Core.Logic.{◌⊎◌, inl, inr, ⊎_elim}
 use Rattle.label.proofs.Bools.{never, or_cases}
-use Rattle.decision.specs.declared.Facts.{Facts}
 use Rattle.decision.specs.Decision.{silenced}
-use Rattle.decision.specs.Theorems.{SomeFact, AnySilences}
+use Rattle.decision.specs.Theorems.{AnySilences}
 
 either : (a b : Bool) → (a ≡ true) ⊎ (b ≡ true) → (a || b) ≡ true
 either true b h = refl

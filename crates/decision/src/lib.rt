@@ -1,5 +1,7 @@
 // What is decided of a datagram, what is decided on the way to it, and when the report of a refusal stays silent (document 01, "The order of checks";
 // document 02, Wish 2).
+#![tactic(auto)]
+
 ghost use Rattle.std.specs.Prelude.{◌≡◌, cond, eqb};
 ghost use Rattle.decision.specs.Decision.{silenced};
 ghost use Rattle.decision.specs.Verdict.{stopped, going, concluded};
@@ -10,7 +12,7 @@ use label_keys::to_label;
 
 // What is decided: 0 and the label (and, of a forwarding, the count of the leaving area), or a refusal's number with its ICMP type (`kind`),
 // code and pointer.
-#[derive(Drop)]
+#[derive(Clone, Copy)]
 pub struct Decision {
     pub number: u8,
     pub kind: u8,
@@ -22,7 +24,7 @@ pub struct Decision {
 
 // What is decided so far, without the label: 0, the level, and how many keys of a lent list hold the categories; or a refusal with level and
 // count 0.
-#[derive(Drop)]
+#[derive(Clone, Copy)]
 pub struct Verdict {
     pub number: u8,
     pub kind: u8,
@@ -33,7 +35,7 @@ pub struct Verdict {
 }
 
 // What the caller states of a datagram (RFC 1122, section 3.2.2): no error goes out about one of which any of these holds.
-#[derive(Drop)]
+#[derive(Clone, Copy)]
 pub struct Facts {
     // it is an ICMP error message
     pub error: bool,

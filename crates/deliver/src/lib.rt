@@ -1,4 +1,6 @@
 // Deliver: checks 1 to 15 and 19 to 21 at a port and a host (document 01, "The order of checks"; document 02, Wish 3).
+#![tactic(auto)]
+
 ghost use Rattle.std.specs.Prelude.{◌≡◌};
 ghost use Rattle.deliver.specs.Delivery.{delivery_of, deliver_of};
 ghost use Rattle.deliver.specs.Stages.{hosted_by};

@@ -1,15 +1,15 @@
 -- Between two domains: 16, 17 and 18 over the decision.
 use mathlib.Core.Path.{◌≡◌, refl, sym, ◌∙◌, ap}
-use mathlib.Core.Bool.{Bool, true, false, not, ◌&&◌, ◌||◌}
-use mathlib.Core.List.{List, [], ◌∷◌}
+use mathlib.Core.Bool.{Bool, true, false, ◌||◌}
+use mathlib.Core.List.{[], ◌∷◌}
 use mathlib.Core.Logic.{◌⊎◌, inl, inr}
-use mathlib.Core.Option.{Option, none}
+use mathlib.Core.Option.{none}
 use Prim.Native.Nat.{ℕ, ◌<◌}
 use native.Mathlib.Omega.{arith}
 use lib.Dec.{eqb, ltb}
-use lib.ListN.{length, take}
+use lib.ListN.{length}
 use borrow.Author.Tests.{eqb-true, eq-eqb, ne_eqb, lt-ltb}
-use Rattle.label.specs.Label.{used, well_formed, in_range}
+use Rattle.label.specs.Label.{used, well_formed}
 use Rattle.label.proofs.Bools.{never, and_left, and_right}
 use Rattle.label_keys.specs.Range.{set_in_range}
 use Rattle.port.specs.Port.{lowest_out, highest_out}
@@ -18,14 +18,14 @@ use Rattle.table.specs.Table.{used_rows}
 use Rattle.table.specs.Numbers.{numbered}
 use Rattle.table_levels.specs.declared.Partner.{Partner}
 use Rattle.table_levels.specs.declared.Partner.TheVariants.{Level, Missing}
-use Rattle.table_levels.specs.Levels.{partner_of, known}
+use Rattle.table_levels.specs.Levels.{known}
 use Rattle.renumber.specs.Renumber.{image_runs}
 use Rattle.area_leaving.specs.Kept.{kept_of}
 use Rattle.decision.specs.declared.Decision.{Decision}
 use Rattle.decision.specs.Decision.{silenced, decided}
-use Rattle.arrive.specs.Checks.{barred, first_of, when, NoneApplies, range_check}
+use Rattle.arrive.specs.Checks.{barred, first_of, NoneApplies, range_check}
 use Rattle.arrive.proofs.First.{when_none, not_false_yes}
-use Rattle.forward_rules.specs.Crossing.{no_room, Forwarding, Crossing, crossing, stays, partner, has_numbers, number_check, leaving_check, leaving_level, leaving_runs, leaving_option, leaving_label, spelling_check}
+use Rattle.forward_rules.specs.Crossing.{no_room, Forwarding, Crossing, crossing, partner, has_numbers, number_check, leaving_check, leaving_level, leaving_runs, leaving_option, leaving_label, spelling_check}
 use Rattle.forward_rules.specs.Forward.{forward_of, leaving_count}
 use Rattle.demands.specs.Crosses.{before_numbers, label_at, HasNumbers, inside, Crosses}
 use Rattle.demands.proofs.Renumbering.{whole_says, whole_said}

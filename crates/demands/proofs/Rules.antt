@@ -6,12 +6,12 @@ use mathlib.Core.Logic.{◌⊎◌, inl, inr, ◌↔◌}
 use mathlib.Core.Option.{Option, none, some}
 use Prim.Native.Nat.{ℕ, zero, suc, ◌+◌, ◌*◌, ◌/◌, ◌%◌, ◌<◌}
 use native.Mathlib.Omega.{arith}
-use lib.Dec.{ltb, eqb}
+use lib.Dec.{eqb}
 use lib.ListN.{length, get_or, drop}
 use lib.Seq.{get_or-take, get_or-drop}
 use borrow.Author.Tests.{eqb-true}
 use Rattle.label.specs.declared.Label.{Label}
-use Rattle.option.specs.Option.{domain_of, is_even}
+use Rattle.option.specs.Option.{is_even}
 use Rattle.option.specs.Index.{first_true, pairs_of}
 use Rattle.option_read.specs.Reading.{Check, not_read, bad_in, count_in, bad_place, label_in}
 use Rattle.option_read.specs.Reading as reading
@@ -135,7 +135,8 @@ label_rules_lem o p port =
 shared_rules : (q : Place) (port : Port) (area : List ℕ) (rest : List Rule) (ds : List (Option Refusal)) → first_of (checks rest) ≡ first_of ds
     → first_of (checks (rule 6 (not (is_at q) && port.required) 12 1 134 ∷ (label_rules (is_at q) (option_at (octet_at q) area) (octet_at q) port ++ rest)))
     ≡ first_of (required_by q port ∷ option_by q port area ∷ ds)
-shared_rules Nowhere port area rest ds e = first_alike (required_by Nowhere port) (required_by Nowhere port) (checks rest) ds refl e
+shared_rules Nowhere port area rest ds e =
+    first_alike (required_by Nowhere port) (required_by Nowhere port) (checks (label_rules false (option_at (octet_at Nowhere) area) (octet_at Nowhere) port ++ rest)) (none ∷ ds) refl e
 shared_rules (At p) port area rest ds e =
     first_stretch (label_rules true (option_at p area) p port) rest (option_by (At p) port area) ds (label_rules_lem (option_at p area) p port) e
 

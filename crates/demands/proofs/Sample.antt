@@ -36,7 +36,7 @@ use Rattle.forward_rules.specs.Crossing.{sizes, records, leaving_basic_check, nu
 use Rattle.decision.specs.Decision.{silenced}
 use Rattle.forward_rules.specs.Forward.{forward_of}
 use Rattle.demands.specs.Demands.{own, Forwards, neither}
-use Rattle.sample_records.specs.Sample.{arriving, leaving, table, levels}
+use Rattle.sample_records.specs.Sample.{table, levels}
 use Rattle.demands.specs.Sample.{sample, first, SampleLines}
 use Rattle.demands.proofs.Second.{demand2}
 

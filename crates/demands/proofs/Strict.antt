@@ -1,26 +1,25 @@
 -- The statements of `specs/Strict.antt`: each of the four forms is one option for each label.
-use Prim.Native.Nat.{ℕ, zero, suc, ◌+◌, ◌-◌, ◌*◌, ◌/◌, ◌%◌, ◌≤◌, ◌<◌}
-use mathlib.Core.Bool.{Bool, true, false, cond, not, ◌&&◌, ◌||◌, or-false, true≢false}
+use Prim.Native.Nat.{ℕ, ◌+◌, ◌-◌, ◌*◌, ◌/◌, ◌%◌, ◌≤◌, ◌<◌}
+use mathlib.Core.Bool.{Bool, true, false, cond, not, ◌||◌, or-false}
 use mathlib.Core.List.{List, [], ◌∷◌}
 use mathlib.Core.Logic.{⊎_elim}
 use mathlib.Core.Path.{◌≡◌, refl, sym, ap, ◌∙◌}
 use native.Mathlib.Omega.{arith}
-use lib.Dec.{leb, ltb, eqb}
+use lib.Dec.{ltb, eqb}
 use lib.ListN.{length, get_or}
 use borrow.Author.Tests.{eqb-true, eqb-false, eq-eqb, ne_eqb, ltb-true, le-leb, lt-leb, not-true}
 use Rattle.label.specs.declared.Run.{Run}
 use Rattle.label.specs.declared.Label.{Label}
 use Rattle.label.specs.Runs.{run, covers, push_run, joined, top_of}
 use Rattle.label.specs.Label.{used}
-use Rattle.label.proofs.Bools.{never, and_left, and_right, or_cases, or_none, less_or}
+use Rattle.label.proofs.Bools.{never, and_left, and_right, or_cases, less_or}
 use Rattle.label.proofs.Canon.{Canon, unique}
 use Rattle.option.specs.declared.Spellings.{Spellings}
 use Rattle.option.specs.Bitmap.{bit_at, weight}
 use Rattle.option.specs.Option.{Octets, tag_of, body_of, numbers_in, pairs_in, singles, ascending, falling, body_has, has, Means}
-use Rattle.option.specs.Permitted.{trimmed, tight, is_shortest, is_ten, is_numbers, is_pairs, permits, Permitted}
+use Rattle.option.specs.Permitted.{trimmed, tight, is_shortest, is_ten, is_numbers, is_pairs, permits}
 use Rattle.option.specs.Spelling.{from_zero, size5}
-use Rattle.option.specs.Table.{only_shortest, only_ten, all_four}
-use Rattle.option.specs.Theorems.{Spells}
+use Rattle.option.specs.Table.{only_shortest, only_ten}
 use Rattle.option.proofs.Forms.{means_runs, formed_runs}
 use Rattle.option.proofs.Bridge.{pairs_count}
 use Rattle.option.proofs.Octets.{octet_at_lem, octets_drop}
@@ -31,11 +30,10 @@ use Rattle.option.proofs.Only.{octet_same, same_numbers}
 use Rattle.option_slack.specs.Slack.{slack}
 use Rattle.option_slack.proofs.Theorems.{slackness}
 use Rattle.area.specs.declared.Place.{Place}
-use Rattle.area.specs.declared.Place.TheVariants.{Nowhere, At}
-use Rattle.area.specs.declared.Walk.{Walk}
+use Rattle.area.specs.declared.Place.TheVariants.{At}
 use Rattle.area.specs.declared.Walk.TheVariants.{Sound}
 use Rattle.port.specs.declared.Port.{Port}
-use Rattle.arrive.specs.Checks.{walk_at, option_at, place_in}
+use Rattle.arrive.specs.Checks.{walk_at, option_at}
 use Rattle.demands.specs.Demands.{LabelOf, own, assigned}
 use Rattle.demands.specs.Strict.{Writable, StrictAccepts}
 

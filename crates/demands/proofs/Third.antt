@@ -2,7 +2,7 @@
 use mathlib.Core.Path.{◌≡◌, refl, sym, ◌∙◌, ap, subst}
 use mathlib.Core.Bool.{Bool, true, false, cond, not, true≢false}
 use mathlib.Core.List.{List, [], ◌∷◌, ◌++◌, append_assoc}
-use mathlib.Core.Logic.{◌⊎◌, ⊎_elim, ◌↔◌}
+use mathlib.Core.Logic.{⊎_elim, ◌↔◌}
 use mathlib.Core.Option.{Option, none, some}
 use Prim.Native.Nat.{ℕ, ◌+◌, ◌-◌, ◌≤◌}
 use native.Mathlib.Omega.{arith}
@@ -35,7 +35,7 @@ use Rattle.decision.specs.Decision.{Refusal, silenced, decided}
 use Rattle.arrive.specs.Checks.{barred, when, first_of, bad_basic_check, arriving_basic, missing_basic_by, missing_basic_check, basic_passes, basic_range_check, arriving_label, range_check}
 use Rattle.deliver.specs.Delivery.{Delivery, delivery_sizes, delivery_records, host_check, deliver_of}
 use Rattle.forward_rules.specs.Crossing.{Forwarding, sizes, records, leaving_basic_check, Crossing, crossing, number_check, leaving_check, spelling_check, leaving_label, leaving_option}
-use Rattle.forward_rules.specs.Forward.{forward_checks, forward_of, written, output_of}
+use Rattle.forward_rules.specs.Forward.{forward_checks, forward_of, output_of}
 use Rattle.forward_rules.proofs.Forwards.{forward_passed}
 use Rattle.demands.specs.Demands.{own, MeansAt, Alike, AlikeDelivered, one_form, Demand3}
 use Rattle.area_leaving.proofs.Again.{basic_from}

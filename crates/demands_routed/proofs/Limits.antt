@@ -1,13 +1,12 @@
 -- The limits of a box, over lengths alone.
-use mathlib.Core.Path.{◌≡◌, refl, sym, ◌∙◌, ap}
+use mathlib.Core.Path.{◌≡◌, refl, ◌∙◌, ap}
 use mathlib.Core.Bool.{Bool, true, false, not, ◌&&◌}
 use mathlib.Core.List.{List}
-use Prim.Native.Nat.{ℕ, ◌+◌, ◌*◌, ◌%◌}
+use Prim.Native.Nat.{ℕ, ◌*◌, ◌%◌}
 use native.Mathlib.Omega.{arith}
 use lib.Dec.{leb, eqb}
 use lib.ListN.{length}
 use borrow.Author.Tests.{le-leb, lt-leb, eq-eqb, ne_eqb}
-use Rattle.label.proofs.Bools.{never, and_left, and_right}
 use Rattle.table.specs.Table.{Lent, rows_sound, typed, table_sound}
 use Rattle.table_levels.specs.Levels.{levels_sound}
 use Rattle.route.specs.Route.{routes_sound}

@@ -1,9 +1,8 @@
 -- Of a box too, the number given is the first of the order whose line applies.
 use mathlib.Core.Path.{◌≡◌, refl, sym, ◌∙◌, ap, subst}
-use mathlib.Core.Bool.{Bool, not, ◌&&◌, ◌||◌}
+use mathlib.Core.Bool.{not, ◌&&◌, ◌||◌}
 use mathlib.Core.List.{List, [], ◌∷◌}
 use mathlib.Core.Option.{Option}
-use Prim.Native.Nat.{ℕ}
 use lib.Dec.{ltb}
 use Rattle.area.specs.Area.{bad_area}
 use Rattle.area_leaving.specs.Kept.{kept_of}
@@ -13,7 +12,7 @@ use Rattle.arrive.proofs.First.{first_append}
 use Rattle.forward_rules.specs.Crossing.{Forwarding, sizes, leaving_basic_check, number_check, leaving_check, spelling_check, crossing}
 use Rattle.route.specs.declared.Chosen.{Chosen}
 use Rattle.route.specs.declared.Chosen.TheVariants.{NoRoute, By}
-use Rattle.route_decide.specs.Routing.{Routing, box_sound, chosen, is_unrouted, arriving_port, leaving_port, chosen_pair, set_check, leaving_basic_by, route_check, routing_checks, routing_of}
+use Rattle.route_decide.specs.Routing.{Routing, box_sound, chosen, is_unrouted, arriving_port, chosen_pair, set_check, leaving_basic_by, route_check, routing_checks, routing_of}
 use Rattle.demands.specs.Rules.{Rule, rule, arriving_basic_rule, range_rule, crossing_rules}
 use Rattle.demands.proofs.Rules.{checks, all_rules, Found, found, follows}
 use Rattle.demands_routed.specs.Rules.{leaving_rule, routed_tests, RoutedOrder}

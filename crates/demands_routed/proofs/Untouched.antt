@@ -1,10 +1,9 @@
 -- What a refusal leaves untouched, entry by entry.
-use mathlib.Core.Path.{◌≡◌, refl, sym, ◌∙◌, ap}
-use mathlib.Core.Bool.{Bool, true, false, cond, ◌&&◌}
-use mathlib.Core.List.{List, [], ◌++◌}
+use mathlib.Core.Path.{◌≡◌, refl, ◌∙◌, ap}
+use mathlib.Core.Bool.{Bool, true, false, cond}
+use mathlib.Core.List.{List, ◌++◌}
 use mathlib.Core.Option.{Option, none, some}
 use Prim.Native.Nat.{ℕ, ◌/◌, ◌≤◌, ◌<◌}
-use native.Mathlib.Omega.{arith}
 use lib.Dec.{leb, ltb, eqb}
 use lib.ListN.{length, take, drop, take-append-drop}
 use borrow.Author.Tests.{eq-eqb, ne_eqb, lt-ltb, le-leb}
@@ -14,7 +13,6 @@ use Rattle.option_read_bitmap.specs.Bitmap.{bitmap_number, bitmap_found, bitmap_
 use Rattle.option_read.specs.Reading.{reading_for}
 use Rattle.option_read.specs.Keys.{key_reading_for, keys_after}
 use Rattle.option_spell.specs.Spelling.{spelling_number, spelling_answer, spelling_out}
-use Rattle.basic.specs.Alone.{basic_writing, basic_out}
 use Rattle.basic.proofs.OptionTheorems.{writes_basic}
 use Rattle.table.specs.Table.{Lent, table_sound}
 use Rattle.renumber_reverse.specs.Reverse.{reversed_of, with_rows}

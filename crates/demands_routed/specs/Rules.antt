@@ -1,5 +1,5 @@
 -- Document 01's table of checks with document 02's line 22, held against a box of many ports: the lines, and the order in which they are tested.
-use Rattle.std.specs.Prelude.{Bool, not, ◌&&◌, ◌||◌, List, [], ◌∷◌, ◌++◌, ℕ, ltb}
+use Rattle.std.specs.Prelude.{not, ◌&&◌, ◌||◌, List, ◌∷◌, ◌++◌, ltb}
 use Rattle.area.specs.Area.{bad_area, met_of}
 use Rattle.arrive.specs.Checks.{walk_at, place_in, basic_in, arriving_basic, basic_passes}
 use Rattle.decision.specs.Decision.{silenced}

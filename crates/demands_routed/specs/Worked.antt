@@ -1,7 +1,6 @@
 -- Document 02, Wishes 7 and 8: worked boxes, decided as the definitions compute it. The ports, areas and answers are those of the worked decisions of two ports
 -- (the crate `demands`): an area with a label of level 3 and no categories arrives at port 0 of three, of the domains 5, 5 and 9.
 use Rattle.std.specs.Prelude.{◌≡◌, true, List, [], ◌∷◌, ◌++◌, map, ℕ, ◌-◌, length, replicate}
-use Rattle.label.specs.declared.Label.{Label}
 use Rattle.label.specs.Label.{label_of, zero_label}
 use Rattle.label.specs.Runs.{run}
 use Rattle.port.specs.declared.Port.{Port}

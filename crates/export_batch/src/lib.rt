@@ -1,5 +1,7 @@
 // Many datagrams in one call, through two ports of a gateway file: the file is read, and its two ports are checked, once for all of them (docs/LIVE.md). Records and slots are
 // those of `forward_batch`.
+#![tactic(auto)]
+
 ghost use Rattle.std.specs.Prelude.{◌≡◌, length};
 ghost use Rattle.forward_batch.specs.Batch.{slot_count, batch_of};
 ghost use Rattle.export_batch.specs.Batch.{between, set_read, rows_read, gateway_of};
@@ -16,8 +18,7 @@ use table_choose::{MAX_TABLES, Tables, first_table};
 const ROOM: usize = MAX_TABLES * MAX_ROWS * 3;
 
 // Forwards every whole record of `input` that has a slot in `output`, from one port of the file to another, by the first table for their two domains. Answers how many.
-#[unsafe(no_mangle)]
-pub extern "C" fn inglebreek_forward_batch(
+pub fn inglebreek_forward_batch(
     file: &[u8],
     arriving: usize,
     leaving: usize,

@@ -1,4 +1,6 @@
 // Gateway files for Rust and C: whether one is accepted, and where it is refused (docs/FILE.md).
+#![tactic(auto)]
+
 ghost use Rattle.std.specs.Prelude.{◌≡◌, ◌/◌};
 ghost use Rattle.export_file.specs.Export.{checking};
 
@@ -11,8 +13,7 @@ pub const ROOM: usize = MAX_TABLES * MAX_ROWS * 3;
 
 // Checks a gateway file. Answers 0 where it is accepted: `ports`, `tables` and `rows` get how many it has, and `place` gets 0. Answers 101 where it is refused: `place` gets the place of
 // the first octet of the first bad field. Answers 102 where its version is not known: that is octet 2, and `place` gets 2. Of a file that is not accepted the three counts are 0.
-#[unsafe(no_mangle)]
-pub extern "C" fn inglebreek_check_file(
+pub fn inglebreek_check_file(
     file: &[u8],
     place: &mut usize,
     ports: &mut usize,

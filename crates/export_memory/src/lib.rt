@@ -2,6 +2,8 @@
 //
 // The caller lends a count and a list: its first 64 places are the memory's, the oldest address first, and the unused ones of them 0. A list of under 64 places is answered by 1, and
 // nothing changes. All zeros are the memory that holds no address.
+#![tactic(auto)]
+
 ghost use Rattle.std.specs.Prelude.{◌≡◌, ◌++◌, ◌≤◌, length, drop};
 ghost use Rattle.memory.specs.Memory.{note_of, ask_of, forget_of};
 ghost use Rattle.memory_message.specs.Complaint.{complaint_of};
@@ -13,8 +15,7 @@ use memory_message::note_message;
 
 // Notes an address in the memory: it becomes the newest, and where it is new and the memory is full, the oldest is dropped. Answers 0, and `known` gets whether it was there; or 1 for a
 // list of under 64 places, 2 for a memory that stands for no list: `known` then gets 0, and the memory stays as it was.
-#[unsafe(no_mangle)]
-pub extern "C" fn inglebreek_note_address(
+pub fn inglebreek_note_address(
     address: u32,
     count: &mut usize,
     addresses: &mut [u32],
@@ -39,13 +40,7 @@ pub extern "C" fn inglebreek_note_address(
 
 // Asks whether an address is in the memory, which stays as it was. Answers 0, and `known` gets whether it is; or 1 for a list of under 64 places, 2 for a memory that stands for no list:
 // `known` then gets 0.
-#[unsafe(no_mangle)]
-pub extern "C" fn inglebreek_ask_address(
-    address: u32,
-    count: usize,
-    addresses: &[u32],
-    known: &mut bool,
-) -> u8
+pub fn inglebreek_ask_address(address: u32, count: usize, addresses: &[u32], known: &mut bool) -> u8
     ensures value { result ≡ number_by (ask_of address) count addresses.now }
     ensures known_after { known.new ≡ known_by (ask_of address) count addresses.now }
 {
@@ -60,8 +55,7 @@ pub extern "C" fn inglebreek_ask_address(
 
 // Forgets an address. Answers 0, and `known` gets whether it was in the memory; or 1 for a list of under 64 places, 2 for a memory that stands for no list: `known` then gets 0, and the
 // memory stays as it was.
-#[unsafe(no_mangle)]
-pub extern "C" fn inglebreek_forget_address(
+pub fn inglebreek_forget_address(
     address: u32,
     count: &mut usize,
     addresses: &mut [u32],
@@ -86,8 +80,7 @@ pub extern "C" fn inglebreek_forget_address(
 
 // Notes the destination in the header that a missing-option message (12/1/134) quotes. Answers 0, and `known` gets whether it was in the memory; or 1 for a list of under 64 places, 2 for a
 // memory that stands for no list, 25 for any other octets: `known` then gets 0, and the memory stays as it was.
-#[unsafe(no_mangle)]
-pub extern "C" fn inglebreek_note_message(
+pub fn inglebreek_note_message(
     octets: &[u8],
     count: &mut usize,
     addresses: &mut [u32],

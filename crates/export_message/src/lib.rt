@@ -1,4 +1,6 @@
 // The ICMP message of a refusal, for Rust and C: built, and read (document 02, Wish 9; docs/LIVE.md).
+#![tactic(auto)]
+
 ghost use Rattle.std.specs.Prelude.{◌≡◌, length};
 ghost use Rattle.message.specs.Message.{parts_of};
 ghost use Rattle.message_build.specs.Build.{outcome, built_of, message_left, options_left};
@@ -10,8 +12,7 @@ use message_build::{Report, build_message};
 // Builds the message of a refusal (its number, ICMP type, code and pointer) about a datagram with this header and data, and the options area of the datagram that carries it. Answers 0,
 // and `written` and `carried` get how many octets of `message` and of `options` are written: both 0 where nothing is sent. Or answers 2 for a header or a report that is not sound, 24
 // for too little room; both then get 0, and both buffers stay as they were.
-#[unsafe(no_mangle)]
-pub extern "C" fn inglebreek_build_message(
+pub fn inglebreek_build_message(
     number: u8,
     kind: u8,
     code: u8,
@@ -43,8 +44,7 @@ pub extern "C" fn inglebreek_build_message(
 
 // Reads a message that reports a refusal. Answers 0: `kind`, `code` and `pointer` get its type, code and pointer, `header` how many octets the quoted header has, which stands from
 // octet 8 on, and `payload` how many data octets stand behind it. Or answers 25 for any other octets, and all five get 0.
-#[unsafe(no_mangle)]
-pub extern "C" fn inglebreek_read_message(
+pub fn inglebreek_read_message(
     octets: &[u8],
     kind: &mut u8,
     code: &mut u8,

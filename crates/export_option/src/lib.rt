@@ -2,6 +2,8 @@
 //
 // A label stands in numbers: its domain, its level, and its runs as keys, low · 65536 + high, in a list of their own. What `inglebreek_read_option` writes,
 // `inglebreek_spell_label` takes.
+#![tactic(auto)]
+
 ghost use Rattle.std.specs.Prelude.{◌≡◌, length};
 ghost use Rattle.label_keys.specs.Keys.{with_keys};
 ghost use Rattle.option_read.specs.Reading.{reading_of};
@@ -17,8 +19,7 @@ use option_spell::spell_label;
 
 // Reads one option 134 alone. Answers 0 and the label that it means: its domain, its level, the count of its runs, and the runs in `runs`, which stays as it was where it has fewer
 // places than the count says (120 are always enough); or answers 3 or 7 to 13, and `pointer` gets the place in the option, the label's numbers 0.
-#[unsafe(no_mangle)]
-pub extern "C" fn inglebreek_read_option(
+pub fn inglebreek_read_option(
     octets: &[u8],
     pointer: &mut usize,
     domain: &mut u32,
@@ -46,8 +47,7 @@ pub extern "C" fn inglebreek_read_option(
 // Spells the label of a domain, a level and runs, as many as are lent, in its shortest option 134 among the permitted ones: tag 1 in its shortest form, tag 1 with exactly ten bitmap
 // octets, tag 2, tag 5. Answers 0, and `count` gets the option's length; `out` gets the option, with zeros up to octet 39. Or answers 1 for an `out` of under 40 octets, 2 for an
 // ill-formed label, 18 for one that no permitted option means; `count` then gets 0, and `out` stays as it was.
-#[unsafe(no_mangle)]
-pub extern "C" fn inglebreek_spell_label(
+pub fn inglebreek_spell_label(
     domain: u32,
     level: u8,
     runs: &[u32],
@@ -75,8 +75,7 @@ pub extern "C" fn inglebreek_spell_label(
 }
 
 // Reads one option 130 alone. Answers 0, its level octet and its flag field; or 19, and both get 0.
-#[unsafe(no_mangle)]
-pub extern "C" fn inglebreek_read_basic(octets: &[u8], level: &mut u8, flags: &mut u16) -> u8
+pub fn inglebreek_read_basic(octets: &[u8], level: &mut u8, flags: &mut u16) -> u8
     ensures value { result ≡ (basic_reading octets.now).number }
     ensures level_after { level.new ≡ (basic_reading octets.now).level }
     ensures flags_after { flags.new ≡ (basic_reading octets.now).flags }
@@ -89,13 +88,7 @@ pub extern "C" fn inglebreek_read_basic(octets: &[u8], level: &mut u8, flags: &m
 
 // Writes the shortest option 130 of a level octet and a flag field. Answers 0, and `count` gets the option's length: only so many octets of `out` change. Or answers 1 for an `out` of
 // under 5 octets, 19 for a level that is none of the four or flags over 16383; `count` then gets 0, and `out` stays as it was.
-#[unsafe(no_mangle)]
-pub extern "C" fn inglebreek_write_basic(
-    level: u8,
-    flags: u16,
-    out: &mut [u8],
-    count: &mut usize,
-) -> u8
+pub fn inglebreek_write_basic(level: u8, flags: u16, out: &mut [u8], count: &mut usize) -> u8
     ensures value { result ≡ (basic_writing level flags (length out.old)).number }
     ensures out_after { out.new ≡ basic_out level flags out.old }
     ensures count_after { count.new ≡ (basic_writing level flags (length out.old)).count }

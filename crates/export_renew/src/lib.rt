@@ -1,4 +1,6 @@
 // A gateway file written anew in the newest version, for Rust and C (docs/FILE.md). It stands alone, so that checking a file needs little of a thread's stack.
+#![tactic(auto)]
+
 ghost use Rattle.std.specs.Prelude.{◌≡◌, length};
 ghost use Rattle.export_renew.specs.Renew.{number_in, count_in, renew_number, renew_count, renew_out};
 
@@ -11,8 +13,7 @@ pub const TOO_LONG: u8 = 104;
 
 // Writes a gateway file anew in the newest version, whatever version says it. Answers 0, and `count` gets how many octets of `out` are written; the others stay. Or answers 101 or 102 as
 // `inglebreek_check_file` does, then 104 for a file that would be longer than its version allows, then 1 for an `out` that is too short: `count` then gets 0, and `out` stays as it was.
-#[unsafe(no_mangle)]
-pub extern "C" fn inglebreek_renew_file(file: &[u8], out: &mut [u8], count: &mut usize) -> u8
+pub fn inglebreek_renew_file(file: &[u8], out: &mut [u8], count: &mut usize) -> u8
     ensures value { result ≡ renew_number file.now (length out.old) }
     ensures out_after { out.new ≡ renew_out file.now out.old }
     ensures count_after { count.new ≡ renew_count file.now (length out.old) }

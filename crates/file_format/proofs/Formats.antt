@@ -1,14 +1,13 @@
 -- The two laws of every format: what was printed is read back, and what is read was printed. By induction over the format.
 use mathlib.Core.Bool.{Bool, true, false, cond}
 use mathlib.Core.List.{List, [], ◌∷◌, ◌++◌}
-use mathlib.Core.Path.{◌≡◌, refl, sym, ap, subst, ◌∙◌}
-use Prim.Native.Nat.{ℕ, zero, suc, ◌+◌, ◌*◌, ◌/◌, ◌%◌, ◌≤◌, ◌<◌}
+use mathlib.Core.Path.{◌≡◌, refl, sym, ap, subst}
+use Prim.Native.Nat.{ℕ, zero, suc, ◌+◌, ◌*◌, ◌/◌, ◌%◌, ◌≤◌}
 use native.Mathlib.Omega.{arith}
 use native.Mathlib.Nat.{add-zero}
 use lib.Dec.{eqb}
 use lib.ListN.{length, length-append}
-use borrow.Author.Tests.{eq-eqb, ne_eqb}
-use Rattle.file_format.specs.Format.{Width, one, two, four, size, Format, number, flag, marks, ◌then◌, ◌such◌, fields, many, counted, digits, in_turn, bit, sum_of, marks_of, octets, Found, got, bad, after, number_at, many_at, read_at, room, Each, Sound}
+use Rattle.file_format.specs.Format.{Width, size, Format, number, flag, marks, ◌then◌, ◌such◌, fields, many, counted, digits, in_turn, bit, sum_of, marks_of, octets, Found, got, bad, after, number_at, many_at, read_at, Each, Sound}
 use Rattle.file_format.specs.Laws.{Octets, Stands, Printed}
 use Rattle.file_format.proofs.Numbers.{stands_append, stands_left, stands_right, size_some, number_back, NumberRead, number_only}
 

@@ -1,7 +1,7 @@
 -- Octets that stand at a place, and the law of a number each way.
 use mathlib.Core.Bool.{Bool, true, false, cond, ◌&&◌}
 use mathlib.Core.List.{List, [], ◌∷◌, ◌++◌}
-use mathlib.Core.Path.{◌≡◌, refl, sym, ap, ◌∙◌}
+use mathlib.Core.Path.{◌≡◌, refl, sym, ap}
 use Prim.Native.Nat.{ℕ, zero, suc, ◌+◌, ◌*◌, ◌/◌, ◌%◌, ◌≤◌, ◌<◌}
 use native.Mathlib.Omega.{arith}
 use native.Mathlib.Nat.{add-zero}
@@ -9,7 +9,7 @@ use lib.Dec.{leb}
 use lib.ListN.{length, get_or, length-append}
 use borrow.Author.Tests.{le-leb, lt-leb, leb-true}
 use Rattle.label.proofs.Bools.{and_left, and_right}
-use Rattle.file_format.specs.Format.{Width, one, two, four, size, Found, got, bad, room, digits, value_at, number_at}
+use Rattle.file_format.specs.Format.{Width, one, two, four, size, got, bad, room, digits, value_at, number_at}
 use Rattle.file_format.specs.Laws.{Octets, Stands}
 
 pub stands_append : (xs ys : List ℕ) (at : ℕ) (s : List ℕ) → Stands xs at s → Stands ys (at + length xs) s → Stands (xs ++ ys) at s

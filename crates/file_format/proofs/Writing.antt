@@ -1,15 +1,15 @@
 -- Octets written over others: one after the other, and the last octet alone.
-use mathlib.Core.Bool.{Bool, true, false, cond, not}
+use mathlib.Core.Bool.{Bool, true, false, not}
 use mathlib.Core.List.{List, [], ◌∷◌, ◌++◌, append_assoc, append-nil}
 use mathlib.Core.Path.{◌≡◌, refl, sym, ap, ◌∙◌}
-use Prim.Native.Nat.{ℕ, zero, suc, ◌+◌, ◌-◌, ◌*◌, ◌/◌, ◌%◌, ◌≤◌, ◌<◌}
+use Prim.Native.Nat.{ℕ, suc, ◌+◌, ◌-◌, ◌*◌, ◌/◌, ◌%◌, ◌≤◌, ◌<◌}
 use native.Mathlib.Omega.{arith}
-use native.Mathlib.Nat.{add_assoc, add-zero, suc-mul}
+use native.Mathlib.Nat.{add-zero, suc-mul}
 use native.Mathlib.Numerals.{add-one}
 use lib.Dec.{leb}
 use borrow.Author.Tests.{le-leb, lt-leb, leb-true, leb-false, not-true, not-false}
-use lib.ListN.{length, get_or, set, take, drop, length-append, length-drop, length-set, take-append-drop}
-use lib.Seq.{length-take-le, drop-drop, take_at, drop_at, take-set-le, set_split, take-suc}
+use lib.ListN.{length, get_or, set, take, drop, length-append}
+use lib.Seq.{length-take-le, drop_at, take-set-le, set_split, take-suc}
 use Rattle.lists.specs.Lists.{paint}
 use Rattle.lists.proofs.Laws.{paint_none, paint_length, paint_two}
 use Rattle.file_format.specs.Format.{digits, in_turn, Writes, Wrote}

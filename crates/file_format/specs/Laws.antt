@@ -1,6 +1,6 @@
 -- What is proved of every format of the vocabulary, once for all.
 use Rattle.std.specs.Prelude.{List, [], ◌∷◌, ◌++◌, ◌≡◌, ℕ, suc, ◌+◌, ◌<◌, length, get_or}
-use Rattle.file_format.specs.Format.{Found, got, bad, Format, octets, read_at, Sound}
+use Rattle.file_format.specs.Format.{got, Format, octets, read_at, Sound}
 
 -- the octets of a list, where the octets of one do not depend on what stands before it
 abbrev pub flat : {A : Type 0} → (A → List ℕ) → List A → List ℕ

@@ -1,10 +1,12 @@
 // Fields of the house file: numbers of one, two and four octets, the highest octet first.
+#![tactic(auto)]
+
 ghost use Rattle.std.specs.Prelude.{◌≡◌, cond, ◌+◌, ◌≤◌, ◌<◌, leb, length};
 ghost use Rattle.file_format.specs.Format.{Width, Reads, Judges, number, one, two, four, digits, Writes, number_at, bad, told};
 
 // What reading a number finds: the number and the place after it, or the place to blame. A reader takes `ok` and the place from the reader before it,
 // and passes a blame on: a record is read by one line for each field, with no branch between them.
-#[derive(Drop)]
+#[derive(Clone, Copy)]
 pub struct Number {
     pub ok: bool,
     pub at: usize,
@@ -144,7 +146,7 @@ pub fn write_numbers(numbers: &[u16], out: &mut [u16], at: usize) -> usize
 }
 
 // Where a reader stands.
-#[derive(Drop)]
+#[derive(Clone, Copy)]
 pub struct Place {
     pub ok: bool,
     pub at: usize,

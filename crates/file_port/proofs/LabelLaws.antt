@@ -2,7 +2,7 @@
 use mathlib.Core.Bool.{Bool, true, false, cond, not, ◌&&◌}
 use mathlib.Core.List.{List, [], ◌∷◌, ◌++◌}
 use mathlib.Core.Path.{◌≡◌, refl, sym, ap, ◌∙◌}
-use Prim.Native.Nat.{ℕ, zero, suc, ◌+◌, ◌-◌, ◌*◌, ◌≤◌, ◌<◌}
+use Prim.Native.Nat.{ℕ, ◌+◌, ◌-◌, ◌*◌, ◌≤◌, ◌<◌}
 use native.Mathlib.Omega.{arith}
 use lib.Dec.{leb, eqb}
 use borrow.Author.Tests.{le-leb, lt-leb}
@@ -10,7 +10,6 @@ use lib.ListN.{length, set, take, replicate, length-append}
 use lib.Seq.{take-append_seam}
 use Rattle.label.specs.declared.Run.{Run}
 use Rattle.label.specs.declared.Label.{Label}
-use Rattle.label.specs.Runs.{run}
 use Rattle.label.specs.Label.{no_run, used, label_of}
 use Rattle.label.proofs.Labels.{with_run_of}
 use Rattle.basic.specs.declared.Way.{Way}
@@ -18,12 +17,11 @@ use Rattle.basic.specs.Levels.{is_level, rank_of, at_most}
 use Rattle.file_format.specs.Format.{flag, digits, bit, sum_of, octets, many, same, Reads}
 use Rattle.file_format.specs.Places.{padded}
 use Rattle.file_format.proofs.Told.{then_told, fields_told, zeroed}
-use Rattle.file_format.proofs.Numbers.{digits_length}
 use Rattle.file_format.proofs.Places.{used_is, padded_more, padded_used}
 use Rattle.file_format.specs.Laws.{flat}
 use Rattle.file_format.proofs.Writing.{flat_turn, flat_length}
 use Rattle.port.specs.declared.Port.{Port}
-use Rattle.file_port.specs.PortFormat.{given_format, way_of, way_format, spelling_marks, spellings_format, Plain, Later, plain_format, later_format, plain_of, later_of, plain_made, port_made, first_port, second_port, third_port, port_format, no_port}
+use Rattle.file_port.specs.PortFormat.{given_format, way_of, way_format, spelling_marks, spellings_format, plain_format, later_format, plain_of, later_of, plain_made, port_made, first_port, second_port, third_port, port_format, no_port}
 use Rattle.file_port.specs.LabelFormat.{run_format, next_floor, label_format}
 
 -- one run more is stored in the first unused place, and counted

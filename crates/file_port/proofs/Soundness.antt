@@ -6,11 +6,11 @@ use Prim.Native.Nat.{ℕ, zero, suc, ◌+◌, ◌-◌, ◌≤◌, ◌<◌}
 use native.Mathlib.Omega.{arith}
 use lib.Dec.{leb, eqb}
 use lib.ListN.{length, take, drop, replicate, length-append, length-replicate, length-drop}
-use lib.Seq.{length-take-le, take-append_seam, drop_at}
-use borrow.Author.Tests.{le-leb, lt-leb, leb-true, leb-false, eq-eqb, ne_eqb, eqb-true, not-true}
+use lib.Seq.{length-take-le, drop_at}
+use borrow.Author.Tests.{le-leb, leb-true, eq-eqb, ne_eqb, eqb-true, not-true}
 use Rattle.label.specs.declared.Run.{Run}
 use Rattle.label.specs.declared.Label.{Label}
-use Rattle.label.specs.Runs.{run, spaced}
+use Rattle.label.specs.Runs.{spaced}
 use Rattle.label.specs.Label.{no_run, used, label_of, zero_label, well_formed, leq, in_range, is_zero}
 use Rattle.label.proofs.Bools.{and_left, and_right, and_both}
 use Rattle.label.proofs.Runs.{first}
@@ -20,13 +20,13 @@ pub use Rattle.port.proofs.Zero.{is_zero_lem}
 use Rattle.port.specs.Port.{plain_port, is_plain, port_sound, range_sound, assigned_sound, default_sound}
 use Rattle.option.specs.Permitted.{some_of}
 use Rattle.basic.specs.declared.Way.{Way}
-use Rattle.basic.specs.Levels.{is_level, rank_of, at_most, levels, is_in}
+use Rattle.basic.specs.Levels.{is_level, at_most}
 use Rattle.basic.specs.Settings.{is_off, basic_sound, way_sound, way_zero, unused}
 use Rattle.basic.proofs.Settings.{unused_zeros}
 use Rattle.port.proofs.Laws as port
 use Rattle.file_format.specs.Format.{Sound, Each, alike, same, number, two}
 use Rattle.file_format.specs.Places.{padded}
-use Rattle.file_format.proofs.Places.{padded_again, padded_used, padded_length}
+use Rattle.file_format.proofs.Places.{padded_again, padded_length}
 use Rattle.file_port.specs.LabelFormat.{run_format, next_floor, unless0, label_format}
 use Rattle.file_port.specs.PortFormat.{given_format, way_of, way_format, spellings_format, plain_format, later_format, plain_of, later_of, plain_made, port_made, first_port, second_port, third_port, port_format}
 use Rattle.file_port.specs.Theorems.{LabelsSaid, small, typed_way, typed_port, port_sayable, PortsSaid}

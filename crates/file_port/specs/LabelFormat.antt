@@ -1,5 +1,5 @@
 -- docs/FILE.md, "A label". The layout's row: domain (4), level (1), run count (1), then low (2) and high (2) of each run.
-use Rattle.std.specs.Prelude.{Bool, true, false, cond, List, ◌≡◌, refl, ℕ, ◌+◌, ◌-◌, eqb, length, replicate}
+use Rattle.std.specs.Prelude.{cond, refl, ℕ, ◌+◌, ◌-◌, eqb, length, replicate}
 use Rattle.std.proofs.Math.Seq.{take-append_seam}
 use Rattle.label.specs.declared.Run.{Run}
 use Rattle.label.specs.declared.Label.{Label}

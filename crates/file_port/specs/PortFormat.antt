@@ -1,7 +1,7 @@
 -- docs/FILE.md, "A port". Version 1: domain (4), lowest label, highest label, required (1: 0 or 1), assigned label. Version 2: the fields of version 1; Basic Security on (1: 0 or 1);
 -- receiving: lowest level (1), highest level (1), count (2), flag fields (2 each); sending: the same four; permitted spellings (1); unlabelled (1: 0 or 1); default label.
 -- Version 3: the fields of version 2; strict (1: 0 or 1).
-use Rattle.std.specs.Prelude.{Bool, true, false, cond, not, List, ◌≡◌, refl, ℕ, ◌-◌, leb, eqb, length, take, replicate}
+use Rattle.std.specs.Prelude.{Bool, true, false, cond, not, List, refl, ℕ, ◌-◌, leb, eqb, length, take, replicate}
 use Rattle.std.proofs.Math.Seq.{take-append_seam}
 use Rattle.label.specs.declared.Label.{Label}
 use Rattle.label.specs.Label.{zero_label, leq, in_range}

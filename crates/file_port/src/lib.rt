@@ -1,4 +1,6 @@
 // Records of the house file: each is read at a place and written at a place.
+#![tactic(auto)]
+
 ghost use Rattle.std.specs.Prelude.{◌≡◌, true, false, cond, leb, eqb, length, take, ◌+◌, ◌*◌, ◌≤◌, ◌<◌};
 ghost use Rattle.label.specs.Runs.{run};
 ghost use Rattle.label.specs.Label.{used, label_of, zero_label, in_range};
@@ -17,7 +19,7 @@ use label::{Label, Run};
 use option::Spellings;
 use port::Port;
 
-#[derive(Drop)]
+#[derive(Clone, Copy)]
 struct RunRead {
     ok: bool,
     at: usize,
@@ -26,7 +28,7 @@ struct RunRead {
 }
 
 // What reading a label finds: the label and the place after it, or the place to blame and the all-zero label.
-#[derive(Drop)]
+#[derive(Clone, Copy)]
 pub struct LabelRead {
     pub ok: bool,
     pub at: usize,
@@ -165,7 +167,7 @@ fn label_size(label: Label) -> usize
 }
 
 // What reading a port finds: the port and the place after it, or the place to blame and a port of zeros.
-#[derive(Drop)]
+#[derive(Clone, Copy)]
 pub struct PortRead {
     pub ok: bool,
     pub at: usize,
@@ -265,7 +267,7 @@ fn read_plain(octets: &[u8], ok: bool, at: usize) -> PortRead
 }
 
 // What reading the settings of option 130 for one way finds.
-#[derive(Drop)]
+#[derive(Clone, Copy)]
 struct WayRead {
     ok: bool,
     at: usize,
@@ -358,7 +360,7 @@ fn spellings_of(sum: u32) -> Spellings
     }
 }
 
-#[derive(Drop)]
+#[derive(Clone, Copy)]
 struct SpellingsRead {
     ok: bool,
     at: usize,

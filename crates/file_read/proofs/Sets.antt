@@ -1,8 +1,8 @@
 -- A set has octets in a file of a version exactly when it is sound and the version can say it.
-use mathlib.Core.Bool.{Bool, true, false, cond, not, ◌&&◌, ◌||◌, true≢false}
+use mathlib.Core.Bool.{Bool, true, false, not, ◌&&◌, ◌||◌, true≢false}
 use mathlib.Core.List.{List, [], ◌∷◌, ◌++◌, map}
 use mathlib.Core.Path.{◌≡◌, refl, sym, ap, subst, ◌∙◌}
-use Prim.Native.Nat.{ℕ, zero, suc, ◌+◌, ◌-◌, ◌*◌, ◌≤◌, ◌<◌}
+use Prim.Native.Nat.{ℕ, zero, suc, ◌-◌, ◌≤◌}
 use native.Mathlib.Omega.{arith}
 use lib.Dec.{leb, eqb}
 use lib.ListN.{length, take, drop, replicate, take-append-drop, length-map}
@@ -16,20 +16,19 @@ use Rattle.basic.specs.Settings.{basic_off, is_off, basic_sound, way_zero}
 use Rattle.basic.proofs.Settings.{off_is}
 use Rattle.port.specs.declared.Port.{Port}
 use Rattle.port.specs.Port.{port_sound}
-use Rattle.table_levels.specs.Levels.{no_pair, unused_pairs}
+use Rattle.table_levels.specs.Levels.{no_pair}
 use Rattle.table.specs.declared.Renumbering.{Renumbering}
 use Rattle.table.specs.Table.{row_numbers}
-use Rattle.table.specs.Renumbering.{no_renumbering, levels_of, two_each, typed_pairs, LentTable, lent_sound}
+use Rattle.table.specs.Renumbering.{no_renumbering, levels_of, typed_pairs, LentTable, lent_sound}
 use Rattle.table.proofs.Lent.{numbers_length}
 use Rattle.table_choose.specs.Tables.{share, tables_from, left_over, all_tables_sound, tables_sound}
 use Rattle.file_format.specs.Format.{Sound, Each, same}
-use Rattle.file_format.specs.Laws.{flat}
-use Rattle.file_format.specs.Places.{padded, places_fit, Filled}
-use Rattle.file_format.proofs.Places.{padded_again, padded_length, fits_used, fits_unused, fit_padded}
+use Rattle.file_format.specs.Places.{padded, places_fit}
+use Rattle.file_format.proofs.Places.{padded_again, padded_length, fits_unused, fit_padded}
 use Rattle.file_port.specs.PortFormat.{port_format, no_spelling, no_port}
 use Rattle.file_port.specs.Theorems.{typed_way, typed_port, port_sayable}
 use Rattle.file_port.proofs.Soundness.{is_zero_lem, places, way_places, ports_said, port_typed}
-use Rattle.file_table.specs.TableFormat.{TableFields, table_format, head_of, lent_fields, fields_of, table_sayable}
+use Rattle.file_table.specs.TableFormat.{TableFields, table_format, head_of, fields_of, table_sayable}
 use Rattle.file_table.proofs.Soundness.{tables_said, unused_pairs_lem}
 use Rattle.file_set.specs.declared.Set.{Set}
 use Rattle.file_set.specs.Set.{zero_port, zero_table, used_port, unused_port, unused_table, typed_set, tables_in, set_sound}

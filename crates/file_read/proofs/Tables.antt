@@ -2,10 +2,10 @@
 use mathlib.Core.Bool.{Bool, true, false, cond, not}
 use mathlib.Core.List.{List, [], ◌∷◌, ◌++◌, map, append_assoc}
 use mathlib.Core.Path.{◌≡◌, refl, sym, ap, subst, ◌∙◌}
-use Prim.Native.Nat.{ℕ, zero, suc, ◌+◌, ◌-◌, ◌*◌, ◌≤◌, ◌<◌}
+use Prim.Native.Nat.{ℕ, ◌+◌, ◌*◌, ◌≤◌, ◌<◌}
 use native.Mathlib.Omega.{arith}
 use lib.Dec.{leb}
-use lib.ListN.{length, take, drop, set, replicate, length-append, length-map}
+use lib.ListN.{length, take, drop, set, replicate, length-append}
 use lib.Seq.{take_at, length-take-le}
 use borrow.Author.Tests.{le-leb}
 use Rattle.lists.specs.Lists.{paint}
@@ -14,7 +14,6 @@ use Rattle.table.specs.Table.{row_numbers}
 use Rattle.table.specs.Renumbering.{no_renumbering}
 use Rattle.table.proofs.Lent.{numbers_length}
 use Rattle.file_format.specs.Format.{Found, got, bad, read_at, written, number, one, many, alike, same, Reads}
-use Rattle.file_format.specs.Places.{padded}
 use Rattle.file_format.proofs.Loops.{Passed, begins, turns, refuses, ends}
 use Rattle.file_format.proofs.Places.{Held, held_none, held_more}
 use Rattle.file_format.proofs.Told.{passed_same, many_refuses, many_reads, counted_told}

@@ -3,27 +3,25 @@ use mathlib.Core.Bool.{Bool, true, false, cond, ◌&&◌}
 use mathlib.Core.List.{List, [], ◌∷◌, ◌++◌}
 use mathlib.Core.Path.{◌≡◌, refl, sym, ap, subst, ◌∙◌}
 use mathlib.Core.Logic.{◌⊎◌, inl, inr}
-use Prim.Native.Nat.{ℕ, zero, suc, ◌+◌, ◌*◌, ◌≤◌, ◌<◌}
+use Prim.Native.Nat.{ℕ, zero, suc, ◌+◌, ◌≤◌, ◌<◌}
 use native.Mathlib.Omega.{arith}
 use native.Mathlib.Nat.{zero-add}
 use lib.Dec.{leb, ltb, eqb}
-use lib.ListN.{length, take, drop, get_or, length-append}
+use lib.ListN.{length, take, drop, get_or}
 use lib.Seq.{take_at}
 use borrow.Author.Tests.{le-leb, lt-leb, lt-ltb, eq-eqb, eqb-true, leb-true, leb-false}
 use Rattle.label.proofs.Bools.{less_or, and_left, and_right, and_both}
-use Rattle.file_format.specs.Format.{Found, got, bad, digits, value_at, number_at, octets, read_at, Sound, written}
+use Rattle.file_format.specs.Format.{Found, got, bad, value_at, number_at, octets, read_at, Sound, written}
 use Rattle.file_format.specs.Laws.{Octets, Stands, Printed}
 use Rattle.file_format.proofs.Numbers.{number_cut, number_under, number_over, number_good}
 use Rattle.file_format.proofs.Formats.{read_back, only_printed}
-use Rattle.port.specs.declared.Port.{Port}
 use Rattle.table_choose.specs.Tables.{tables_from}
 use Rattle.file_set.specs.declared.Set.{Set}
-use Rattle.file_set.specs.Set.{set_sound}
 use Rattle.file_read.specs.declared.FileRead.{FileRead}
 use Rattle.file_read.specs.SetFormat.{Records, set_format, rows_of, set_of, records_of}
 use Rattle.file_read.specs.File.{most_octets, file_format, accepted, file_refused, unknown, outgrown, file_answer, file_reading, room_behind, file_room, ports_sayable, tables_sayable, total_of, sayable, file_octets}
-use Rattle.file_read.specs.Theorems.{Back, GivenBack, OneFile, Accepted, RoomKept, LengthFirst, Named}
-use Rattle.file_read.proofs.Sets.{SetSays, set_says, SetSaid, set_said}
+use Rattle.file_read.specs.Theorems.{GivenBack, OneFile, Accepted, RoomKept, LengthFirst, Named}
+use Rattle.file_read.proofs.Sets.{set_says, set_said}
 
 -- A list stands in itself, and only it does.
 

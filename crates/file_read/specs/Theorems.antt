@@ -5,7 +5,6 @@ use Rattle.file_format.specs.Format.{value_at, written}
 use Rattle.file_format.specs.Laws.{Octets}
 use Rattle.file_set.specs.declared.Set.{Set}
 use Rattle.file_set.specs.Set.{set_sound}
-use Rattle.file_read.specs.declared.FileRead.{FileRead}
 use Rattle.file_read.specs.File.{file_refused, unknown, file_reading, file_room, sayable, file_octets}
 
 -- the file of a sound set, in each version that can say it, is read back: the set, and its rows at the head of the room

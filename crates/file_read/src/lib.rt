@@ -1,4 +1,6 @@
 // The house file: a set of ports and tables in octets, read (docs/FILE.md).
+#![tactic(auto)]
+
 ghost use Rattle.std.specs.Prelude.{◌≡◌, cond, ◌≤◌, leb, length, take};
 ghost use Rattle.file_format.specs.Format.{bad, Reads, many, alike, same, written};
 ghost use Rattle.file_format.specs.Places.{Filled};
@@ -29,7 +31,7 @@ pub const OUTGROWN: u8 = 103;
 const MAX_NUMBERS: usize = 24576;
 
 // What reading the ports finds: the first `count` are used.
-#[derive(Drop)]
+#[derive(Clone, Copy)]
 struct PortsRead {
     ok: bool,
     at: usize,
@@ -38,7 +40,7 @@ struct PortsRead {
 }
 
 // What reading the tables finds: the first `count` are used, and `used` numbers of a working list.
-#[derive(Drop)]
+#[derive(Clone, Copy)]
 struct TablesRead {
     ok: bool,
     at: usize,
@@ -49,7 +51,7 @@ struct TablesRead {
 
 // What reading a file finds. The verdict is accepted, with the set, and `used` numbers of rows at the head of the lent room; refused, with the place of the first octet of the first
 // bad field; a version that is not known, at place 2; rows that outgrow the room. In the last three the set is empty, and the room is as it was.
-#[derive(Drop)]
+#[derive(Clone, Copy)]
 pub struct FileRead {
     pub verdict: u8,
     pub at: usize,

@@ -1,11 +1,10 @@
 -- What the types say, and what that leaves of each test.
-use mathlib.Core.Bool.{Bool, true, false, not, ◌&&◌, and-true}
-use mathlib.Core.List.{List, [], ◌∷◌, ◌++◌}
-use mathlib.Core.Path.{◌≡◌, refl, sym, ap, ◌∙◌}
-use Prim.Native.Nat.{ℕ, ◌+◌, ◌≤◌, ◌<◌}
-use native.Mathlib.Omega.{arith}
-use lib.Dec.{leb, eqb}
-use lib.ListN.{length, get_or, take, drop}
+use mathlib.Core.Bool.{Bool, true, false, ◌&&◌, and-true}
+use mathlib.Core.List.{List, []}
+use mathlib.Core.Path.{◌≡◌, sym}
+use Prim.Native.Nat.{ℕ, ◌+◌, ◌<◌}
+use lib.Dec.{leb}
+use lib.ListN.{length, get_or, drop}
 use borrow.Author.Tests.{eq-eqb}
 use Rattle.label.specs.declared.Label.{Label}
 use Rattle.label.proofs.Steps.{next}

@@ -1,4 +1,6 @@
 // The set of records that a house file says: ports and tables, and what makes the set sound (docs/FILE.md).
+#![tactic(auto)]
+
 ghost use Rattle.std.specs.Prelude.{◌≡◌, true, cond, ◌≤◌, leb, eqb, length, take};
 ghost use Rattle.file_port.specs.Theorems.{typed_way, typed_port};
 ghost use Rattle.file_format.specs.Places.{places_fit};
@@ -17,7 +19,7 @@ use table_levels::{Levels, levels_sound};
 pub const MAX_PORTS: usize = 16;
 
 // The first `portcount` ports and the first `tablecount` tables are used. The tables' rows are lent beside it as one list of numbers, three to a row.
-#[derive(Drop)]
+#[derive(Clone, Copy)]
 pub struct Set {
     pub portcount: usize,
     pub ports: [Port; MAX_PORTS],

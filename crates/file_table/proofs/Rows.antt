@@ -19,7 +19,7 @@ use Rattle.table.specs.Renumbering.{no_renumbering}
 use Rattle.table.proofs.Lent.{rows_length, rows_numbers, list_whole}
 use Rattle.table.proofs.Renumberings.{put_next}
 use Rattle.file_format.specs.Format.{Format, Found, got, bad, after, value_or, told, number_at, many_at, read_at, many, Reads, written, Writes}
-use Rattle.file_format.proofs.Numbers.{Within, number_within}
+use Rattle.file_format.proofs.Numbers.{number_within}
 use Rattle.file_format.proofs.Loops.{Passed, begins, turns, refuses, ends}
 use Rattle.file_format.proofs.Told.{many_refuses, many_reads, passed_same}
 use Rattle.file_format.specs.Places.{Filled}
@@ -28,7 +28,7 @@ use Rattle.table_levels.specs.Levels.{no_pair}
 use Rattle.table.specs.declared.Renumbering.{Renumbering}
 use Rattle.file_table.specs.TableFormat.{floor_of, row_format, with_row, TableFields, table_fields, no_fields, table_format, head_of, found_table}
 use Rattle.file_table.specs.Stages.{row_alone, RowsAlone}
-use Rattle.file_table.proofs.Apart.{apart_last, floor_last, rising_last}
+use Rattle.file_table.proofs.Apart.{apart_last, rising_last}
 
 -- what is read with all rules, from what is read alone
 pub row_ruled : (s : List ℕ) (at : ℕ) (before : List Row)

@@ -1,16 +1,16 @@
 -- The format of a table says exactly the sound tables, with their level pairs and rows, that its version can say.
 use mathlib.Core.Bool.{Bool, true, false, cond, not, ◌&&◌}
 use mathlib.Core.List.{List, [], ◌∷◌, ◌++◌, map, append_assoc, append-nil}
-use mathlib.Core.Path.{◌≡◌, refl, sym, ap, subst, ◌∙◌}
-use Prim.Native.Nat.{ℕ, zero, suc, ◌+◌, ◌-◌, ◌*◌, ◌≤◌, ◌<◌}
+use mathlib.Core.Path.{◌≡◌, refl, sym, ap, ◌∙◌}
+use Prim.Native.Nat.{ℕ, zero, suc, ◌+◌, ◌-◌, ◌*◌, ◌≤◌}
 use native.Mathlib.Omega.{arith}
 use lib.Dec.{leb, eqb}
 use lib.ListN.{length, get_or, take, drop, replicate, length-drop}
 use lib.Seq.{length-take-le, take_at, drop_at, take_all}
-use borrow.Author.Tests.{le-leb, leb-true, eq-eqb, ne_eqb, eqb-true, eqb-false, not-true}
-use Rattle.label.proofs.Bools.{never, and_left, and_right, and_both}
+use borrow.Author.Tests.{le-leb, leb-true, eq-eqb, ne_eqb, eqb-true}
+use Rattle.label.proofs.Bools.{and_left, and_right}
 use Rattle.table.specs.declared.Row.{Row}
-use Rattle.table.specs.Table.{Lent, row, rows_from, row_numbers, target_end, rising, apart, apart_from_all, targets_apart, rows_sound, typed, table_sound}
+use Rattle.table.specs.Table.{Lent, rows_from, row_numbers, target_end, rising, apart, apart_from_all, targets_apart, rows_sound, typed, table_sound}
 use Rattle.table.specs.Renumbering.{levels_of, two_each, typed_pairs, LentTable, lent_of, lent_sound}
 use Rattle.table.proofs.Lent.{numbers_length, numbers_rows, rows_numbers}
 use Rattle.table.proofs.Sound as table

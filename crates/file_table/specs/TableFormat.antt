@@ -1,6 +1,6 @@
 -- docs/FILE.md, "A table". The layout's row: from (4), to (4), pair count (2), then each pair (1 + 1), row count (2), then low (2), high (2) and target low (2) of
 -- each row. Version 1: at most 16 pairs and 64 rows; versions 2 and 3: 256 and 1,024.
-use Rattle.std.specs.Prelude.{Bool, true, cond, ◌&&◌, List, [], ◌∷◌, ◌++◌, ◌≡◌, refl, ℕ, ◌+◌, ◌-◌, leb, length, take, get_or}
+use Rattle.std.specs.Prelude.{Bool, cond, ◌&&◌, List, [], ◌∷◌, ◌++◌, refl, ℕ, ◌+◌, ◌-◌, leb, length, take, get_or}
 use Rattle.table_levels.specs.declared.LevelPair.{LevelPair}
 use Rattle.table_levels.specs.Levels.{pair, no_pair}
 use Rattle.table.specs.declared.Row.{Row}

@@ -1,5 +1,5 @@
 -- The house file: a table has octets in a file of a version, and is read back, exactly when it is sound with the rows that are lent for it and keeps to the version's limits.
-use Rattle.std.specs.Prelude.{Bool, true, ◌&&◌, ◌≡◌, ℕ}
+use Rattle.std.specs.Prelude.{true, ◌≡◌, ℕ}
 use Rattle.table.specs.Renumbering.{LentTable, lent_sound, typed_pairs}
 use Rattle.file_format.specs.Format.{Sound}
 use Rattle.file_table.specs.TableFormat.{TableFields, table_format, lent_fields, fields_of, table_sayable}

@@ -1,4 +1,6 @@
 // Tables in the house file: each is read at a place and written at a place, with its level pairs and its rows (docs/FILE.md, "A table").
+#![tactic(auto)]
+
 ghost use Rattle.std.specs.Prelude.{◌≡◌, true, false, cond, [], ◌++◌, ◌+◌, ◌-◌, ◌*◌, ◌≤◌, ◌<◌, length, take, drop, replicate};
 ghost use Rattle.table_levels.specs.Levels.{pair, no_pair};
 ghost use Rattle.table.specs.Table.{row, rows_from, row_numbers, rising, targets_apart};
@@ -19,7 +21,7 @@ use table_levels::{LevelPair, MAX_PAIRS};
 // The numbers of the most rows.
 const MAX_NUMBERS: usize = 3072;
 
-#[derive(Drop)]
+#[derive(Clone, Copy)]
 struct PairRead {
     ok: bool,
     at: usize,
@@ -28,7 +30,7 @@ struct PairRead {
 }
 
 // What reading level pairs finds: the first `count` are used.
-#[derive(Drop)]
+#[derive(Clone, Copy)]
 pub struct PairsRead {
     pub ok: bool,
     pub at: usize,
@@ -36,7 +38,7 @@ pub struct PairsRead {
     pub levels: [LevelPair; MAX_PAIRS],
 }
 
-#[derive(Drop)]
+#[derive(Clone, Copy)]
 struct RowRead {
     ok: bool,
     at: usize,
@@ -46,7 +48,7 @@ struct RowRead {
 }
 
 // What reading rows finds: how many stand in the lent list.
-#[derive(Drop)]
+#[derive(Clone, Copy)]
 struct RowsRead {
     ok: bool,
     at: usize,
@@ -54,7 +56,7 @@ struct RowsRead {
 }
 
 // What reading a table finds: the table and the place after it, or the place to blame and a table of zeros.
-#[derive(Drop)]
+#[derive(Clone, Copy)]
 pub struct TableRead {
     pub ok: bool,
     pub at: usize,

@@ -15,7 +15,7 @@ use Rattle.port.specs.Port.{is_plain}
 use Rattle.table.specs.Renumbering.{levels_of, LentTable, lent_of, lent_sound}
 use Rattle.table.proofs.Sound.{sound}
 use Rattle.table_choose.specs.Tables.{tables_from, all_tables_sound}
-use Rattle.file_format.specs.Format.{octets, written}
+use Rattle.file_format.specs.Format.{octets}
 use Rattle.file_format.specs.Laws.{Octets}
 use Rattle.file_port.specs.Theorems.{port_sayable}
 use Rattle.file_table.specs.TableFormat.{table_sayable}
@@ -28,7 +28,7 @@ use Rattle.file_read.proofs.Sets.{parts}
 use Rattle.file_read.proofs.Theorems.{accepted_only, given_back}
 use Rattle.file_write.specs.declared.Written.TheVariants.{Done, Short, Unsound, Long}
 use Rattle.file_write.specs.Written.{written_of, number_of, file_output}
-use Rattle.file_write.specs.Theorems.{Tells, WrittenBack, OnlyFile, OneFileIn, OneFileEach, all_plain, none_strict, all_small, Sayable, Answers}
+use Rattle.file_write.specs.Theorems.{Tells, WrittenBack, OneFileIn, OneFileEach, all_plain, none_strict, all_small, Sayable, Answers}
 use Rattle.file_write.proofs.First.{small_first}
 use Rattle.file_write.proofs.Sizes.{file_length}
 

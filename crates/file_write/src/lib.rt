@@ -1,4 +1,6 @@
 // The house file, written: the one file of version 3 of a set of ports and tables (docs/FILE.md).
+#![tactic(auto)]
+
 ghost use Rattle.std.specs.Prelude.{◌≡◌, true, cond, ◌+◌, ◌-◌, ◌*◌, ◌≤◌, leb, length, take};
 ghost use Rattle.lists.specs.Lists.{paint};
 ghost use Rattle.table_choose.specs.Tables.{tables_from};
@@ -21,7 +23,7 @@ use table_choose::MAX_TABLES;
 const MOST_OCTETS: usize = 61440;
 
 // What writing a file came to.
-#[derive(Drop)]
+#[derive(Clone, Copy)]
 pub enum Written {
     // the file stands in the output, with so many octets
     Done(usize),

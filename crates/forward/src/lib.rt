@@ -1,4 +1,6 @@
 // Forward (document 01, "The order of checks" and "The leaving area"; document 02, Wish 3): the checks in their order, and only a forwarding writes.
+#![tactic(auto)]
+
 ghost use Rattle.std.specs.Prelude.{◌≡◌, true, ◌≤◌, length};
 ghost use Rattle.area.specs.Area.{WholeAt};
 ghost use Rattle.area.specs.declared.Kind.TheVariants.{Cipso};

@@ -1,4 +1,6 @@
 // Forward between any two ports (document 01, "The order of checks"): stage after stage, each of which follows what was decided before it.
+#![tactic(auto)]
+
 ghost use Rattle.std.specs.Prelude.{◌≡◌, length};
 ghost use Rattle.table.specs.Table.{lent};
 ghost use Rattle.forward_rules.specs.Forward.{forwarding_of, forward_of, output_of};

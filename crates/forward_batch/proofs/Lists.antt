@@ -1,7 +1,7 @@
 -- The lists of two sound ports, as they are laid out for a batch.
-use mathlib.Core.Path.{◌≡◌, refl, sym, ◌∙◌, ap}
+use mathlib.Core.Path.{◌≡◌, refl, ◌∙◌, ap}
 use mathlib.Core.Bool.{Bool, true, false, cond, ◌&&◌}
-use mathlib.Core.List.{List, map, ◌++◌}
+use mathlib.Core.List.{List, ◌++◌}
 use Prim.Native.Nat.{ℕ, ◌-◌, ◌≤◌}
 use native.Mathlib.Omega.{arith}
 use lib.Dec.{eqb, leb}
@@ -24,7 +24,7 @@ use Rattle.table.specs.Table.{Lent}
 use Rattle.gate.specs.declared.Gate.{Gate}
 use Rattle.gate.specs.Gate.{gate_of, label_keys, fields_of, port_in}
 use Rattle.gate.proofs.Back.{Places, gate_port}
-use Rattle.forward_batch.specs.Batch.{Gateway, batch_of}
+use Rattle.forward_batch.specs.Batch.{batch_of}
 use Rattle.forward_batch.specs.Stages.{gateway_in, Batched}
 
 zero_count : (l : Label) → is_zero l ≡ true → l.count ≡ 0

@@ -2,6 +2,8 @@
 //
 // A record has 64 octets: the five facts of `Facts` in its order (0 or not), the area's length, two octets that are not read, the area from octet 8 on. The slot of the same
 // number has 64 octets: number, type, code, pointer and count, and from octet 24 on the leaving area.
+#![tactic(auto)]
+
 ghost use Rattle.std.specs.Prelude.{◌≡◌, true, ◌≤◌, ◌*◌, length};
 ghost use Rattle.port.specs.Port.{port_sound};
 ghost use Rattle.table.specs.Table.{lent};

@@ -1,4 +1,6 @@
 // Into the leaving port's domain (document 01, "The order of checks": 2 of the table, and 16).
+#![tactic(auto)]
+
 ghost use Rattle.std.specs.Prelude.{◌≡◌, length};
 ghost use Rattle.table.specs.Table.{lent};
 ghost use Rattle.forward_cross.specs.Crossed.{tabled_by, numbered_by, crossed_by, crossed_keys};

@@ -21,9 +21,9 @@ use Rattle.forward_cross.specs.Crossed.{crossed_by, crossed_keys}
 use Rattle.forward_write.specs.Sending.{kept_by, fitted_by, area_count, area_written}
 use Rattle.forward_rules.specs.Forward.{forwarding_of, forward_of, output_of}
 use Rattle.forward_any.proofs.Stages.{forwarded}
-use Rattle.gate.specs.Acts.{acts_of, acts_keys, Acts}
+use Rattle.gate.specs.Acts.{Acts}
 use Rattle.gate.proofs.Arrives.{acts_arrives}
-use Rattle.forward_gate.specs.Gated.{sent_of, held_of, fitted_of, gated_of, gated_output, Gated}
+use Rattle.forward_gate.specs.Gated.{sent_of, held_of, fitted_of, Gated}
 
 -- what each stage answered
 pub record Stages (p l : Port) (t : Lent) (levels : List (List ℕ)) (facts : Facts) (area own own' far far' out out' : List ℕ) (a r u c h v : Verdict) (kept count : ℕ) (d : Decision) : Type 0 where

@@ -1,5 +1,7 @@
 // Forward between two gates: the stages of `forward_any` on numbers and lent lists, for ports that were checked before. Nothing is asked of whether a
 // port is sound: what is answered is said of any numbers, and of two sound ports it is what `forward` decides.
+#![tactic(auto)]
+
 ghost use Rattle.std.specs.Prelude.{◌≡◌, List, ℕ};
 ghost use Rattle.table.specs.Table.{lent};
 ghost use Rattle.gate.specs.Gate.{port_in};

@@ -1,4 +1,6 @@
 // The leaving port's checks (document 01, "The order of checks": 1, 2 and 17; document 02, Wish 3: 21): each follows what was decided before it.
+#![tactic(auto)]
+
 ghost use Rattle.std.specs.Prelude.{◌≡◌, true, cond};
 ghost use Rattle.std.proofs.Math.Option.{some};
 ghost use Rattle.area.specs.Area.{walk_of, octets_at};

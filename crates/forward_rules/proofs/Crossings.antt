@@ -23,7 +23,6 @@ use Rattle.table_levels.specs.declared.Partner.TheVariants.{Level, Missing}
 use Rattle.table.specs.Table.{used_rows, table_sound}
 use Rattle.table_levels.specs.Levels.{known, level_or0}
 use Rattle.table.specs.Numbers.{numbered}
-use Rattle.renumber_keys.specs.declared.Carried.{Carried}
 use Rattle.renumber.specs.declared.Renumbered.{Renumbered}
 use Rattle.renumber.specs.Renumber.{not_renumbered, renumbered_as, image_runs, fitted, when_numbered, carried_of}
 use Rattle.renumber.specs.Theorems as far

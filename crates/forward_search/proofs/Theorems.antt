@@ -1,7 +1,7 @@
 -- The theorem of `specs/Theorems.antt`.
 use mathlib.Core.Path.{◌≡◌, refl, sym, ◌∙◌, ap}
-use mathlib.Core.Bool.{Bool, true, false, cond, ◌&&◌, ◌||◌, and-false}
-use mathlib.Core.List.{List, [], ◌∷◌, ◌++◌, map}
+use mathlib.Core.Bool.{Bool, true, false, cond, ◌&&◌, ◌||◌}
+use mathlib.Core.List.{List, ◌++◌, map}
 use Prim.Native.Nat.{ℕ, ◌+◌, ◌%◌, ◌≤◌}
 use native.Mathlib.Omega.{arith}
 use native.Mathlib.Decide.{dec_le}
@@ -9,9 +9,9 @@ use native.Mathlib.Nat.{mod-eq_of_lt}
 use lib.Dec.{leb, eqb}
 use lib.ListN.{length, take, drop, get_or, length-append, length-take, length-drop, drop_of_length-le, take-append-drop}
 use lib.Seq.{take_all, drop_at}
-use borrow.Author.Tests.{le-leb, lt-leb, leb-true, leb-false, eq-eqb, eqb-true}
+use borrow.Author.Tests.{leb-true, eq-eqb, eqb-true}
 use Rattle.lists.specs.Lists.{copied}
-use Rattle.label.proofs.Bools.{never, and_left, and_right, or_true_right}
+use Rattle.label.proofs.Bools.{never, and_right, or_true_right}
 use Rattle.table_levels.proofs.Partners.{missing_not}
 use Rattle.renumber_keys.proofs.Carrying.{carried_keys_lem}
 use Rattle.label.specs.declared.Run.{Run}
@@ -19,7 +19,6 @@ use Rattle.label_keys.specs.Keys.{key_runs, run_key}
 use Rattle.table_levels.specs.declared.Partner.{Partner}
 use Rattle.table_levels.specs.declared.Partner.TheVariants.{Level, Missing}
 use Rattle.table_levels.specs.Levels.{partner_of, partner_number, partner_from, known, level_or0}
-use Rattle.table.specs.declared.Row.{Row}
 use Rattle.table.specs.Table.{Lent, used_rows, table_sound}
 use Rattle.table.specs.Numbers.{numbered}
 use Rattle.decision.specs.declared.Verdict.{Verdict}
@@ -33,7 +32,7 @@ use Rattle.renumber_search.specs.Search.{searched_to, searched_of, searched_keys
 use Rattle.renumber_search.proofs.Carries.{search_carries}
 use Rattle.forward_cross.specs.Crossed.{tabled_by, numbered_by, crossed_by, crossed_keys}
 use Rattle.forward_search.specs.Acts.{carried_verdict, leads, crossed_acts, acts_keys}
-use Rattle.forward_search.specs.Theorems.{acts, keys, Crosses, ActsCross}
+use Rattle.forward_search.specs.Theorems.{acts, keys, ActsCross}
 
 -- what the search and the partner say together
 partner_small : (v : ℕ) → partner_from v ≡ Level v → leb v 255 ≡ true

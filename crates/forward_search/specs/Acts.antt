@@ -1,5 +1,5 @@
 -- What crossing under a table that was checked once answers, of whatever it is given, and what the lent keys hold then. `specs/Theorems.antt` says what that is of a sound table.
-use Rattle.std.specs.Prelude.{Bool, cond, ◌&&◌, List, ℕ, ◌%◌, leb, eqb, length, take, get_or}
+use Rattle.std.specs.Prelude.{Bool, cond, ◌&&◌, List, ℕ, ◌%◌, leb, eqb, take, get_or}
 use Rattle.lists.specs.Lists.{copied}
 use Rattle.label_keys.specs.Keys.{key_runs}
 use Rattle.table.specs.declared.Row.{Row}

@@ -1,5 +1,7 @@
 // Into the leaving port's domain under a table that was checked once (document 01, "The order of checks": 16): the level's partner is read from a list, the categories' numbers are found by
 // search. Of a sound table this is what `forward_cross` answers.
+#![tactic(auto)]
+
 ghost use Rattle.std.specs.Prelude.{◌≡◌, length, take};
 ghost use Rattle.label_keys.specs.Keys.{key_runs};
 ghost use Rattle.table.specs.Table.{rows_from};

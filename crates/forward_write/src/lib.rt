@@ -1,4 +1,6 @@
 // Sending (document 01, "The order of checks": 18, and "The leaving area"): whether the options have room, and only a forwarding writes.
+#![tactic(auto)]
+
 ghost use Rattle.std.specs.Prelude.{◌≡◌, ℕ, length};
 ghost use Rattle.forward_write.specs.Sending.{kept_by, has_room_for, fitted_by, put_count, put_front, area_count, area_written};
 

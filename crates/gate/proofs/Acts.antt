@@ -5,20 +5,18 @@ use mathlib.Core.List.{List, [], ◌∷◌, ◌++◌, map}
 use mathlib.Core.Option.{Option, none, some}
 use Prim.Native.Nat.{ℕ, ◌+◌, ◌-◌, ◌*◌, ◌/◌, ◌%◌, ◌≤◌, ◌<◌}
 use native.Mathlib.Omega.{arith}
-use lib.Dec.{leb, ltb, eqb}
+use lib.Dec.{ltb, eqb}
 use lib.ListN.{length, get_or, take, drop, length-map}
 use lib.Seq.{take_at}
-use borrow.Author.Tests.{eqb-true, eqb-false, eq-eqb, ne_eqb, le-leb, lt-leb, le-ltb}
+use borrow.Author.Tests.{eq-eqb, ne_eqb, le-leb, lt-leb, le-ltb}
 use Rattle.lists.specs.Lists.{copied}
 use Rattle.lists.proofs.Laws.{copied_whole}
 use Rattle.label.specs.declared.Run.{Run}
 use Rattle.label.specs.declared.Label.{Label}
-use Rattle.label.specs.Label.{used, label_of, well_formed, in_range}
-use Rattle.label.proofs.Labels.{formed, used_of}
+use Rattle.label.specs.Label.{used, label_of}
+use Rattle.label.proofs.Labels.{used_of}
 use Rattle.label_keys.specs.Keys.{key_run, key_runs, run_key, keys_fit, with_keys}
 use Rattle.label_keys.specs.Range.{answered, look_of, runs_between}
-use Rattle.label_keys.proofs.Range.{look_right, set_in_range_lem}
-use Rattle.option.specs.Option.{Octets}
 use Rattle.option_read.specs.declared.Reading.{Reading}
 use Rattle.option_read.specs.declared.KeyReading.{KeyReading}
 use Rattle.option_read.specs.Reading.{reading_for}

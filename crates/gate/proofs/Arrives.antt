@@ -1,12 +1,12 @@
 -- What arrives at a sound port, by its numbers: the checks of the port itself.
-use mathlib.Core.Path.{◌≡◌, refl, sym, ◌∙◌, ap, subst}
+use mathlib.Core.Path.{◌≡◌, refl, sym, ◌∙◌, ap}
 use mathlib.Core.Bool.{Bool, true, false, cond, not, ◌||◌}
 use mathlib.Core.List.{List, [], ◌∷◌, ◌++◌}
 use mathlib.Core.Option.{Option, none, some}
-use Prim.Native.Nat.{ℕ, ◌+◌, ◌-◌, ◌≤◌, ◌<◌}
+use Prim.Native.Nat.{ℕ, ◌+◌, ◌<◌}
 use native.Mathlib.Omega.{arith}
 use lib.Dec.{ltb, eqb}
-use lib.ListN.{length, get_or, take, drop}
+use lib.ListN.{length, get_or}
 use borrow.Author.Tests.{eqb-true}
 use Rattle.label.specs.declared.Label.{Label}
 use Rattle.label.specs.Label.{used, well_formed, in_range}
@@ -30,7 +30,7 @@ use Rattle.port.proofs.Laws.{sound}
 use Rattle.decision.specs.declared.Verdict.{Verdict}
 use Rattle.decision.specs.Decision.{Refusal}
 use Rattle.decision.specs.Verdict.{verdict_of}
-use Rattle.arrive.specs.Checks.{silent, faulty, barred, when, first_of, walk_at, walk_check, option_at, read_at, required_by, option_by, label_by, arriving_label, arrival_checks}
+use Rattle.arrive.specs.Checks.{silent, barred, when, first_of, walk_at, option_at, read_at, required_by, option_by, label_by, arriving_label, arrival_checks}
 use Rattle.arrive.specs.Verdict.{keys_walked, arrival_of, arrival_keys, Arrives}
 use Rattle.arrive.specs.Stages.{basic_checks}
 use Rattle.arrive.proofs.First.{Real}

@@ -1,30 +1,29 @@
 -- Laws of gates: a sound port is that of its gate and its lists.
 use mathlib.Core.Path.{◌≡◌, refl, sym, ◌∙◌, ap}
 use mathlib.Core.Bool.{Bool, true, false, cond, ◌&&◌, ◌||◌}
-use mathlib.Core.List.{List, [], ◌∷◌, map, ◌++◌}
+use mathlib.Core.List.{List, [], ◌∷◌, ◌++◌}
 use Prim.Native.Nat.{ℕ, ◌+◌, ◌-◌, ◌≤◌, ◌<◌}
 use native.Mathlib.Omega.{arith}
 use lib.Dec.{eqb, leb}
-use lib.ListN.{length, get_or, take, drop, replicate, length-drop, take-append-drop}
+use lib.ListN.{length, get_or, drop, replicate, length-drop, take-append-drop}
 use lib.Seq.{length-take-le, take-append_seam}
 use borrow.Author.Tests.{eqb-true, leb-true}
-use Rattle.label.specs.declared.Run.{Run}
 use Rattle.label.specs.declared.Label.{Label}
-use Rattle.label.specs.Label.{used, label_of, well_formed, is_zero, zero_label}
+use Rattle.label.specs.Label.{used, label_of, well_formed, is_zero}
 use Rattle.label.proofs.Bools.{and_left, and_right}
 use Rattle.label.proofs.Labels.{formed, of_used}
 use Rattle.label.proofs.Steps.{next}
-use Rattle.label_keys.specs.Keys.{key_runs, run_key}
+use Rattle.label_keys.specs.Keys.{key_runs}
 use Rattle.label_keys.proofs.Keys.{keys_runs}
 use Rattle.basic.specs.Levels.{at_most}
 use Rattle.basic.specs.declared.Way.{Way}
 use Rattle.basic.specs.declared.Basic.{Basic}
-use Rattle.basic.specs.Settings.{no_way, unused, way_sound, way_zero, basic_sound, among, passes_way}
+use Rattle.basic.specs.Settings.{unused, way_sound, way_zero, basic_sound, among, passes_way}
 use Rattle.port.specs.declared.Port.{Port}
 use Rattle.port.specs.Port.{port_sound}
 use Rattle.port.proofs.Zero.{is_zero_lem}
 use Rattle.port.proofs.Laws.{sound, range_alone}
-use Rattle.gate.specs.Gate.{gate_of, label_keys, fields_of, way_of, port_in, port_back}
+use Rattle.gate.specs.Gate.{label_keys, fields_of, way_of, port_back}
 
 -- A well-formed label is that of its domain, level and keys.
 pub label_back : (l : Label) (d : ℕ) → well_formed l ≡ true → l.domain ≡ d → label_of d l.level (key_runs (label_keys l)) ≡ l

@@ -1,5 +1,5 @@
 -- A port in a few numbers, and the port that these numbers say with lists of keys and of flag fields.
-use Rattle.std.specs.Prelude.{Bool, cond, List, map, ◌++◌, ℕ, ◌-◌, length, take, replicate}
+use Rattle.std.specs.Prelude.{cond, List, map, ◌++◌, ℕ, ◌-◌, length, take, replicate}
 use Rattle.label.specs.declared.Label.{Label}
 use Rattle.label.specs.Label.{used, label_of}
 use Rattle.label_keys.specs.Keys.{key_runs, run_key}

@@ -1,5 +1,7 @@
 // A port in a few numbers, a gate, with its runs as lent keys and its flag fields as a lent list, and the stages of a decision on them. Nothing is
 // asked here of whether a port is sound: what these functions answer is said of any numbers, and of a sound port it is the port's own checks.
+#![tactic(auto)]
+
 ghost use Rattle.std.specs.Prelude.{◌≡◌, true, cond, List, [], ℕ, ◌≤◌, eqb, length};
 ghost use Rattle.std.proofs.Math.Option.{some};
 ghost use Rattle.area.specs.Area.{walk_of, octets_at, placed_within, WholeAt};
@@ -30,7 +32,7 @@ use option_slack::stops_slack;
 use port::Port;
 
 // All of a port but its lists.
-#[derive(Drop)]
+#[derive(Clone, Copy)]
 pub struct Gate {
     pub domain: u32,
     pub required: bool,

@@ -1,4 +1,5 @@
 // The door: the functions that a caller asks, and the records that they take and answer. Who names this crate names no other.
+#![tactic(auto)]
 
 // Labels (document 01, "Labels"): `empty`, `well_formed`, `contains`, `within` and `in_range` are functions of a label.
 pub use label::{Label, Run};

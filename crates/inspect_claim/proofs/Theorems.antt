@@ -6,13 +6,12 @@ use mathlib.Core.List.{List, [], ◌∷◌, ◌++◌}
 use mathlib.Core.Option.{Option, none, some}
 use native.Mathlib.Omega.{arith}
 use borrow.Author.Tests.{ltb-true, leb-true, eqb-true, eqb-false, lt-ltb, eq-eqb, ne_eqb}
-use lib.Dec.{leb, ltb, eqb}
-use lib.ListN.{length, get_or, take, drop, get_elem?, length-append, length-take, length-drop, take-append-drop}
+use lib.Dec.{leb, eqb}
+use lib.ListN.{length, get_or, take, drop, get_elem?, length-append, length-drop, take-append-drop}
 use lib.Seq.{get_or-append-add, drop-append-add, take-append_seam, get_or-drop, drop-drop, length-take-le}
 use Rattle.decision.specs.declared.Decision.{Decision}
-use Rattle.decision.specs.declared.Facts.{Facts}
 use Rattle.inspect_claim.specs.declared.compare.Finding.{Finding}
-use Rattle.inspect_claim.specs.Claim.{Claim, fact_octet, fact_octets, octets_of, claimed_octets, Listed, claimed_at, leaving_length, are_facts, parses, facts_in, area_in, claimed_in, claim_of, no_record, recorded_of}
+use Rattle.inspect_claim.specs.Claim.{Claim, fact_octet, fact_octets, octets_of, claimed_octets, Listed, claimed_at, leaving_length, parses, facts_in, claimed_in, claim_of, no_record, recorded_of}
 use Rattle.inspect_claim.specs.declared.parse.Recorded.{Recorded}
 use Rattle.inspect_claim.specs.Compare.{said_of, agreeing, differing_at, find_from, finding_of, FirstDifference}
 use Rattle.inspect_claim.specs.Theorems.{Reads, Finds, Same, Agreement}

@@ -1,6 +1,6 @@
 -- Document 02, Wish 14: what a recorded case says, behind the two octets of its length: "single octets: version 1, arriving and leaving port by number in a Wish 1 file,
 -- Wish 2's five facts (0 or 1), arriving area, claimed number, type, code and pointer, and leaving area, each area led by its length".
-use Rattle.std.specs.Prelude.{ℕ, ◌+◌, ◌≤◌, ◌<◌, ◌≡◌, Bool, true, false, cond, not, ◌&&◌, List, [], ◌∷◌, ◌++◌, leb, ltb, eqb, length, get_or, take, drop}
+use Rattle.std.specs.Prelude.{ℕ, ◌+◌, ◌<◌, Bool, true, false, cond, not, ◌&&◌, List, [], ◌∷◌, ◌++◌, leb, ltb, eqb, length, get_or, take, drop}
 use Rattle.decision.specs.declared.Facts.{Facts}
 use Rattle.decision.specs.Decision.{no_fact}
 use Rattle.inspect_claim.specs.declared.parse.Recorded.{Recorded}

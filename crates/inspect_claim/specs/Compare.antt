@@ -1,5 +1,5 @@
 -- Document 02, Wish 14: "`AGREES`, or `DIFFERS` and the first place that differs (0 to 3 the decision, 4 the leaving length, 5 on its octets)".
-use Rattle.std.specs.Prelude.{ℕ, suc, ◌<◌, ◌≡◌, Bool, true, false, cond, List, [], ◌∷◌, eqb, take}
+use Rattle.std.specs.Prelude.{ℕ, suc, ◌<◌, ◌≡◌, true, false, cond, List, [], ◌∷◌, eqb, take}
 use Rattle.std.proofs.Math.ListN.{get_elem?}
 use Rattle.decision.specs.declared.Decision.{Decision}
 use Rattle.inspect_claim.specs.declared.compare.Finding.{Finding}

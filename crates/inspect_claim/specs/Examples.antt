@@ -1,8 +1,7 @@
 -- Document 02, Wish 14: records in octets, and what they say. Version, ports, the five facts, the arriving area behind its length, number, type, code and pointer, the leaving
 -- area behind its length.
 use Rattle.std.specs.Prelude.{◌≡◌, true, false, List, [], ◌∷◌, ℕ}
-use Rattle.inspect_claim.specs.declared.compare.Finding.{Finding}
-use Rattle.inspect_claim.specs.Claim.{Claim, parses, claim_of, octets_of, claimed_in}
+use Rattle.inspect_claim.specs.Claim.{parses, claim_of, octets_of, claimed_in}
 use Rattle.inspect_claim.specs.Compare.{finding_of}
 
 -- from port 2 to port 3; broadcast, and a source that is not one host; an area of a no-operation and an end; 14 with type 4, code 5, pointer 6; two octets leave

@@ -1,5 +1,5 @@
 -- What reading a record and holding a decision against it mean.
-use Rattle.std.specs.Prelude.{ℕ, true, List, [], ◌∷◌, ◌≡◌, length, take}
+use Rattle.std.specs.Prelude.{ℕ, true, List, ◌≡◌, length, take}
 use Rattle.decision.specs.declared.Decision.{Decision}
 use Rattle.inspect_claim.specs.Claim.{Claim, octets_of, claimed_octets, Listed, parses, claim_of, claimed_in}
 use Rattle.inspect_claim.specs.Compare.{said_of, agreeing, differing_at, finding_of, FirstDifference}

@@ -8,7 +8,7 @@ use decision::Decision;
 const HEAD: usize = 5;
 
 // Whether all places agree, and where not the first that differs.
-#[derive(Drop)]
+#[derive(Clone, Copy)]
 pub struct Finding {
     pub agrees: bool,
     pub place: usize,

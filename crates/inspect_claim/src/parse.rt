@@ -9,7 +9,7 @@ use decision::Facts;
 const MAX_FACT: u8 = 1;
 
 // Whether a record parses, and what it says: port numbers, facts, and where its claimed decision begins. The arriving area stands from octet 9 up to there.
-#[derive(Drop)]
+#[derive(Clone, Copy)]
 pub struct Recorded {
     pub parsed: bool,
     pub arriving: usize,

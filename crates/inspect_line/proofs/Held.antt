@@ -10,7 +10,6 @@ use Rattle.text.proofs.Laws.{puts_then, puts_none}
 use Rattle.inspect_split.specs.Records.{whole_of, Split, split_from, records_of, kept_of, lines_of}
 use Rattle.inspect_split.proofs.Laws.{whole_within, whole_two, split_more, split_end}
 use Rattle.file_set.specs.declared.Set.{Set}
-use Rattle.inspect_line.specs.declared.Inspected.{Inspected}
 use Rattle.inspect_line.specs.Lines.{record_line, Inspects}
 
 -- up to the place `at` nothing is held, and the lines of the records before it are put

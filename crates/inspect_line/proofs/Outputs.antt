@@ -1,7 +1,7 @@
 -- Only check 1 asks for the output's length, the octets that are written do not depend on what stood there, and they are at most 40.
 use Prim.Native.Nat.{ℕ, ◌+◌, ◌-◌, ◌≤◌}
 use mathlib.Core.Path.{◌≡◌, refl, sym, ap, ◌∙◌}
-use mathlib.Core.Bool.{Bool, true, false, ◌||◌}
+use mathlib.Core.Bool.{Bool, ◌||◌}
 use mathlib.Core.List.{List, [], ◌∷◌, ◌++◌, append_assoc}
 use mathlib.Core.Option.{Option, none, some}
 use native.Mathlib.Omega.{arith}
@@ -18,7 +18,7 @@ use Rattle.forward_rules.specs.Forward.{forward_checks, leaving_count, forward_o
 use Rattle.forward_rules.proofs.Forwards.{forward_refused, forward_passed, forward_done}
 use Rattle.file_set.specs.declared.Set.{Set}
 use Rattle.inspect_claim.specs.Claim.{Claim}
-use Rattle.inspect_line.specs.Lines.{forwarding_into, forwarding_for, decision_for, output_for}
+use Rattle.inspect_line.specs.Lines.{forwarding_into, forwarding_for, decision_for}
 use Rattle.inspect_line.specs.Theorems.{AnyOutput}
 
 checks_by_lem : Forwarding → Bool → List (Option Refusal)

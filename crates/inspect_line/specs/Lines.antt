@@ -1,5 +1,5 @@
 -- Document 02, Wish 14: what the inspector prints of recorded traffic, by the ports and tables of a gateway file, whose rows are lent beside it.
-use Rattle.std.specs.Prelude.{ℕ, ◌≤◌, ◌≡◌, cond, List, [], ◌∷◌, ◌++◌, eqb, length, take, drop, replicate}
+use Rattle.std.specs.Prelude.{ℕ, ◌≤◌, ◌≡◌, cond, List, [], ◌∷◌, ◌++◌, length, take, drop, replicate}
 use Rattle.text.specs.Put.{Puts}
 use Rattle.text.specs.Text.{next}
 use Rattle.text.specs.Line.{broken_line}
@@ -14,7 +14,7 @@ use Rattle.route_decide.specs.Routing.{between}
 use Rattle.inspect_claim.specs.declared.compare.Finding.{Finding}
 use Rattle.inspect_claim.specs.Claim.{Claim, claimed_octets, parses, claim_of}
 use Rattle.inspect_claim.specs.Compare.{said_of, finding_of}
-use Rattle.inspect_split.specs.Records.{Split, split_from, records_of, kept_of, lines_of, printed_by}
+use Rattle.inspect_split.specs.Records.{split_from, records_of, kept_of, lines_of, printed_by}
 use Rattle.inspect_line.specs.declared.Inspected.{Inspected}
 
 -- 1. What the box does with the datagram of a claim.

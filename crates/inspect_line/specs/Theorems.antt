@@ -1,9 +1,9 @@
 -- Document 02, Wish 14: "It agrees exactly when the box would have decided so and written those octets", and "the printed lines are the same however the input is cut".
-use Rattle.std.specs.Prelude.{ℕ, ◌*◌, ◌^◌, ◌≤◌, ◌<◌, true, false, List, [], ◌∷◌, ◌++◌, ◌≡◌, length, take}
+use Rattle.std.specs.Prelude.{ℕ, ◌*◌, ◌^◌, ◌≤◌, ◌<◌, true, false, List, [], ◌++◌, ◌≡◌, length, take}
 use Rattle.text.specs.Line.{broken_line}
 use Rattle.forward_rules.specs.Forward.{forward_of, output_of}
 use Rattle.file_set.specs.declared.Set.{Set}
-use Rattle.inspect_split.specs.Records.{whole_of, Split, split_pieces, joined_pieces, records_of, lines_of, printed_by}
+use Rattle.inspect_split.specs.Records.{whole_of, split_pieces, joined_pieces, records_of, lines_of, printed_by}
 use Rattle.inspect_claim.specs.Claim.{Claim, claimed_octets, octets_of, Listed, parses, claim_of}
 use Rattle.inspect_claim.specs.Compare.{said_of, agreeing, differing_at, FirstDifference}
 use Rattle.inspect_claim.specs.Theorems.{Same}

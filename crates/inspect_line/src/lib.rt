@@ -1,4 +1,6 @@
 // The inspector's lines (document 02, Wish 14): a record's line by the ports and tables of a gateway file, and the lines of all records that are held. Nothing here reads or writes.
+#![tactic(auto)]
+
 ghost use Rattle.std.specs.Prelude.{◌≡◌, true, ◌-◌, ◌≤◌, length, take, drop};
 ghost use Rattle.text.specs.Put.{Puts};
 ghost use Rattle.route_decide.specs.Routing.{between};
@@ -19,7 +21,7 @@ use text::{put_broken, put_next, put_octet, put_word};
 const AREA: usize = 9;
 
 // How many octets of what is held were used, and the place behind the lines that were put.
-#[derive(Drop)]
+#[derive(Clone, Copy)]
 pub struct Inspected {
     pub used: usize,
     pub place: usize,

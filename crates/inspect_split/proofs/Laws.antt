@@ -1,14 +1,13 @@
 -- Laws of cutting octets into records.
-use Prim.Native.Nat.{ℕ, zero, suc, ◌+◌, ◌*◌, ◌-◌, ◌/◌, ◌%◌, ◌≤◌, ◌<◌}
+use Prim.Native.Nat.{ℕ, zero, suc, ◌+◌, ◌≤◌, ◌<◌}
 use mathlib.Core.Path.{◌≡◌, refl, sym, ap, ◌∙◌}
 use mathlib.Core.Bool.{Bool, true, false, cond, ◌&&◌}
 use mathlib.Core.List.{List, [], ◌∷◌, ◌++◌, append_assoc, append-nil}
 use native.Mathlib.Omega.{arith}
-use native.Mathlib.Numerals.{add-one}
-use borrow.Author.Tests.{leb-true, leb-false, le-leb, lt-leb, eqb-true, eqb-false, eq-eqb, ne_eqb}
+use borrow.Author.Tests.{leb-true, leb-false, le-leb, lt-leb, eqb-true, eq-eqb}
 use lib.Dec.{leb, eqb}
-use lib.ListN.{length, get_or, take, drop, length-append, length-take, length-drop, take-append-drop, get_or-append, get_or-eq_default, drop_of_length-le}
-use lib.Seq.{take-add, length-take-le, get_or-append-add, drop-append-le, take-append-le, get_or-take, append_snoc, take_at, drop_at}
+use lib.ListN.{length, get_or, take, drop, length-append, take-append-drop, get_or-append}
+use lib.Seq.{take-add, length-take-le}
 use Rattle.option.specs.Option.{Octets}
 use Rattle.inspect_split.specs.Records.{lead_of, whole_of, is_record, Split, keeping, behind, split_from, records_of, kept_of, followed}
 

@@ -1,11 +1,11 @@
 -- The theorems of `specs/Theorems.antt`.
-use Prim.Native.Nat.{ℕ, zero, suc, ◌+◌, ◌*◌, ◌-◌, ◌/◌, ◌%◌, ◌≤◌, ◌<◌}
+use Prim.Native.Nat.{ℕ, suc, ◌+◌, ◌*◌, ◌/◌, ◌%◌, ◌≤◌, ◌<◌}
 use mathlib.Core.Path.{◌≡◌, refl, sym, ap, ◌∙◌}
 use mathlib.Core.Bool.{Bool, true, false, cond}
 use mathlib.Core.List.{List, [], ◌∷◌, ◌++◌, append_assoc, append-nil}
 use native.Mathlib.Omega.{arith}
 use lib.ListN.{length, drop, length-append}
-use Rattle.inspect_split.specs.Records.{lead_of, whole_of, is_record, Split, keeping, behind, split_from, records_of, kept_of, followed, split_pieces, joined_pieces, printed_by, framed, joined}
+use Rattle.inspect_split.specs.Records.{lead_of, whole_of, is_record, Split, behind, split_from, kept_of, followed, split_pieces, joined_pieces, printed_by, framed, joined}
 use borrow.Author.Tests.{leb-true, leb-false}
 use lib.Dec.{leb}
 use Rattle.option.specs.Option.{Octets}

@@ -1,6 +1,6 @@
 -- Document 02, Wish 14: "recorded cases from standard input. Each is a two-octet big-endian length of the rest, then" the rest. What is read so far is cut into
 -- records; what is left over is kept until more is read.
-use Rattle.std.specs.Prelude.{ℕ, ◌+◌, ◌*◌, ◌/◌, ◌%◌, ◌<◌, ◌≡◌, Bool, cond, ◌&&◌, List, [], ◌∷◌, ◌++◌, leb, eqb, length, get_or, drop}
+use Rattle.std.specs.Prelude.{ℕ, ◌+◌, ◌*◌, ◌/◌, ◌%◌, Bool, cond, ◌&&◌, List, [], ◌∷◌, ◌++◌, leb, eqb, length, get_or, drop}
 
 -- the length of the rest, by the two octets that lead it, the higher first
 abbrev pub lead_of : List ℕ → ℕ

@@ -1,7 +1,7 @@
 -- What cutting octets into records means, and that it does not matter how the input was cut into pieces.
 use Rattle.std.specs.Prelude.{ℕ, ◌+◌, ◌*◌, ◌≤◌, ◌≡◌, List, [], ◌++◌, length}
 use Rattle.option.specs.Option.{Octets}
-use Rattle.inspect_split.specs.Records.{whole_of, Split, split_from, records_of, kept_of, followed, split_pieces, joined_pieces, printed_by, framed, joined}
+use Rattle.inspect_split.specs.Records.{whole_of, split_from, records_of, kept_of, followed, split_pieces, joined_pieces, printed_by, joined}
 
 pub record Splits : Type 0 where
   -- the records as they stand in the input, and behind them what is kept, are the input; what is kept has no whole record in front

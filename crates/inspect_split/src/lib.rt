@@ -1,4 +1,6 @@
 // The input of the inspector cut into records (document 02, Wish 14): each is a two-octet length of the rest, then the rest. Nothing here reads or writes.
+#![tactic(auto)]
+
 ghost use Rattle.std.specs.Prelude.{◌≡◌, ◌&&◌, ◌+◌, ◌*◌, ◌≤◌, length};
 ghost use Rattle.inspect_split.specs.Records.{whole_of};
 

@@ -1,10 +1,12 @@
 // Labels: a domain, a level and a set of categories, held as ascending runs (document 01, "Labels").
+#![tactic(auto)]
+
 ghost use Rattle.std.specs.Prelude.{◌≡◌, ◌&&◌, cond, ◌+◌, ◌*◌, ◌≤◌, leb, eqb, drop};
 ghost use Rattle.label.specs.Runs.{spaced, unused, covers, passes, rounds};
 ghost use Rattle.label.specs.Label.{used, well_formed, empty_of, member, is_zero, leq, in_range, compared};
 
 // The categories from low to high, both included.
-#[derive(Drop)]
+#[derive(Clone, Copy)]
 pub struct Run {
     pub low: u16,
     pub high: u16,
@@ -15,7 +17,7 @@ impl Run {
     pub const KEY_FACTOR: u32 = 65536;
 }
 
-#[derive(Drop)]
+#[derive(Clone, Copy)]
 pub struct Label {
     pub domain: u32,
     pub level: u8,
@@ -150,7 +152,7 @@ impl Label {
 
 // What one pass over two lists of runs says, and how many rounds it took. The rounds are there for the contract alone: the caller drops them,
 // and with the call inlined the compiler drops their counting.
-#[derive(Drop)]
+#[derive(Clone, Copy)]
 struct Passed {
     within: bool,
     rounds: usize,

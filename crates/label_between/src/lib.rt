@@ -1,4 +1,6 @@
 // A level and runs held against a range whose two ends are a level and a lent list of keys each: nothing of a label is copied.
+#![tactic(auto)]
+
 ghost use Rattle.std.specs.Prelude.{◌≡◌, ◌≤◌, length, take};
 ghost use Rattle.label.specs.Runs.{passes};
 ghost use Rattle.label_keys.specs.Keys.{key_runs};

@@ -1,5 +1,7 @@
 // Keys: runs of categories as single numbers in a lent list, made of a label and into one, and held against the range from a lowest to a highest
 // label.
+#![tactic(auto)]
+
 ghost use Rattle.std.specs.Prelude.{◌≡◌, map, ◌++◌, ◌/◌, ◌%◌, ◌≤◌, length, take, drop};
 ghost use Rattle.label.specs.Runs.{run, passes};
 ghost use Rattle.label.specs.Label.{used, label_of};
@@ -10,7 +12,7 @@ use label::{Label, Run};
 use lists::lesser;
 
 // What a first look at a range says: the answer, or that the runs are to be gone through.
-#[derive(Drop)]
+#[derive(Clone, Copy)]
 pub enum Look {
     Within,
     Outside,

@@ -1,5 +1,7 @@
 // Ranges of categories in order: when two touch, the two as one, and pairs that are out of order (document 01, "Labels" and "Option and tags"). A range
 // as a single number is low · 65536 + high.
+#![tactic(auto)]
+
 ghost use Rattle.std.specs.Prelude.{◌≡◌, not, ◌&&◌, ◌||◌, ◌+◌, ltb, eqb};
 ghost use Rattle.label_ranges.specs.Ranges.{reached, stretched};
 

@@ -1,4 +1,6 @@
 // Lists that are lent: filled with zeros, and copied.
+#![tactic(auto)]
+
 ghost use Rattle.std.specs.Prelude.{◌≡◌, min, length, replicate};
 ghost use Rattle.lists.specs.Lists.{copied};
 

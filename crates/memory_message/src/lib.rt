@@ -1,4 +1,6 @@
 // A destination complains that an option 134 is missing (document 02, Wish 13; RFC 1108): the memory notes it.
+#![tactic(auto)]
+
 ghost use Rattle.std.specs.Prelude.{◌≡◌, false, ◌&&◌, ◌≤◌, ◌<◌, eqb, length, drop};
 ghost use Rattle.memory_message.specs.Complaint.{complaint_of, destination_in};
 

@@ -1,4 +1,6 @@
 // ICMP messages that report a refusal (document 02, Wish 9; RFC 792): written, and read.
+#![tactic(auto)]
+
 ghost use Rattle.std.specs.Prelude.{◌≡◌, true, ◌++◌, ◌+◌, ◌*◌, ◌%◌, ◌≤◌, ◌<◌, eqb, length, take, drop};
 ghost use Rattle.message_checksum.specs.Checksum.{checksum_of};
 ghost use Rattle.message.specs.Message.{message_of, written_of, message_after, parts_of, is_message, reports, whole_header, check_in, blanked, octets_with};
@@ -9,7 +11,7 @@ use message_checksum::{add_octets, make_checksum};
 
 // What a message is read to: 0, its type (`kind`), code and pointer, and how many octets its header has, which stands from octet 8 on, and its data, which
 // stand behind the header; or 25, and all else 0.
-#[derive(Drop)]
+#[derive(Clone, Copy)]
 pub struct Parts {
     pub number: u8,
     pub kind: u8,

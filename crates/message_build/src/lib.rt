@@ -1,4 +1,6 @@
 // The ICMP message itself (document 02, Wish 9): a refusal's message, and the options area of the reply that carries it.
+#![tactic(auto)]
+
 ghost use Rattle.std.specs.Prelude.{◌≡◌, true, ◌||◌, ◌++◌, ◌+◌, ◌≤◌, length, drop};
 ghost use Rattle.area_leaving.specs.Kept.{round_up};
 ghost use Rattle.message_reply.specs.Reply.{padded};
@@ -9,7 +11,7 @@ use message::{reports_refusal, whole_header, write_message};
 use message_reply::{Reply, find_reply};
 
 // A refusal as it is reported: its number, and its ICMP type (`kind`), code and pointer, all three 0 where it is silent.
-#[derive(Drop)]
+#[derive(Clone, Copy)]
 pub struct Report {
     pub number: u8,
     pub kind: u8,
@@ -18,7 +20,7 @@ pub struct Report {
 }
 
 // What building answers: 0 and how many octets of both outputs were written, none where nothing is sent; or 2 or 24 and none.
-#[derive(Drop)]
+#[derive(Clone, Copy)]
 pub struct Built {
     pub number: u8,
     pub message: usize,

@@ -1,4 +1,6 @@
 // The Internet checksum (RFC 792, RFC 1071): the one's complement sum of 16-bit words.
+#![tactic(auto)]
+
 ghost use Rattle.std.specs.Prelude.{◌≡◌, ◌+◌, ◌*◌, ◌≤◌, ◌<◌, length};
 ghost use Rattle.message_checksum.specs.Checksum.{ones_from, words_in, checksum_of};
 ghost use Rattle.message_checksum.specs.Stages.{folded};

@@ -3,7 +3,6 @@ use Rattle.std.specs.Prelude.{ℕ, ◌+◌, ◌-◌, cond, List, ◌++◌, lengt
 use Rattle.std.proofs.Math.Option.{Option, none, some}
 use Rattle.area.specs.declared.Place.{Place}
 use Rattle.area.specs.declared.Place.TheVariants.{Nowhere, At}
-use Rattle.area.specs.declared.Walk.{Walk}
 use Rattle.area.specs.declared.Walk.TheVariants.{Sound, Refused}
 use Rattle.area.specs.Area.{open_walk, option_at}
 use Rattle.area_leaving.specs.Kept.{round_up}

@@ -1,4 +1,6 @@
 // The options area of a reply (document 02, Wish 9): which octets of the offending header's area are copied.
+#![tactic(auto)]
+
 ghost use Rattle.std.specs.Prelude.{◌≡◌, true, ◌≤◌, ◌<◌, length};
 ghost use Rattle.area.specs.declared.Kind.TheVariants.{Cipso};
 ghost use Rattle.area.specs.Area.{WholeAt};
@@ -11,7 +13,7 @@ use area::{Place, Walk, walk_open};
 use option_read::read_keys;
 
 // What is copied: nothing is sent at all, or the octets from a place of the area on, none where the header has no option 134.
-#[derive(Drop)]
+#[derive(Clone, Copy)]
 pub enum Reply {
     Barred,
     Copied(usize, usize),

@@ -1,16 +1,15 @@
 -- What a valid option says: its parts, the runs that it is read to, and the least octets that its tag can have.
-use Prim.Native.Nat.{ℕ, zero, suc, ◌+◌, ◌-◌, ◌*◌, ◌/◌, ◌%◌, ◌≤◌, ◌<◌, zero-le}
+use Prim.Native.Nat.{ℕ, suc, ◌+◌, ◌-◌, ◌*◌, ◌/◌, ◌%◌, ◌≤◌, zero-le}
 use mathlib.Core.Path.{◌≡◌, refl, ap, sym, ◌∙◌}
 use mathlib.Core.List.{List, [], ◌∷◌}
-use mathlib.Core.Bool.{Bool, true, false, ◌&&◌, ◌||◌, cond, or-false, true≢false}
-use lib.ListN.{length, get_or, drop, length-drop}
-use lib.Dec.{leb, ltb, eqb}
+use mathlib.Core.Bool.{Bool, true, false, ◌&&◌, ◌||◌, or-false, true≢false}
+use lib.ListN.{length, get_or, length-drop}
+use lib.Dec.{leb, eqb}
 use native.Mathlib.Omega.{arith}
-use native.Mathlib.Nat.{le_refl}
 use native.Mathlib.Decide.{dec_le}
-use borrow.Author.Tests.{le-leb, lt-leb, lt-ltb, le-ltb, ltb-true, leb-true, eqb-true, eq-eqb}
+use borrow.Author.Tests.{le-leb, lt-ltb, le-ltb, leb-true, eqb-true, eq-eqb}
 use Rattle.label.specs.declared.Run.{Run}
-use Rattle.label.specs.Runs.{run, in_run, covers, joined, count_of, top_of}
+use Rattle.label.specs.Runs.{covers, joined, count_of}
 use Rattle.option.specs.Reading.{turned}
 use Rattle.option.specs.Spelling.{from_zero}
 use Rattle.label.proofs.Canon.{Canon, Below}
@@ -22,7 +21,7 @@ use Rattle.option.specs.Spelling.{size1, size2, size5}
 use Rattle.label.proofs.Canon.{canon_length, clear, unique}
 use Rattle.option.proofs.Top.{bit_past, shortest}
 use Rattle.label.proofs.Bools.{and_left, and_right}
-use Rattle.option.proofs.Pieces.{Falling, falling_true, joined_good, joined_covers, joined_length, joined_count, turned_covers, turned_length, turned_count, turned_falling, bits_falling, bits_covers, rising_true, singles_count, singles_length, pairs_length, pairs_most, pairs_odd}
+use Rattle.option.proofs.Pieces.{Falling, falling_true, joined_good, joined_covers, joined_length, joined_count, turned_covers, turned_length, turned_count, turned_falling, bits_falling, bits_covers, rising_true, singles_count, singles_length, pairs_most, pairs_odd}
 
 -- The form of an option, part by part.
 pub record Parts (o : List ℕ) : Type 0 where

@@ -1,9 +1,9 @@
 -- The theorems of `specs/Theorems.antt`, from the laws over lists of runs.
-use Prim.Native.Nat.{ℕ, suc, ◌+◌, ◌-◌, ◌*◌, ◌≤◌, ◌<◌}
+use Prim.Native.Nat.{ℕ, ◌+◌, ◌-◌, ◌*◌, ◌≤◌, ◌<◌}
 use mathlib.Core.Path.{◌≡◌, refl, ap, sym, ◌∙◌}
 use mathlib.Core.List.{List, [], ◌∷◌}
 use mathlib.Core.Bool.{Bool, true, false, cond, true≢false}
-use mathlib.Core.Option.{Option, none, some}
+use mathlib.Core.Option.{none, some}
 use mathlib.Core.Logic.{◌⊎◌, inl, inr, ⊎_elim, ◌↔◌}
 use lib.ListN.{length}
 use native.Mathlib.Omega.{arith}
@@ -12,18 +12,17 @@ use Rattle.label.specs.declared.Run.{Run}
 use Rattle.label.specs.declared.Label.{Label}
 use Rattle.label.specs.Runs.{covers, count_of, count_below, top_of}
 use Rattle.label.specs.Label.{used, well_formed, member}
-use Rattle.label.proofs.Canon.{Canon, Below, top_clear, top_covered}
+use Rattle.label.proofs.Canon.{Canon, top_clear, top_covered}
 use Rattle.label.proofs.Count.{count_is, count_same}
 use Rattle.label.proofs.Labels.{formed, member_is, same_label}
 use Rattle.option.specs.declared.Spellings.{Spellings}
 use Rattle.option.specs.declared.Form.{Form}
-use Rattle.option.specs.Option.{domain_of, level_of, tag_of, body_of, valid, Means}
+use Rattle.option.specs.Option.{tag_of, body_of, Means}
 use Rattle.option.specs.Permitted.{usual, Permitted}
-use Rattle.option.specs.Reading.{option_runs}
-use Rattle.option.specs.Spelling.{from_zero, size1, size2, size5, form_for, spelling_of, spelled_by, padded, spelled_of}
+use Rattle.option.specs.Spelling.{from_zero, size1, size2, size5, form_for, spelled_by, padded, spelled_of}
 use Rattle.option.specs.Theorems.{Spells, AtMost, Spellable, OneSpelling, Shortest, UsualSpellable, UsualSpelling}
-use Rattle.option.proofs.Forms.{MeansRuns, PermittedRuns, FormedRuns, SpellsRuns, means_runs, runs_means, permitted_runs, runs_permitted, formed_runs}
-use Rattle.option.proofs.Choice.{Taken, take0, take1, take_ten, take2, take5, Best, choice}
+use Rattle.option.proofs.Forms.{FormedRuns, SpellsRuns, means_runs, runs_means, permitted_runs, runs_permitted, formed_runs}
+use Rattle.option.proofs.Choice.{Taken, take0, take1, take_ten, take2, take5, choice}
 use Rattle.option.proofs.Meaning.{bounds, valid_most}
 use Rattle.option.proofs.Theorems.{Held, held1, held_ten, held2, held5, usual_held, spelled_none, spelled_some, spelled_is, spelling_spells, spelling_means, held_of, held_shortest, held_first, none_held, none_permitted, read_back, same_output}
 use Rattle.option.proofs.Only.{least_only}

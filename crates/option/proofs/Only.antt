@@ -1,33 +1,32 @@
 -- No other option spells the label: what demand 3 asks of a spelling fixes every octet of it.
-use Prim.Native.Nat.{ℕ, zero, suc, ◌+◌, ◌-◌, ◌*◌, ◌/◌, ◌%◌, ◌^◌, ◌≤◌, ◌<◌, zero-le}
+use Prim.Native.Nat.{ℕ, suc, ◌+◌, ◌-◌, ◌*◌, ◌/◌, ◌%◌, ◌≤◌, ◌<◌}
 use mathlib.Core.Path.{◌≡◌, refl, ap, sym, ◌∙◌}
 use mathlib.Core.List.{List, [], ◌∷◌, ◌++◌}
-use mathlib.Core.Bool.{Bool, true, false, ◌&&◌, ◌||◌, cond, or-false, and-false, true≢false}
-use mathlib.Core.Option.{Option, none, some}
-use lib.ListN.{length, get_or, drop}
+use mathlib.Core.Bool.{Bool, true, false, ◌&&◌, cond, or-false, and-false, true≢false}
+use mathlib.Core.Option.{some}
+use lib.ListN.{length, get_or}
 use lib.Seq.{ext_get_or}
 use lib.Dec.{leb, ltb, eqb}
 use native.Mathlib.Omega.{arith}
 use native.Mathlib.Nat.{le_refl}
 use native.Mathlib.Decide.{dec_le}
-use borrow.Author.Tests.{le-leb, lt-leb, lt-ltb, le-ltb, ltb-true, leb-true, leb-false, eqb-true, eqb-false, eq-eqb}
+use borrow.Author.Tests.{le-leb, lt-leb, leb-true, eqb-true, eqb-false}
 use Rattle.label.specs.declared.Run.{Run}
-use Rattle.label.specs.Runs.{run, in_run, covers, push_run, joined, count_of}
+use Rattle.label.specs.Runs.{run, covers, push_run, joined}
 use Rattle.option.specs.Reading.{turned}
 use Rattle.option.specs.Spelling.{from_zero}
-use Rattle.label.proofs.Canon.{Canon, Below}
+use Rattle.label.proofs.Canon.{Canon}
 use Rattle.option.specs.Bitmap.{bit_at, weight}
-use Rattle.option.specs.Option.{Octets, domain_of, tag_of, level_of, body_of, numbers_in, singles, ascending, pairs_in, falling, is_even, good_body, body_has, valid, has}
+use Rattle.option.specs.Option.{Octets, domain_of, tag_of, level_of, body_of, numbers_in, singles, ascending, pairs_in, falling, is_even, good_body, body_has}
 use Rattle.option.proofs.Octets.{octet_at_lem, octets_drop}
 use Rattle.option.proofs.Forms.{MeansRuns}
 use Rattle.option.specs.Spelling.{size5, octets_out, form_for, body_for, option_of, spelled_by, spelling_of}
 use Rattle.option.specs.declared.Spellings.{Spellings}
-use Rattle.option.specs.declared.Form.{Form}
 use Rattle.option.proofs.Forms.{PermittedRuns, FormedRuns}
 use Rattle.label.proofs.Push.{push_length}
 use Rattle.label.proofs.Canon.{unique}
 use Rattle.label.proofs.Bools.{and_left, and_right}
-use Rattle.option.proofs.Pieces.{Falling, falling_true, joined_good, joined_covers, joined_length}
+use Rattle.option.proofs.Pieces.{falling_true, joined_good, joined_covers, joined_length}
 use Rattle.option.proofs.Meaning.{Parts, parts, Tagged, one, two, five, tagged, body_length, numbers_length}
 use Rattle.option.proofs.Spelled.{body5_length}
 use Rattle.option.proofs.Theorems.{Held, spelled_is, spelled_none, spelled_some, none_held, held_shortest, held_first, spelling_permitted, spelling_means}

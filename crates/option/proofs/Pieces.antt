@@ -1,19 +1,17 @@
 -- Laws of pieces and of what they are joined to.
-use Prim.Native.Nat.{ℕ, zero, suc, ◌+◌, ◌-◌, ◌*◌, ◌≤◌, ◌<◌, zero-le}
-use mathlib.Core.Path.{◌≡◌, refl, ap, sym, ◌∙◌}
+use Prim.Native.Nat.{ℕ, zero, suc, ◌+◌, ◌*◌, ◌≤◌, ◌<◌, zero-le}
+use mathlib.Core.Path.{◌≡◌, refl, ap, ◌∙◌}
 use mathlib.Core.List.{List, [], ◌∷◌}
 use mathlib.Core.Bool.{Bool, true, false, ◌&&◌, ◌||◌, cond, or-false, or_assoc, or_comm, and-false, true≢false}
-use mathlib.Core.Logic.{◌⊎◌, inl, inr, ⊎_elim}
 use lib.ListN.{length}
-use lib.Dec.{leb, ltb, eqb}
+use lib.Dec.{leb, ltb}
 use native.Mathlib.Omega.{arith}
 use native.Mathlib.Nat.{le_refl}
 use native.Mathlib.Decide.{dec_le}
 use borrow.Author.Tests.{le-leb, lt-leb, lt-ltb, le-ltb, ltb-true, leb-true}
 use Rattle.label.specs.declared.Run.{Run}
-use Rattle.label.specs.Runs.{run, in_run, covers, push_run, joined, spaced, count_of, top_of}
+use Rattle.label.specs.Runs.{run, in_run, covers, joined, count_of, top_of}
 use Rattle.option.specs.Reading.{turned}
-use Rattle.option.specs.Spelling.{from_zero}
 use Rattle.label.proofs.Canon.{Canon, Below}
 use Rattle.option.specs.Option.{falling, ascending, singles, pairs_in}
 use Rattle.option.specs.Reading.{bit_pieces}

@@ -1,6 +1,6 @@
 -- Laws of sets of permitted spellings.
 use mathlib.Core.Path.{◌≡◌}
-use mathlib.Core.Bool.{Bool, true, not}
+use mathlib.Core.Bool.{true, not}
 use borrow.Author.Tests.{not-true}
 use Rattle.label.proofs.Bools.{and_left, and_right}
 use Rattle.option.specs.declared.Spellings.{Spellings}

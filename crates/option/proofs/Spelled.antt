@@ -1,35 +1,33 @@
 -- What is spelled in each tag is a good body and has exactly the categories.
 use Prim.Native.Nat.{ℕ, zero, suc, ◌+◌, ◌-◌, ◌*◌, ◌/◌, ◌%◌, ◌≤◌, ◌<◌, zero-le}
 use mathlib.Core.Path.{◌≡◌, refl, ap, sym, ◌∙◌}
-use mathlib.Core.List.{List, [], ◌∷◌, ◌++◌}
-use mathlib.Core.Bool.{Bool, true, false, ◌&&◌, ◌||◌, cond, or-false, and-false}
-use lib.ListN.{length, get_or, drop}
+use mathlib.Core.List.{List, [], ◌∷◌}
+use mathlib.Core.Bool.{Bool, true, false, ◌&&◌, ◌||◌, cond, or-false}
+use lib.ListN.{length}
 use lib.Dec.{leb, ltb, eqb}
 use native.Mathlib.Omega.{arith}
-use native.Mathlib.Nat.{le_refl, add-zero}
+use native.Mathlib.Nat.{le_refl}
 use native.Mathlib.Decide.{dec_le}
 use borrow.Author.Tests.{le-leb, lt-leb, lt-ltb, le-ltb, ltb-true, leb-true, eqb-true, eq-eqb}
 use Rattle.label.specs.declared.Run.{Run}
-use Rattle.label.specs.Runs.{run, in_run, covers, count_of, top_of}
+use Rattle.label.specs.Runs.{run, covers, count_of}
 use Rattle.option.specs.Reading.{turned}
-use Rattle.option.specs.Spelling.{from_zero}
 use Rattle.label.proofs.Canon.{Canon, Below}
 use Rattle.option.specs.declared.Spellings.{Spellings}
 use Rattle.option.specs.declared.Form.{Form}
-use Rattle.option.specs.Bitmap.{bit_at}
 use Rattle.option.specs.Permitted.{trimmed, tight}
 use Rattle.option.specs.Spelling.{bits_of, octets_of}
-use Rattle.option.specs.Option.{tag_of, body_of, Octets, numbers_in, singles, ascending, pairs_in, falling, is_even, good_body, body_has, valid, has}
+use Rattle.option.specs.Option.{Octets, numbers_in, singles, ascending, pairs_in, falling, good_body, body_has}
 use Rattle.option.proofs.Octets.{octets_append}
 use Rattle.option.proofs.Forms.{MeansRuns}
-use Rattle.option.specs.Spelling.{size1, size2, size5, octets_out, count_up, numbers_of, ends_of, body_for, option_of, spelled_by}
+use Rattle.option.specs.Spelling.{size1, size2, size5, octets_out, count_up, numbers_of, ends_of, body_for, option_of}
 use Rattle.option.proofs.Forms.{FormedRuns}
 use Rattle.option.proofs.Bits.{octets_length, bits_lt}
 use Rattle.option.proofs.Top.{bitmap_bit, shortest_trimmed}
 use Rattle.option.proofs.Choice.{Taken, take0, take1, take_ten, take2, take5}
 use Rattle.label.proofs.Bools.{and_left, and_right}
 use Rattle.option.proofs.Pieces.{Falling, Rising, true_falling, turned_covers, turned_falling}
-use Rattle.option.proofs.Meaning.{Parts, parts_valid, tagged, body_most}
+use Rattle.option.proofs.Meaning.{parts_valid, tagged, body_most}
 
 -- Two-octet numbers.
 pub numbers_back : (xs : List ℕ) → numbers_in (octets_out xs) ≡ xs

@@ -1,13 +1,13 @@
 -- One label, one spelling under a set of permitted ones; with tags 1, 2 and 5 permitted the shortest of all valid options.
-use Prim.Native.Nat.{ℕ, ◌+◌, ◌-◌, ◌*◌, ◌≤◌, ◌<◌}
+use Prim.Native.Nat.{ℕ, ◌+◌, ◌-◌, ◌≤◌, ◌<◌}
 use mathlib.Core.Path.{◌≡◌, refl, ap, sym, ◌∙◌}
 use mathlib.Core.List.{List}
-use mathlib.Core.Bool.{Bool, true, false, cond, ◌&&◌, ◌||◌}
+use mathlib.Core.Bool.{Bool, true, false, ◌&&◌}
 use mathlib.Core.Option.{Option, none, some}
-use mathlib.Core.Logic.{◌⊎◌, ⊎_elim, ◌↔◌}
+use mathlib.Core.Logic.{⊎_elim, ◌↔◌}
 use lib.ListN.{length, get_or, take, replicate, get_or-append}
 use lib.Seq.{take-append_seam}
-use lib.Dec.{leb, eqb}
+use lib.Dec.{eqb}
 use native.Mathlib.Omega.{arith}
 use native.Mathlib.Nat.{le_refl}
 use native.Mathlib.Decide.{dec_le}
@@ -17,11 +17,11 @@ use Rattle.label.proofs.Bools.{and_left, and_right, or_cases, or_true_right}
 use Rattle.option.specs.declared.Spellings.{Spellings}
 use Rattle.option.specs.declared.Form.{Form}
 use Rattle.option.specs.Option.{domain_of, level_of, tag_of, body_of, valid}
-use Rattle.option.specs.Permitted.{usual, trimmed, tight, is_shortest, is_ten, is_numbers, is_pairs, permits}
+use Rattle.option.specs.Permitted.{usual, is_shortest, is_ten, is_numbers, is_pairs, permits}
 use Rattle.option.specs.Reading.{option_runs}
 use Rattle.option.specs.Spelling.{size1, size2, size5, form_for, body_for, spelled_by, spelling_of, padded}
 use Rattle.option.proofs.Forms.{MeansRuns, PermittedRuns, FormedRuns, SpellsRuns}
-use Rattle.option.proofs.Choice.{Taken, take0, take1, take_ten, take2, take5, Before, Best, choice}
+use Rattle.option.proofs.Choice.{Taken, take0, take1, take_ten, take2, take5, Best, choice}
 use Rattle.option.proofs.Meaning.{Bounds, by1, by2, by5, bounds, body_length, parts, reads_back}
 use Rattle.option.proofs.Spelled.{form_size, octets1, good1, has1, octets2, good2, has2, octets5, good5, has5, trimmed1, tight5, option_means}
 

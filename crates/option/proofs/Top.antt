@@ -1,16 +1,16 @@
 -- Laws of the highest category, and of the shortest bitmap.
-use Prim.Native.Nat.{ℕ, suc, ◌+◌, ◌-◌, ◌*◌, ◌/◌, ◌≤◌, ◌<◌}
+use Prim.Native.Nat.{ℕ, suc, ◌-◌, ◌*◌, ◌/◌, ◌≤◌, ◌<◌}
 use mathlib.Core.Path.{◌≡◌, refl, ap, sym, ◌∙◌}
-use mathlib.Core.List.{List, [], ◌∷◌, ◌++◌}
-use mathlib.Core.Bool.{Bool, true, false, not, ◌&&◌, ◌||◌, or-true, and-false, true≢false}
-use lib.ListN.{length, take, get_or, get_or-eq_default}
-use lib.Dec.{ltb, eqb}
+use mathlib.Core.List.{List, [], ◌∷◌}
+use mathlib.Core.Bool.{true, false, not, true≢false}
+use lib.ListN.{length, get_or, get_or-eq_default}
+use lib.Dec.{eqb}
 use native.Mathlib.Omega.{arith}
 use native.Mathlib.Nat.{le_refl, zero-div}
 use native.Mathlib.Decide.{dec_le}
-use borrow.Author.Tests.{le-leb, lt-leb, lt-ltb, le-ltb, eqb-true}
+use borrow.Author.Tests.{lt-ltb, le-ltb, eqb-true}
 use Rattle.label.specs.declared.Run.{Run}
-use Rattle.label.specs.Runs.{run, in_run, covers, top_of}
+use Rattle.label.specs.Runs.{covers, top_of}
 use Rattle.label.proofs.Canon.{Canon, top_clear, top_covered}
 use Rattle.option.specs.Bitmap.{bit_at}
 use Rattle.option.specs.Spelling.{octets_of}

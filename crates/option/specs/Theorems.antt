@@ -1,7 +1,7 @@
 -- Demand 3, the part that speaks of labels and options alone, over the meaning of an option and never over the writer; over a set of permitted
 -- spellings as document 02, Wish 5, has it, and for tags 1, 2 and 5 as document 01 has it.
-use Rattle.std.specs.Prelude.{ℕ, ◌≤◌, ◌<◌, ◌≡◌, List, Bool, true, false, ◌⊎◌, ◌↔◌, length}
-use Rattle.std.proofs.Math.Option.{Option, none, some}
+use Rattle.std.specs.Prelude.{ℕ, ◌≤◌, ◌<◌, ◌≡◌, List, true, false, ◌⊎◌, ◌↔◌, length}
+use Rattle.std.proofs.Math.Option.{none, some}
 use Rattle.label.specs.declared.Label.{Label}
 use Rattle.label.specs.Runs.{count_below}
 use Rattle.label.specs.Label.{used, well_formed, member}

@@ -1,4 +1,6 @@
 // The CIPSO option (document 01, "Option and tags"; the draft, section 3): what a valid option is and means is said in specs/.
+#![tactic(auto)]
+
 ghost use Rattle.std.specs.Prelude.{◌≡◌};
 ghost use Rattle.option.specs.Permitted.{usual, is_usual, some_of};
 
@@ -31,7 +33,7 @@ pub const LEVEL_AT: usize = 9;
 pub const CATEGORIES_AT: usize = 10;
 
 // The spellings that a port permits (document 02, Wish 5): tag 1 in its shortest form, tag 1 with exactly ten bitmap octets, tag 2, tag 5.
-#[derive(Drop)]
+#[derive(Clone, Copy)]
 pub struct Spellings {
     pub shortest: bool,
     pub ten: bool,
@@ -40,7 +42,7 @@ pub struct Spellings {
 }
 
 // A tag and how many octets of categories it has.
-#[derive(Drop)]
+#[derive(Clone, Copy)]
 pub struct Form {
     pub tag: u8,
     pub size: usize,

@@ -1,5 +1,7 @@
 // The form of a spelling: of the permitted tags and sizes that hold a label's runs the shortest (document 01, "The leaving area"; document 02,
 // Wish 5).
+#![tactic(auto)]
+
 ghost use Rattle.std.specs.Prelude.{◌≡◌, cond, ◌&&◌, ℕ, ◌+◌, ◌-◌, ◌*◌, ◌/◌, ◌%◌, ◌≤◌, ◌<◌, leb, eqb};
 ghost use Rattle.label.specs.Runs.{count_of};
 ghost use Rattle.label_keys.specs.Keys.{key_runs};

@@ -1,21 +1,16 @@
 -- Laws of the checks: which one decides at each return, and what is known where all are passed.
-use Prim.Native.Nat.{ℕ, zero, suc, ◌+◌, ◌-◌, ◌*◌, ◌/◌, ◌%◌, ◌≤◌, ◌<◌}
-use mathlib.Core.Path.{◌≡◌, refl, ap, sym, ◌∙◌}
-use mathlib.Core.List.{List, [], ◌∷◌}
+use Prim.Native.Nat.{ℕ, ◌+◌, ◌-◌, ◌%◌, ◌≤◌, ◌<◌}
+use mathlib.Core.Path.{◌≡◌, refl, ap}
+use mathlib.Core.List.{List}
 use mathlib.Core.Bool.{Bool, true, false, not, ◌&&◌, ◌||◌, cond}
 use mathlib.Core.Logic.{◌⊎◌, inl, inr, ⊎_elim}
 use lib.ListN.{length, get_or, take, drop, length-drop}
 use lib.Seq.{length-take-le}
-use lib.Dec.{leb, ltb, eqb}
+use lib.Dec.{leb, eqb}
 use native.Mathlib.Omega.{arith}
-use borrow.Author.Tests.{le-leb, lt-leb, lt-ltb, le-ltb, leb-true, eqb-true, eqb-false, eq-eqb, ne_eqb, not-true, not-false}
-use Rattle.label.specs.declared.Label.{Label}
-use Rattle.label.specs.Runs.{joined}
-use Rattle.label.specs.Label.{label_of}
+use borrow.Author.Tests.{le-leb, lt-ltb, le-ltb, leb-true, eqb-true, eqb-false, eq-eqb, ne_eqb}
 use Rattle.label.proofs.Bools.{and_left, and_right, or_cases, not_yes}
-use Rattle.option.specs.Option.{domain_of, tag_of, tag_length_of, level_of, is_even}
-use Rattle.option.specs.Reading.{pieces}
-use Rattle.option_read.specs.declared.Reading.{Reading}
+use Rattle.option.specs.Option.{domain_of, tag_of, tag_length_of, is_even}
 use Rattle.option_read.specs.Reading.{found, not_read, checked_reading, known_tag, good_length, categories_in, bad_place, tag_checks, label_in, reading_by, framed, reading_of, reading_for}
 
 -- The three tags.

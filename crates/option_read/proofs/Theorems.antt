@@ -1,13 +1,13 @@
 -- The theorems of `specs/Theorems.antt`.
-use Prim.Native.Nat.{ℕ, ◌+◌, ◌≤◌, ◌<◌}
+use Prim.Native.Nat.{ℕ, ◌≤◌, ◌<◌}
 use mathlib.Core.Path.{◌≡◌, refl, ap, sym, ◌∙◌}
 use mathlib.Core.List.{List}
 use mathlib.Core.Bool.{Bool, true, false, not}
-use mathlib.Core.Logic.{◌⊎◌, inl, inr, ⊎_elim, ◌↔◌}
+use mathlib.Core.Logic.{⊎_elim}
 use lib.ListN.{length}
 use lib.Dec.{eqb}
 use native.Mathlib.Omega.{arith}
-use borrow.Author.Tests.{eq-eqb, ne_eqb, eqb-true, eqb-false, not-true, not-false}
+use borrow.Author.Tests.{eq-eqb, ne_eqb, eqb-true, eqb-false, not-false}
 use Rattle.label.specs.declared.Label.{Label}
 use Rattle.label.specs.Label.{label_of}
 use Rattle.label.proofs.Bools.{less_or}
@@ -16,10 +16,10 @@ use Rattle.option.specs.Option.{Octets, domain_of, level_of, valid, Means}
 use Rattle.option.specs.Reading.{pieces, option_runs}
 use Rattle.option.proofs.Meaning.{parts}
 use Rattle.option_read.specs.declared.Reading.{Reading}
-use Rattle.option_read.specs.Reading.{found, not_read, checked_reading, tag_checks, label_in, reading_by, framed, reading_of, reading_for}
+use Rattle.option_read.specs.Reading.{found, not_read, tag_checks, label_in, reading_by, framed, reading_of, reading_for}
 use Rattle.option_read.specs.Theorems.{ReadsAlone, ReadsFor, Reads}
 use Rattle.option_read.specs.Examples.{examples, Holds}
-use Rattle.option_read.proofs.Checks.{Framed, parts_framed, framed_parts, stops3, alone, for_port, stops7, stops8, goes_on}
+use Rattle.option_read.proofs.Checks.{parts_framed, stops3, alone, for_port, stops7, stops8, goes_on}
 use Rattle.option_read.proofs.Valid.{zero_passed, passed_valid, valid_passes, read_means, means_read}
 
 -- Rows 7 to 13, whichever domain is foreign.

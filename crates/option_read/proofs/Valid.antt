@@ -1,31 +1,28 @@
 -- An option passes every check exactly where it is valid; and what is then read is the label that it means.
-use Prim.Native.Nat.{ℕ, zero, suc, ◌+◌, ◌-◌, ◌*◌, ◌/◌, ◌%◌, ◌≤◌, ◌<◌}
+use Prim.Native.Nat.{ℕ, ◌+◌, ◌-◌, ◌*◌, ◌/◌, ◌%◌, ◌≤◌, ◌<◌}
 use mathlib.Core.Path.{◌≡◌, refl, ap, sym, ◌∙◌}
 use mathlib.Core.List.{List, [], ◌∷◌}
-use mathlib.Core.Bool.{Bool, true, false, not, ◌&&◌, ◌||◌, cond}
-use mathlib.Core.Logic.{◌⊎◌, inl, inr, ⊎_elim}
-use lib.ListN.{length, get_or, take, drop, length-drop}
+use mathlib.Core.Bool.{Bool, true, false, cond}
+use mathlib.Core.Logic.{⊎_elim}
+use lib.ListN.{length, drop, length-drop}
 use lib.Seq.{take_all}
-use lib.Dec.{leb, ltb, eqb}
 use native.Mathlib.Omega.{arith}
-use borrow.Author.Tests.{le-leb, lt-leb, leb-true, ltb-false, eqb-true, eqb-false, eq-eqb, ne_eqb, not-true, not-false}
+use borrow.Author.Tests.{le-leb, ltb-false, eqb-true, eq-eqb, not-false}
 use Rattle.label.specs.declared.Label.{Label}
 use Rattle.label.specs.Runs.{joined}
 use Rattle.label.specs.Label.{label_of, used, well_formed}
-use Rattle.label.proofs.Bools.{and_left, and_right, or_cases, never}
 use Rattle.label.proofs.Canon.{canon_spaced}
-use Rattle.label.proofs.Labels.{Formed, formed, well_formed_lem, used_of, formed_of, of_used}
-use Rattle.option.specs.Option.{Octets, domain_of, tag_of, tag_length_of, level_of, body_of, numbers_in, ascending, pairs_in, falling, good_body, valid, Means}
+use Rattle.label.proofs.Labels.{formed, well_formed_lem, used_of, formed_of, of_used}
+use Rattle.option.specs.Option.{Octets, domain_of, tag_of, tag_length_of, level_of, body_of, good_body, valid, Means}
 use Rattle.option.specs.Reading.{pieces, option_runs}
 use Rattle.option.specs.Index.{first_true, bad_number, bad_pair, pairs_of}
-use Rattle.option.proofs.Forms.{MeansRuns, means_runs, runs_means, formed_runs}
-use Rattle.option.proofs.Meaning.{Parts, parts, parts_valid, Tagged, one, two, five, tagged, reads_canon, reads_covers, reads_fit, reads_back}
+use Rattle.option.proofs.Forms.{means_runs, runs_means, formed_runs}
+use Rattle.option.proofs.Meaning.{parts, parts_valid, Tagged, one, two, five, tagged, reads_canon, reads_covers, reads_fit, reads_back}
 use Rattle.option.proofs.Bad.{good_numbers, good_pairs}
 use Rattle.option.proofs.Octets.{octet_at_lem, octets_drop}
-use Rattle.option_read.specs.declared.Reading.{Reading}
-use Rattle.option_read.specs.Reading.{Check, check, found, not_read, checked_reading, known_tag, good_length, categories_in, count_in, bad_in, bad_place, tag_checks, label_in, framed}
+use Rattle.option_read.specs.Reading.{Check, found, not_read, checked_reading, known_tag, categories_in, bad_place, tag_checks, label_in, framed}
 use Rattle.option_read.proofs.Loops.{first_most}
-use Rattle.option_read.proofs.Checks.{known_cases, Lengths, lengths, good_lengths, Past, Framed, framed_parts, parts_framed, passes}
+use Rattle.option_read.proofs.Checks.{known_cases, Lengths, lengths, good_lengths, Past, framed_parts, passes}
 
 -- What the checks say of a tag's categories.
 pub record Kept (t : ℕ) (b : List ℕ) : Type 0 where

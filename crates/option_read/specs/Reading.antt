@@ -1,6 +1,6 @@
 -- Document 01, "Asked alone" and rows 3 and 7 to 13 of the table: what reading one option answers, for any octets.
 -- Pointers count from the option's own start.
-use Rattle.std.specs.Prelude.{ℕ, ◌+◌, ◌-◌, ◌*◌, ◌/◌, List, [], ◌∷◌, ◌++◌, Bool, true, false, not, ◌&&◌, ◌||◌, cond, length, get_or, take, drop, leb, ltb, eqb}
+use Rattle.std.specs.Prelude.{ℕ, ◌+◌, ◌-◌, ◌*◌, ◌/◌, List, [], ◌∷◌, ◌++◌, Bool, not, ◌&&◌, ◌||◌, cond, length, get_or, take, drop, leb, ltb, eqb}
 use Rattle.label.specs.declared.Label.{Label}
 use Rattle.label.specs.Runs.{joined}
 use Rattle.label.specs.Label.{label_of, zero_label}

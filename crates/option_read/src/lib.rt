@@ -1,5 +1,7 @@
 // Reading one CIPSO option (document 01, "Option and tags", "Asked alone" and rows 3 and 7 to 13 of the table): the label that it means,
 // or the first refusal that applies with its place in the option.
+#![tactic(auto)]
+
 ghost use Rattle.std.specs.Prelude.{◌≡◌, ◌+◌, ◌%◌, ◌≤◌, ◌<◌, true, cond, not, ◌&&◌, leb, eqb, length};
 ghost use Rattle.option.specs.Option.{domain_of};
 ghost use Rattle.option_read.specs.Stages.{PassOver, ReadsTag, foreign_to, ReadsRows, ReadsChecked};
@@ -26,7 +28,7 @@ const IN_AN_AREA: bool = false;
 const NO_DOMAIN: u32 = 0;
 
 // Number 0 and the label; else the refusal's number, its pointer from the option's own start, and the all-zero label.
-#[derive(Drop)]
+#[derive(Clone, Copy)]
 pub struct Reading {
     pub number: u8,
     pub pointer: usize,
@@ -34,7 +36,7 @@ pub struct Reading {
 }
 
 // The same without the runs, which stand in a lent list as keys, low · 65536 + high: the level and how many keys there are.
-#[derive(Drop)]
+#[derive(Clone, Copy)]
 pub struct KeyReading {
     pub number: u8,
     pub pointer: usize,

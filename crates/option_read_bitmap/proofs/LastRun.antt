@@ -1,5 +1,5 @@
 -- Where an engine stands: the last run, what a store of keys makes of it, the start and the end.
-use Prim.Native.Nat.{ℕ, suc, ◌+◌, ◌-◌, ◌*◌, ◌≤◌, ◌<◌}
+use Prim.Native.Nat.{ℕ, ◌+◌, ◌-◌, ◌*◌, ◌≤◌, ◌<◌}
 use mathlib.Core.Path.{◌≡◌, refl, ap, sym, ◌∙◌}
 use mathlib.Core.List.{List, [], ◌∷◌, ◌++◌, map}
 use lib.ListN.{length, get_or, take, drop, length-map, take-append-drop}
@@ -10,7 +10,7 @@ use Rattle.option.specs.Bitmap.{bit_at}
 use Rattle.option.specs.Index.{set_runs}
 use Rattle.option_read_bitmap.specs.declared.Last.{Last}
 use Rattle.label_keys.specs.Keys.{run_key}
-use Rattle.option_read_bitmap.specs.Bitmap.{bitmap_runs, in_place}
+use Rattle.option_read_bitmap.specs.Bitmap.{bitmap_runs}
 use Rattle.option_read_bitmap.specs.Stages.{Ends, LastKey, Stands, Turn, Filled}
 use Rattle.option_read_bitmap.proofs.Step.{keys_append, stored_count, stored_keys, stored_rest, Final, final, final_low}
 

@@ -1,5 +1,5 @@
 -- How the engines go, bit by bit and octet by octet; no public contract names this.
-use Rattle.std.specs.Prelude.{◌≡◌, List, [], ◌∷◌, map, ℕ, ◌+◌, ◌-◌, ◌*◌, ◌≤◌, ◌<◌, length, get_or, take, drop}
+use Rattle.std.specs.Prelude.{◌≡◌, List, [], ◌∷◌, map, ℕ, ◌+◌, ◌-◌, ◌≤◌, ◌<◌, length, get_or, take, drop}
 use Rattle.label.specs.declared.Run.{Run}
 use Rattle.label.specs.Runs.{top_of}
 use Rattle.label_keys.specs.Keys.{run_key}

@@ -1,4 +1,6 @@
 // A tag 1 bitmap read into keys, by two engines (wish 12): bit by bit, and by a table of 256 entries.
+#![tactic(auto)]
+
 ghost use Rattle.std.specs.Prelude.{◌≡◌, ◌+◌, ◌*◌, ◌/◌, ◌%◌, ◌≤◌, ◌<◌, length};
 ghost use Rattle.std.proofs.lemmas.List.Edits.{sets};
 ghost use Rattle.option_read_octet.specs.Entry.{count_in, parts_in};
@@ -17,7 +19,7 @@ const BITMAP_OCTETS: usize = (Label::BITMAP_CATEGORIES / 8) as usize;
 const SHORT_OCTETS: usize = 1;
 
 // Number 0 and how many runs there are; or the number of a refusal and 0.
-#[derive(Drop)]
+#[derive(Clone, Copy)]
 pub struct Found {
     pub number: u8,
     pub count: usize,
@@ -25,7 +27,7 @@ pub struct Found {
 
 // Where an engine stands: how many keys are written, the last of them, and the last bit that was read. The key is kept beside the list, so
 // that a run that goes on is not loaded again.
-#[derive(Drop)]
+#[derive(Clone, Copy)]
 pub struct Last {
     pub count: usize,
     pub key: u32,

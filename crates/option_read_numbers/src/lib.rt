@@ -1,4 +1,6 @@
 // The two-octet numbers of tags 2 and 5 read into keys, low · 65536 + high, in one pass each (document 01, "Option and tags"; row 12 of the table).
+#![tactic(auto)]
+
 ghost use Rattle.std.specs.Prelude.{◌≡◌, ◌+◌, ◌-◌, ◌*◌, ◌≤◌, ◌<◌, true, cond, ◌||◌, leb, eqb, length, get_or};
 ghost use Rattle.label.specs.Runs.{run};
 ghost use Rattle.option.specs.Index.{number_at, bottom_at};
@@ -17,14 +19,14 @@ const NO_CATEGORY: u16 = Label::MAX_CATEGORY + 1;
 
 // What one pass over a tag's categories leaves: how many keys it wrote, and where the first bad number or pair begins, not before the end
 // where there is none.
-#[derive(Drop)]
+#[derive(Clone, Copy)]
 pub struct Pass {
     pub count: usize,
     pub bad: usize,
 }
 
 // Where runs under construction stand: how many there are, the last one's low, and the category after its high.
-#[derive(Drop)]
+#[derive(Clone, Copy)]
 pub struct Last {
     pub count: usize,
     pub low: u16,

@@ -1,17 +1,16 @@
 -- The table's rule: one test that is computed over the whole table, and the rule at each entry from it.
-use Prim.Native.Nat.{ℕ, zero, suc, ◌<◌, ◌≤◌}
+use Prim.Native.Nat.{ℕ, ◌<◌, ◌≤◌}
 use mathlib.Core.Path.{◌≡◌, refl, sym}
 use mathlib.Core.List.{List, [], ◌∷◌}
 use mathlib.Core.Bool.{Bool, true, false, ◌&&◌, ◌||◌, cond}
 use lib.ListN.{length, get_or}
 use lib.Dec.{leb, ltb, eqb}
-use native.Mathlib.Omega.{arith}
 use borrow.Author.Tests.{leb-true, ltb-true, eqb-true, lt-leb, le-leb, ne_eqb}
 use Rattle.label.specs.declared.Run.{Run}
 use Rattle.label.specs.Runs.{run, all_below}
 use Rattle.label.proofs.Bools.{never, and_left, and_right, all_below_lem}
 use Rattle.label_keys.specs.Keys.{key_runs}
-use Rattle.option_read_octet.specs.Entry.{count_in, parts_in, octet_runs, Right}
+use Rattle.option_read_octet.specs.Entry.{count_in, parts_in, octet_runs}
 use Rattle.option_read_octet.specs.Theorems.{Rule}
 
 unfoldable pub equal_runs : List Run → List Run → Bool

@@ -1,4 +1,6 @@
 // The table of 256 entries, one for each octet of a bitmap, with the runs inside it (wish 12).
+#![tactic(auto)]
+
 ghost use Rattle.std.specs.Prelude.{◌≡◌, ◌<◌};
 ghost use Rattle.option_read_octet.specs.Entry.{part_of, count_in};
 ghost use Rattle.option_read_octet.specs.Theorems.{Rule};

@@ -1,4 +1,6 @@
 // Slack spellings (document 02, Wish 10): what a strict port stops with 23.
+#![tactic(auto)]
+
 ghost use Rattle.std.specs.Prelude.{◌≡◌, cond, ◌+◌, ◌-◌, ◌*◌, ◌≤◌, ◌<◌, leb, eqb, length};
 ghost use Rattle.option.specs.Option.{numbers_in};
 ghost use Rattle.option.specs.Index.{number_at};

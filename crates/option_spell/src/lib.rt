@@ -1,5 +1,7 @@
 // Spelling: the one shortest option of a label among the permitted ones is chosen and written (document 01, "Option and tags" and "Asked
 // alone"; document 02, Wish 5).
+#![tactic(auto)]
+
 ghost use Rattle.std.specs.Prelude.{◌≡◌, ◌&&◌, map, ◌++◌, ◌+◌, ◌≤◌, length, take, drop};
 ghost use Rattle.label.specs.Runs.{spaced, unused};
 ghost use Rattle.label.specs.Label.{used};
@@ -16,7 +18,7 @@ use option_write::spell_keys;
 const FEW_RUNS: usize = 16;
 
 // What spelling a label alone answers: 0 and the option's length, or the number of a refusal and 0.
-#[derive(Drop)]
+#[derive(Clone, Copy)]
 pub struct Spelling {
     pub number: u8,
     pub count: usize,

@@ -1,5 +1,7 @@
 // The spelling of runs that are held as keys is written: the ten octets before the categories, and these in the chosen tag (document 01,
 // "Option and tags" and "The leaving area").
+#![tactic(auto)]
+
 ghost use Rattle.std.specs.Prelude.{◌≡◌, ◌++◌, ◌+◌, ◌*◌, ◌/◌, ◌%◌, ◌≤◌, ◌<◌, length, drop, set};
 ghost use Rattle.label.specs.Runs.{count_of};
 ghost use Rattle.label_keys.specs.Keys.{key_runs};

@@ -1,4 +1,6 @@
 // A tag 1 bitmap is written (document 01, "Option and tags"): the bits of the runs, one run after the other.
+#![tactic(auto)]
+
 ghost use Rattle.std.specs.Prelude.{◌≡◌, ◌/◌, ◌^◌, ◌≤◌, ◌<◌, length};
 ghost use Rattle.label.specs.Runs.{run, covers};
 ghost use Rattle.label_keys.specs.Keys.{key_run, key_runs};

@@ -1,4 +1,6 @@
 // Ports of the gateway and the host's range, and what makes each sound (document 01, "Records").
+#![tactic(auto)]
+
 ghost use Rattle.std.specs.Prelude.{◌≡◌, true};
 ghost use Rattle.label.specs.Label.{well_formed, in_range};
 ghost use Rattle.port.specs.Port.{plain_port, is_plain, port_sound, host_sound, range_sound, default_lies};
@@ -7,7 +9,7 @@ use basic::{Basic, basic_sound};
 use label::Label;
 use option::Spellings;
 
-#[derive(Drop)]
+#[derive(Clone, Copy)]
 pub struct Port {
     pub domain: u32,
     pub lowest: Label,
@@ -25,7 +27,7 @@ pub struct Port {
     pub strict: bool,
 }
 
-#[derive(Drop)]
+#[derive(Clone, Copy)]
 pub struct Host {
     pub lowest: Label,
     pub highest: Label,

@@ -1,4 +1,6 @@
 // The usual kind of port: told by fixed places, so that between two such ports nothing of a port is copied.
+#![tactic(auto)]
+
 ghost use Rattle.std.specs.Prelude.{◌≡◌, ◌&&◌, drop};
 ghost use Rattle.label.specs.Runs.{unused};
 ghost use Rattle.label.specs.Label.{is_zero};

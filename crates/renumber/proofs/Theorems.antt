@@ -14,7 +14,6 @@ use Rattle.label.specs.Runs.{covers, subset}
 use Rattle.label.specs.Label.{used, label_of, well_formed, member, at_most, in_range}
 use Rattle.label_keys.specs.Range.{set_in_range}
 use Rattle.label.proofs.Bools.{and_right, or_cases, or_true_right, same_yes, less_or}
-use Rattle.label.proofs.Runs.{one_form}
 use Rattle.label.proofs.Labels.{formed, well_formed_lem, formed_of, used_of, used_length, of_used, member_is, leq_says, leq_said, leq_at_most}
 use Rattle.label.proofs.Theorems as label_theorems
 use Rattle.table_levels.specs.declared.Partner.{Partner}

@@ -1,4 +1,6 @@
 // A label carried to the far domain: its level's partner, and the numbers that the rows of a table give to its categories.
+#![tactic(auto)]
+
 ghost use Rattle.std.specs.Prelude.{◌≡◌, true, ◌+◌, ◌≤◌, length, take};
 ghost use Rattle.label_keys.specs.Keys.{key_runs};
 ghost use Rattle.table.specs.Table.{lent};
@@ -13,7 +15,7 @@ use table::{FEW_ROWS, Table, table_sound};
 use table_levels::Levels;
 
 // A refusal's number with an all-zero label, or 0 and the label.
-#[derive(Drop)]
+#[derive(Clone, Copy)]
 pub struct Renumbered {
     pub number: u8,
     pub label: Label,

@@ -1,4 +1,6 @@
 // A level and the runs of a label carried to the far domain: the level's partner, and the numbers that the rows of a table give to the categories.
+#![tactic(auto)]
+
 ghost use Rattle.std.specs.Prelude.{◌≡◌, true, ◌+◌, ◌*◌, ◌≤◌, ◌<◌, max, length, take, drop, get_or};
 ghost use Rattle.label.specs.Runs.{spaced};
 ghost use Rattle.label_keys.specs.Keys.{key_runs};
@@ -17,7 +19,7 @@ use table::{FEW_ROWS, MAX_ROWS, Row, Table, bare_order};
 use table_levels::{Levels, look_levels};
 
 // A refusal's number, or 0 with the level's partner and how many runs were written down.
-#[derive(Drop)]
+#[derive(Clone, Copy)]
 pub struct Carried {
     pub number: u8,
     pub level: u8,

@@ -1,14 +1,12 @@
 -- Laws of a list with a number for each place, and of the loops that make the list of partners.
 use mathlib.Core.Path.{◌≡◌, refl, sym, ◌∙◌, ap}
-use mathlib.Core.Bool.{Bool, true, false, cond}
 use mathlib.Core.List.{List, [], ◌∷◌, ◌++◌}
-use Prim.Native.Nat.{ℕ, zero, suc, ◌+◌, ◌-◌, ◌≤◌, ◌<◌}
+use Prim.Native.Nat.{ℕ, zero, suc, ◌+◌, ◌≤◌, ◌<◌}
 use native.Mathlib.Omega.{arith}
 use native.Mathlib.Numerals.{add-one}
 use native.Mathlib.Decide.{dec_le, ℕ_discrete}
 use lib.ListN.{length, take, drop, get_or, set, replicate, length-append, length-set, length-replicate, length-drop, take-append-drop, get_or-append}
 use lib.Seq.{drop_at, get_or_at, get_or-set_same, get_or-set_other, get_or-take, drop-set-lt, length-take-le, ext_get_or}
-use lib.Dec.{eqb}
 use borrow.Author.Tests.{le-leb, lt-leb, eq-eqb, ne_eqb}
 use Rattle.table_levels.specs.Levels.{partner_of, partner_number}
 use Rattle.renumber_partners.specs.Partners.{tabled, partner_list, partners_in}

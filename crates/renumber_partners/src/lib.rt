@@ -1,4 +1,6 @@
 // The partners of a table's levels, a number for each level, made once for many datagrams (document 01, "Records").
+#![tactic(auto)]
+
 ghost use Rattle.std.specs.Prelude.{◌≡◌, ◌++◌, ◌≤◌, length, take, drop, get_or, replicate};
 ghost use Rattle.renumber_partners.specs.Partners.{partners_in};
 

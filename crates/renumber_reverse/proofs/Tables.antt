@@ -1,14 +1,13 @@
 -- Laws of the reverse table: its rows, that it is sound, and that reversed twice it is the table.
-use mathlib.Core.Path.{◌≡◌, refl, ◌∙◌, ap}
+use mathlib.Core.Path.{◌≡◌, ◌∙◌, ap}
 use mathlib.Core.Bool.{true, not}
-use mathlib.Core.List.{List, [], ◌∷◌}
-use Prim.Native.Nat.{ℕ, zero, suc, ◌*◌, ◌≤◌}
+use mathlib.Core.List.{List}
+use Prim.Native.Nat.{ℕ, ◌*◌, ◌≤◌}
 use native.Mathlib.Omega.{arith}
 use lib.Dec.{leb, eqb}
 use lib.ListN.{length, take, drop}
 use borrow.Author.Tests.{le-leb, leb-true, eq-eqb, ne_eqb}
 use Rattle.label.proofs.Bools.{and_left, and_right}
-use Rattle.table.specs.declared.Row.{Row}
 use Rattle.table.specs.Table.{Lent, row_numbers, used_rows, rows_sound, typed, table_sound}
 use Rattle.table_levels.specs.Levels.{levels_sound, level_numbers}
 use Rattle.table.proofs.Lent.{numbers_length, numbers_rows, rows_numbers}

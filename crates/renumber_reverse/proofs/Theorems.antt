@@ -1,13 +1,12 @@
 -- The theorems of `specs/Theorems.antt`.
-use mathlib.Core.Path.{◌≡◌, refl, sym, ◌∙◌, ap}
-use mathlib.Core.Bool.{true, false}
+use mathlib.Core.Path.{◌≡◌, sym, ◌∙◌, ap}
+use mathlib.Core.Bool.{true}
 use mathlib.Core.List.{List}
-use Prim.Native.Nat.{ℕ, ◌/◌, ◌≤◌, ◌<◌}
+use Prim.Native.Nat.{ℕ, ◌/◌}
 use lib.ListN.{length, take}
 use borrow.Author.Tests.{le-leb, lt-leb}
 use Rattle.label.specs.declared.Label.{Label}
 use Rattle.table.specs.declared.Row.{Row}
-use Rattle.table_levels.specs.declared.Partner.TheVariants.{Level}
 use Rattle.table.specs.Table.{Lent, used_rows, table_sound}
 use Rattle.table_levels.specs.Levels.{partner_of}
 use Rattle.table.specs.Numbers.{sends}
@@ -16,7 +15,7 @@ use Rattle.table.proofs.Numbers.{has_number_lem, number_has, one_category}
 use Rattle.renumber.specs.Renumber.{renumbered_as, renumbered_of}
 use Rattle.renumber.specs.Theorems.{Far}
 use Rattle.renumber.proofs.Theorems.{Led, led, renumbering}
-use Rattle.renumber_reverse.specs.Reverse.{turned_rows, turned_levels, reverse_table, reversed_of, with_rows}
+use Rattle.renumber_reverse.specs.Reverse.{turned_levels, reverse_table, reversed_of, with_rows}
 use Rattle.renumber_reverse.specs.Theorems.{TurnedRound, Reversing, ReverseRefused}
 use Rattle.renumber_reverse.proofs.Rows.{sends_turned}
 use Rattle.renumber_reverse.proofs.Levels.{take_turned, partner_back, levels_twice}

@@ -1,4 +1,6 @@
 // The reverse of a renumbering table: each row and each level pair turned round (document 02, wish 11).
+#![tactic(auto)]
+
 ghost use Rattle.std.specs.Prelude.{◌≡◌, ◌++◌, ◌*◌, ◌/◌, ◌≤◌, length, drop};
 ghost use Rattle.table.specs.Table.{row_numbers, lent, rows_from, target_end};
 ghost use Rattle.renumber_reverse.specs.Reverse.{turned_row, turned_rows, turned_levels, reversed_of, not_reversed, with_rows};
@@ -8,7 +10,7 @@ use table::{FEW_ROWS, MAX_ROWS, Row, Table, row_at, table_order};
 use table_levels::Levels;
 
 // A refusal's number with an all-zero table, or 0 and the reverse table without its rows and its level pairs.
-#[derive(Drop)]
+#[derive(Clone, Copy)]
 pub struct Reversed {
     pub number: u8,
     pub table: Table,

@@ -2,7 +2,7 @@
 use mathlib.Core.Path.{◌≡◌, refl, sym, ◌∙◌, ap}
 use mathlib.Core.Bool.{Bool, true, false, cond}
 use mathlib.Core.List.{List, [], ◌∷◌, ◌++◌, append_assoc, append-nil}
-use Prim.Native.Nat.{ℕ, zero, suc, ◌+◌, ◌-◌, ◌≤◌, ◌<◌, min}
+use Prim.Native.Nat.{ℕ, suc, ◌+◌, ◌-◌, ◌≤◌, ◌<◌, min}
 use native.Mathlib.Omega.{arith}
 use lib.Dec.{leb}
 use lib.ListN.{length, take, drop, get_or, set, length-append, length-set, length-drop, drop_of_length-le}
@@ -11,10 +11,8 @@ use borrow.Author.Tests.{le-leb, lt-leb, leb-true}
 use Rattle.label.proofs.Bools.{never, and_left, and_right}
 use Rattle.lists.specs.Lists.{paint}
 use Rattle.lists.proofs.Laws.{paint_none}
-use Rattle.label.proofs.Steps.{next}
 use Rattle.label.specs.declared.Run.{Run}
 use Rattle.table.specs.declared.Row.{Row}
-use Rattle.table.specs.Table.{no_row}
 use Rattle.renumber_keys.specs.Stages.{piece_key}
 use Rattle.renumber_search.specs.Search.{bisect, gives_to, RunCut, cut_none, cut_last, cut_more, run_cut, Cuts, cuts_on, cuts_from, over}
 use Rattle.renumber_search.specs.Stages.{RunIsCut, AllCut}

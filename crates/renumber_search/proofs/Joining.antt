@@ -1,10 +1,10 @@
 -- Laws of the loop that joins keys in order where they lie.
 use mathlib.Core.Path.{◌≡◌, refl, sym, ◌∙◌, ap}
 use mathlib.Core.Bool.{true, false}
-use mathlib.Core.List.{List, [], ◌∷◌, ◌++◌, append_assoc}
-use Prim.Native.Nat.{ℕ, suc, ◌+◌, ◌-◌, ◌≤◌, ◌<◌}
+use mathlib.Core.List.{List, [], ◌∷◌, ◌++◌}
+use Prim.Native.Nat.{ℕ, ◌+◌, ◌-◌, ◌≤◌, ◌<◌}
 use native.Mathlib.Omega.{arith}
-use lib.ListN.{length, take, drop, get_or, set, length-set, length-append, take-append-drop}
+use lib.ListN.{length, take, drop, get_or, set, length-set, take-append-drop}
 use lib.Seq.{get_or-drop, drop-set-lt, length-take-le, append_snoc}
 use lib.Dec.{leb}
 use borrow.Author.Tests.{leb-true}

@@ -1,11 +1,10 @@
 -- Of rows that rise and spaced runs, cutting by search says whether every category has a number, and finds the pieces that the rows cut out of the runs.
 use mathlib.Core.Path.{◌≡◌, refl, sym, ◌∙◌, ap}
-use mathlib.Core.Bool.{Bool, true, false, cond, ◌&&◌}
-use mathlib.Core.List.{List, [], ◌∷◌, ◌++◌, append_assoc, append-nil}
+use mathlib.Core.Bool.{Bool, true, false}
+use mathlib.Core.List.{List, [], ◌∷◌, ◌++◌, append_assoc}
 use Prim.Native.Nat.{ℕ, zero, suc, ◌+◌, ◌-◌, ◌≤◌, ◌<◌, min}
 use native.Mathlib.Omega.{arith}
 use native.Mathlib.Decide.{dec_le}
-use lib.Dec.{leb}
 use lib.ListN.{length, drop, get_or, length-drop}
 use lib.Seq.{drop-cons, drop-drop, get_or-drop}
 use borrow.Author.Tests.{le-leb, lt-leb}
@@ -14,7 +13,7 @@ use Rattle.label.specs.Runs.{run, spaced}
 use Rattle.label.proofs.Bools.{never}
 use Rattle.label.proofs.Runs.{first}
 use Rattle.table.specs.declared.Row.{Row}
-use Rattle.table.specs.Table.{no_row, target_end, rising}
+use Rattle.table.specs.Table.{no_row, rising}
 use Rattle.table.specs.Numbers.{numbered}
 use Rattle.table.proofs.Rows.{good}
 use Rattle.renumber_keys.specs.Stages.{piece_key, row_pieces, pieces}
@@ -23,7 +22,7 @@ use Rattle.renumber_keys.proofs.Pass.{Left, left_start, left_skip, left_stop, le
 use Rattle.renumber_keys.proofs.Pieces.{above_none, below_skip, row_over}
 use Rattle.renumber_keys.proofs.Cutting.{same_start, whole_piece, first_piece}
 use Rattle.renumber_keys.proofs.Carrying.{pieces_none}
-use Rattle.renumber_search.specs.Search.{end_of, bisect, gives_to, RunCut, cut_none, cut_last, cut_more, run_cut, Cuts, cuts_on, cuts_from}
+use Rattle.renumber_search.specs.Search.{end_of, bisect, gives_to, RunCut, cut_none, run_cut, Cuts, cuts_from}
 use Rattle.renumber_search.specs.Theorems.{Skips}
 use Rattle.renumber_search.proofs.Bisecting.{bisect_skips}
 use Rattle.renumber_search.proofs.Cuts.{run_few}

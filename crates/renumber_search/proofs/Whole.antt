@@ -1,6 +1,6 @@
 -- Laws of the whole: the pieces cut, put in order and joined.
-use mathlib.Core.Path.{◌≡◌, refl, sym, ◌∙◌, ap}
-use mathlib.Core.Bool.{Bool, true, false, ◌&&◌}
+use mathlib.Core.Path.{◌≡◌, sym, ◌∙◌, ap}
+use mathlib.Core.Bool.{Bool, true, false}
 use mathlib.Core.List.{List, [], ◌++◌}
 use Prim.Native.Nat.{ℕ, ◌+◌, ◌-◌, ◌/◌, ◌≤◌, min}
 use native.Mathlib.Omega.{arith}
@@ -10,7 +10,7 @@ use lib.Seq.{take_at, drop_at}
 use borrow.Author.Tests.{leb-true}
 use Rattle.label.specs.declared.Run.{Run}
 use Rattle.label.proofs.Bools.{and_left, and_right}
-use Rattle.label_keys.specs.Keys.{key_run, key_runs}
+use Rattle.label_keys.specs.Keys.{key_runs}
 use Rattle.lists_sort.specs.Order.{sort_keys}
 use Rattle.lists_sort.proofs.Laws.{sort_length}
 use Rattle.table.specs.declared.Row.{Row}

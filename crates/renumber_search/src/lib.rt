@@ -1,5 +1,7 @@
 // A label's runs carried to the far domain by search: the first row of each run is found by halves, so that what a small label costs does not grow with
 // its table. Nothing is checked anew: of rows that were checked once the answer is that of `renumber_keys`.
+#![tactic(auto)]
+
 ghost use Rattle.std.specs.Prelude.{◌≡◌, ◌++◌, ◌+◌, ◌-◌, ◌*◌, ◌/◌, ◌%◌, ◌≤◌, min, length, take, drop};
 ghost use Rattle.label_keys.specs.Keys.{key_runs};
 ghost use Rattle.table.specs.Table.{rows_from};
@@ -55,7 +57,7 @@ fn widen(x: u16) -> u32
 }
 
 // Whether every category lies in a row; then how many runs the numbers have.
-#[derive(Drop)]
+#[derive(Clone, Copy)]
 pub struct Searched {
     pub whole: bool,
     pub count: usize,
@@ -100,7 +102,7 @@ fn has_room(runs: usize, rows: usize, room: usize) -> bool
 }
 
 // How far cutting has come: whether every category so far lies in a row, the row at hand, and how many pieces are written.
-#[derive(Drop)]
+#[derive(Clone, Copy)]
 struct Cut {
     whole: bool,
     row: usize,

@@ -3,10 +3,10 @@ use mathlib.Core.Path.{◌≡◌, refl, sym, ◌∙◌, ap, subst}
 use mathlib.Core.Bool.{Bool, true, false, cond, not, ◌&&◌}
 use mathlib.Core.List.{List, [], ◌∷◌}
 use mathlib.Core.Logic.{◌⊎◌, inl, inr}
-use Prim.Native.Nat.{ℕ, ◌+◌, ◌-◌, ◌*◌, ◌/◌, ◌%◌, ◌^◌, ◌<◌, ◌≤◌}
+use Prim.Native.Nat.{ℕ, ◌+◌, ◌-◌, ◌*◌, ◌%◌, ◌^◌, ◌<◌, ◌≤◌}
 use native.Mathlib.Omega.{arith}
 use native.Mathlib.Nat.{div-add-mod'}
-use lib.Dec.{leb, ltb, eqb}
+use lib.Dec.{leb, ltb}
 use borrow.Author.Tests.{ltb-true, ltb-false, eqb-true, eq-eqb}
 use Rattle.label.proofs.Bools.{never, and_left, and_right, not_yes}
 use Rattle.route.specs.declared.Route.{Route}
@@ -16,7 +16,6 @@ use Rattle.route.specs.Route.{routes_of, first_bits, matches, longer, preferred,
 use Rattle.route.specs.Theorems.{Listed, Decides, LongestMatch}
 use lib.ListN.{length}
 use Rattle.route.proofs.Laws.{prefix_of, leads_to}
-use Rattle.route.proofs.Keys.{sound_clear}
 
 -- a route of that length or a longer one is chosen
 abbrev Reached : ℕ → Chosen → Type 0

@@ -1,5 +1,5 @@
 -- Worked examples: a list of routes, and the port that each address goes to.
-use Rattle.std.specs.Prelude.{List, [], ◌∷◌, map, Bool, true, false, ◌≡◌, ℕ}
+use Rattle.std.specs.Prelude.{List, [], ◌∷◌, map, true, false, ◌≡◌, ℕ}
 use Rattle.route.specs.declared.Chosen.{Chosen}
 use Rattle.route.specs.declared.Chosen.TheVariants.{NoRoute, By}
 use Rattle.route.specs.Route.{routes_of, longest, routes_sound}

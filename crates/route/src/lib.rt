@@ -1,5 +1,7 @@
 // Routes (document 02, Wish 7): the longest matching prefix, and what makes a list of routes sound. A list of routes is lent as numbers, four a route:
 // prefix, prefix length, port number, domain.
+#![tactic(auto)]
+
 ghost use Rattle.std.specs.Prelude.{◌≡◌, true, ◌&&◌, ◌+◌, ◌≤◌, ◌-◌, ◌^◌, length, take};
 ghost use Rattle.lists_sort.specs.Order.{sort_keys};
 ghost use Rattle.route.specs.Route.{routes_of, matches, preferred, longest, port_listed, domain_agrees, route_sound, every, prefixes_differ, routes_sound};
@@ -8,7 +10,7 @@ ghost use Rattle.route.specs.Stages.{route_at, prefix_sound, bare_route, prefix_
 use lists_sort::sort_keys;
 
 // A prefix, how many of its first bits count, and the port and domain that it leads to.
-#[derive(Drop)]
+#[derive(Clone, Copy)]
 pub struct Route {
     pub prefix: u32,
     pub length: u32,
@@ -17,7 +19,7 @@ pub struct Route {
 }
 
 // The route that decides.
-#[derive(Drop)]
+#[derive(Clone, Copy)]
 pub enum Chosen {
     NoRoute,
     By(Route),

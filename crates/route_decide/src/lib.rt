@@ -1,5 +1,7 @@
 // A box of many ports, chosen by destination (document 02, Wish 7): the longest matching route says which port a datagram leaves by, and what is decided then is the
 // two-port decision for that pair, with the first table for its domains.
+#![tactic(auto)]
+
 ghost use Rattle.std.specs.Prelude.{◌≡◌, ◌≤◌, length};
 ghost use Rattle.route_decide.specs.Routing.{routing_of, routed_output};
 ghost use Rattle.route_decide.specs.Stages.{routing_for, known_sound, way_of, unrouted_of, unrouted_by, gone_by, gone_out};
@@ -14,7 +16,7 @@ use table::levels_of;
 use table_choose::{Tables, first_table, tables_sound};
 
 // Where a datagram goes: nowhere where the set is unsound or no route matches, else to the port of a number.
-#[derive(Drop)]
+#[derive(Clone, Copy)]
 struct Course {
     sound: bool,
     routed: bool,

@@ -16,14 +16,14 @@ use Rattle.lists_search.specs.Halves.{halved}
 use Rattle.lists_search.specs.Theorems.{Parts}
 use Rattle.lists_search.proofs.Halves.{halved_same}
 use Rattle.lists_search.proofs.Theorems.{parts}
-use Rattle.lists_sort.specs.Order.{Sorted, all, sort_keys}
+use Rattle.lists_sort.specs.Order.{Sorted, all}
 use Rattle.lists_sort.proofs.Laws.{sorted_first, sort_sorted, sort_all}
 use Rattle.route.specs.declared.Route.{Route}
 use Rattle.route.specs.declared.Chosen.{Chosen}
 use Rattle.route.specs.declared.Chosen.TheVariants.{NoRoute}
 use Rattle.route.specs.Route.{matches, preferred, chosen_from, longest, longer}
 use Rattle.route.proofs.Laws.{power_pos}
-use Rattle.route_index.specs.Index.{port_number, port_at, first_address, behind_address, edges_of, edges, index_of, held, edge_count, indexed, behind_place, found_in}
+use Rattle.route_index.specs.Index.{port_number, port_at, first_address, behind_address, edges_of, edges, index_of, held, edge_count, indexed, found_in}
 use Rattle.route_index.specs.Theorems.{IndexLongest}
 use Rattle.route_index.proofs.Put.{edges_many}
 

@@ -8,16 +8,14 @@ use native.Mathlib.Decide.{dec_le, ℕ_discrete}
 use lib.Dec.{leb, ltb, eqb}
 use lib.ListN.{length, take, drop, get_or, set, length-set, length-map, length-drop, take-append-drop}
 use lib.Seq.{get_or-set_same, get_or-set_other, drop-set-lt, get_or-take, get_or-drop, length-take-le, drop-drop, ext_get_or}
-use borrow.Author.Tests.{le-leb, lt-leb, lt-ltb, le-ltb, ltb-true, ltb-false, eq-eqb, ne_eqb}
+use borrow.Author.Tests.{le-leb, lt-leb, lt-ltb, le-ltb, ltb-true, ltb-false, ne_eqb}
 use native.Mathlib.Numerals.{add-one}
-use lib.ListN.{length-append, get_or-append}
+use lib.ListN.{get_or-append}
 use Rattle.lists_search.specs.Halves.{halved}
 use Rattle.lists_search.proofs.Theorems.{parts}
-use Rattle.lists_sort.specs.Order.{Sorted, sort_keys}
+use Rattle.lists_sort.specs.Order.{sort_keys}
 use Rattle.lists_sort.proofs.Laws.{sort_sorted, sort_length}
-use Rattle.route.specs.declared.Route.{Route}
-use Rattle.route.specs.declared.Chosen.{Chosen}
-use Rattle.route.specs.declared.Chosen.TheVariants.{NoRoute, By}
+use Rattle.route.specs.declared.Chosen.TheVariants.{By}
 use Rattle.route.specs.Route.{routes_of, matches, longer, preferred, chosen_from, longest}
 use Rattle.route.specs.Stages.{route_at}
 use Rattle.route.proofs.Laws.{chosen_turn, at_end, power_pos}

@@ -1,5 +1,7 @@
 // An index of the routes (document 02, Wish 7), made once for many datagrams: the addresses at which the chosen port can change, in order, and behind them the port from each on. The
 // port of an address is then found by halves, whatever the number of routes.
+#![tactic(auto)]
+
 ghost use Rattle.std.specs.Prelude.{◌≡◌, ◌∷◌, ◌++◌, map, ◌+◌, ◌-◌, ◌*◌, ◌/◌, ◌^◌, ◌≤◌, ◌<◌, leb, ltb, length, take, drop, get_or};
 ghost use Rattle.lists_search.specs.Halves.{halved};
 ghost use Rattle.route.specs.Route.{routes_of};

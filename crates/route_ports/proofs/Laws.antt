@@ -1,13 +1,13 @@
 -- Looking at all ports of a list: one more, and the end. What holds of sound ports: none is missing, and each of them is sound.
 use mathlib.Core.Path.{◌≡◌, refl, sym, ◌∙◌, ap}
-use mathlib.Core.Bool.{Bool, true, false, cond, ◌&&◌}
-use mathlib.Core.List.{List, [], ◌∷◌, ◌++◌, map, map-append, append_assoc}
+use mathlib.Core.Bool.{Bool, true, false, ◌&&◌}
+use mathlib.Core.List.{List, [], ◌∷◌, ◌++◌, map-append, append_assoc}
 use mathlib.Core.Logic.{◌⊎◌, inl, inr}
 use Prim.Native.Nat.{ℕ, zero, suc, ◌+◌, ◌-◌, ◌<◌, ◌≤◌}
 use native.Mathlib.Omega.{arith}
 use native.Mathlib.Numerals.{add-one}
 use lib.Dec.{leb}
-use lib.ListN.{length, take, drop, set, replicate, get_or, length-append, length-map}
+use lib.ListN.{length, take, set, replicate, get_or, length-append, length-map}
 use lib.Seq.{take_all, take-suc, take-append-le, length-take-le, set_at, take_at}
 use borrow.Author.Tests.{le-leb, lt-leb, leb-true}
 use Rattle.label.proofs.Bools.{less_or, and_left, and_right}

@@ -1,5 +1,5 @@
 -- What the private functions answer; no public contract names these.
-use Rattle.std.specs.Prelude.{Bool, true, false, cond, ◌&&◌, List, ℕ, ◌+◌, leb, set, replicate}
+use Rattle.std.specs.Prelude.{true, false, cond, ◌&&◌, ◌+◌, leb, set, replicate}
 use Rattle.port.specs.declared.Port.{Port}
 use Rattle.port.specs.Port.{port_sound}
 use Rattle.route_ports.specs.declared.Survey.{Survey}

@@ -1,5 +1,6 @@
-// A lent list of ports (document 02, Wish 7): one is picked by its number and given by value, and all are looked at once. The borrow checker's part of a proof
-// covers no function with a slice of structs, so each function here with `&[Port]` is proved by a walk of its MIR, by hand, and has no more in it than it must.
+// A lent list of ports (document 02, Wish 7): one is picked by its number and given by value, and all are looked at once.
+#![tactic(auto)]
+
 ghost use Rattle.std.specs.Prelude.{◌≡◌, ◌&&◌};
 ghost use Rattle.port.specs.Port.{port_sound};
 ghost use Rattle.route_ports.specs.Ports.{unlisted_port, port_at, survey_of};
@@ -12,7 +13,7 @@ use port::{Port, port_sound};
 pub const MAX_PORTS: usize = 64;
 
 // What is to be known of all ports: whether they are sound and at most 64, how many there are, and the domain of each.
-#[derive(Drop)]
+#[derive(Clone, Copy)]
 pub struct Survey {
     pub sound: bool,
     pub count: usize,

@@ -1,5 +1,7 @@
 // The sample program (document 01, "The sample program"; document 02, wish 1): records of an options area from standard input, each forwarded or dropped in
 // one line by the first two ports and the first table of the file `gateway.bin`.
+#![tactic(auto)]
+
 ghost use Rattle.std.specs.Prelude.{◌≡◌, ◌+◌, ◌≤◌, length};
 ghost use Rattle.text.specs.Theorems.{Whole};
 ghost use Rattle.table.specs.Table.{lent};
@@ -14,6 +16,7 @@ use file_set::Set;
 use forward::forward;
 use port::Port;
 use route_ports::no_port;
+use std::io::{Stdin, Stdout};
 use stream::{Place, begin, feed, flush, go_on, spare, stop};
 use table::{Renumbering, Table, empty_table, levels_of};
 use table_choose::{Found, Tables, first_table};
@@ -28,7 +31,7 @@ const OUTPUT: usize = 65536;
 const LINE: usize = 110;
 
 // What the program runs with: two ports, a table, and where its rows lie in the room. It does not run where `ok` is false.
-#[derive(Drop)]
+#[derive(Clone, Copy)]
 struct Choice {
     ok: bool,
     arriving: Port,
@@ -128,6 +131,7 @@ fn answer(
 
 // The line of a record of `size` octets in the window, or BROKEN where it is cut short. What waits is written where a line might not fit.
 fn answer_record(
+    stdout: Stdout,
     arriving: Port,
     leaving: Port,
     table: Table,
@@ -141,7 +145,7 @@ fn answer_record(
     requires in_bounds { 110 ≤ length out.old }
     requires at_le_end { (place.window.at ≤ place.window.end) × (place.window.end ≤ length input.now) × (1 ≤ size) }
 {
-    let ready = spare(out, place, LINE);
+    let ready = spare(stdout, out, place, LINE);
     if !ready.more {
         return ready;
     }
@@ -169,6 +173,8 @@ fn answer_record(
 
 // One record; nothing where the input ends. What waits is written before the input is read, and a write that fails ends the program.
 fn turn(
+    stdin: Stdin,
+    stdout: Stdout,
     arriving: Port,
     leaving: Port,
     table: Table,
@@ -180,7 +186,7 @@ fn turn(
 ) -> Place
     requires { 110 ≤ length out.old }
 {
-    let led = feed(input, out, place, 1);
+    let led = feed(stdin, stdout, input, out, place, 1);
     if !led.more {
         return led;
     }
@@ -190,12 +196,12 @@ fn turn(
         return stop(led.waiting);
     }
     let size = record_size(input[first]);
-    let fed = feed(input, out, led, size);
+    let fed = feed(stdin, stdout, input, out, led, size);
     if !fed.more {
         return fed;
     }
     answer_record(
-        arriving, leaving, table, rows, levels, input, out, fed, size,
+        stdout, arriving, leaving, table, rows, levels, input, out, fed, size,
     )
 }
 
@@ -207,7 +213,15 @@ fn record_size(n: u8) -> usize
 }
 
 // Answers every record of the input.
-fn run(arriving: Port, leaving: Port, table: Table, rows: &[u16], levels: Levels) {
+fn run(
+    stdin: Stdin,
+    stdout: Stdout,
+    arriving: Port,
+    leaving: Port,
+    table: Table,
+    rows: &[u16],
+    levels: Levels,
+) {
     let mut input = [0u8; INPUT];
     let mut out = [0u8; OUTPUT];
     let mut place = begin();
@@ -215,31 +229,33 @@ fn run(arriving: Port, leaving: Port, table: Table, rows: &[u16], levels: Levels
     let mut turns = u64::MAX;
     while turns > 0 && place.more {
         place = turn(
-            arriving, leaving, table, rows, levels, &mut input, &mut out, place,
+            stdin, stdout, arriving, leaving, table, rows, levels, &mut input, &mut out, place,
         );
         turns -= 1;
     }
-    flush(&out, place);
+    flush(stdout, &out, place);
 }
 
-fn say_broken() {
+fn say_broken(stdout: Stdout) {
     let mut out = [0u8; 16];
     let n = put_broken(&mut out, 0);
-    flush(&out, stop(n));
+    flush(stdout, &out, stop(n));
 }
 
 // Runs with what the file says, if it says enough.
-fn run_file(file: FileRead, rows: &[u16]) {
+fn run_file(stdin: Stdin, stdout: Stdout, file: FileRead, rows: &[u16]) {
     let set = file.set;
     let chosen = choose(file.verdict, set, rows);
     if !chosen.ok {
-        say_broken();
+        say_broken(stdout);
         return;
     }
     let at = chosen.at;
     let end = chosen.end;
     let item = chosen.item;
     run(
+        stdin,
+        stdout,
         chosen.arriving,
         chosen.leaving,
         item.table,
@@ -248,9 +264,9 @@ fn run_file(file: FileRead, rows: &[u16]) {
     );
 }
 
-fn main() {
+fn main(rt: HostRuntime) {
     let mut rows = [0u16; ROOM];
-    let file = load_file(&mut rows);
+    let file = load_file(&rt, &mut rows);
     let used = file.used;
-    run_file(file, &rows[..used]);
+    run_file(rt.stdin(), rt.stdout(), file, &rows[..used]);
 }

@@ -1,4 +1,6 @@
 // The records of the sample program (document 01, "The sample program"): two ports, a table and its level pairs.
+#![tactic(auto)]
+
 ghost use Rattle.std.specs.Prelude.{◌≡◌, [], ◌∷◌};
 ghost use Rattle.label.specs.Runs.{run};
 ghost use Rattle.label.specs.Label.{label_of};

@@ -1,12 +1,8 @@
 -- Laws of the input's window and of places.
-use Prim.Native.Nat.{ℕ, suc, ◌+◌, ◌-◌, ◌≤◌, ◌<◌}
-use mathlib.Core.Path.{◌≡◌, refl, sym, ap, ◌∙◌}
-use mathlib.Core.Bool.{Bool, true, false, cond, ◌&&◌}
-use mathlib.Core.List.{List, [], ◌∷◌, ◌++◌}
-use native.Mathlib.Omega.{arith}
+use Rattle.std.proofs.Common.{ℕ, suc, ◌+◌, ◌-◌, ◌≤◌, ◌<◌, ◌≡◌, refl, sym, ap, ◌∙◌, Bool, true, false, cond, ◌&&◌, List, [], ◌∷◌, ◌++◌, arith}
 use borrow.Author.Tests.{leb-true, le-leb}
 use lib.Dec.{leb}
-use lib.ListN.{length, take, drop, set, get_or, length-take, length-drop, length-append, take-append-drop}
+use lib.ListN.{length, take, drop, set, get_or, length-take, length-drop, take-append-drop}
 use lib.Seq.{take-suc, drop-cons, append_snoc, set_at, get_or-append-add, get_or-drop, take-take, take_at, length-take-le}
 use Rattle.stream.specs.declared.input.Window.{Window}
 use Rattle.stream.specs.declared.place.Place.{Place}

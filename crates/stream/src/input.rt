@@ -2,10 +2,10 @@
 ghost use Rattle.std.specs.Prelude.{◌≡◌, ◌++◌, ◌+◌, ◌-◌, ◌≤◌, length, take, drop};
 ghost use Rattle.stream.specs.Input.{lying, Holds, HoldsPiece};
 
-use libc::STDIN_FILENO;
+use std::io::{Read, Stdin};
 
 // The unused octets of a buffer: from `at` up to `end`, where the next ones go.
-#[derive(Drop)]
+#[derive(Clone, Copy)]
 pub struct Window {
     pub at: usize,
     pub end: usize,
@@ -13,7 +13,7 @@ pub struct Window {
 
 // The window once it holds n octets, or all that the input still has: what is held goes to the front, and the rest of the buffer is read into.
 // A window that does not lie in the buffer counts as empty.
-pub fn hold(input: &mut [u8], window: Window, n: usize) -> Window
+pub fn hold(stdin: Stdin, input: &mut [u8], window: Window, n: usize) -> Window
     ensures { Holds input.old window n input.new result }
 {
     let w = lie(input.len(), window);
@@ -23,11 +23,12 @@ pub fn hold(input: &mut [u8], window: Window, n: usize) -> Window
         return w;
     }
     move_down(input, at, end);
-    let last = read_until(input, end - at, n);
+    let last = read_until(stdin, input, end - at, n);
     Window { at: 0, end: last }
 }
 
 // The window; an empty one where it does not lie in a buffer of `room` octets.
+#[tactic(auto, unfolding(crate::specs::Input::lying))]
 pub fn lie(room: usize, window: Window) -> Window
     ensures value { result ≡ lying room window }
     ensures at_le_end { (result.at ≤ result.end) × (result.end ≤ room) }
@@ -58,7 +59,7 @@ fn move_down(input: &mut [u8], at: usize, end: usize)
 }
 
 // Reads on from `held` until n octets are there, the input ends or the buffer is full, and answers how many are there.
-fn read_until(input: &mut [u8], held: usize, n: usize) -> usize
+fn read_until(stdin: Stdin, input: &mut [u8], held: usize, n: usize) -> usize
     requires { held ≤ length input.old }
     ensures lower_bound { (held ≤ result) × (result ≤ length input.new) }
     ensures input_len_unchanged { (length input.new ≡ length input.old) × (take held input.new ≡ take held input.old) }
@@ -66,7 +67,7 @@ fn read_until(input: &mut [u8], held: usize, n: usize) -> usize
     let room = input.len();
     let mut end = held;
     while end < n {
-        let got = read_once(input, end, room);
+        let got = read_once(stdin, input, end, room);
         if got == 0 {
             return end;
         }
@@ -75,19 +76,18 @@ fn read_until(input: &mut [u8], held: usize, n: usize) -> usize
     end
 }
 
-// One read into the buffer from `end` up to `to`: how many octets came, 0 at the end of the input. The octets before `end` stay.
-fn read_once(input: &mut [u8], end: usize, to: usize) -> usize
+// One read into the buffer from `end` up to `to`: how many octets came, 0 at the end of the input and where the read fails. The octets before `end` stay.
+fn read_once(mut stdin: Stdin, input: &mut [u8], end: usize, to: usize) -> usize
     requires { (end ≤ to) × (to ≤ length input.old) }
     ensures result_bound { (end + result ≤ to) × (length input.new ≡ length input.old) }
     ensures input_unchanged { take end input.new ≡ take end input.old }
 {
-    let got = libc::read(STDIN_FILENO, &mut input[end..to]);
-    io::count(got, &input[end..to])
+    stdin.read(&mut input[end..to]).unwrap_or(0)
 }
 
 // One piece of at most `most` octets behind what is held, which goes to the front: the window of the octets that came. It is empty at the end of the input, and where there is no
 // room. A window that does not lie in the buffer counts as empty.
-pub fn hold_piece(input: &mut [u8], window: Window, most: usize) -> Window
+pub fn hold_piece(stdin: Stdin, input: &mut [u8], window: Window, most: usize) -> Window
     ensures { HoldsPiece input.old window most input.new result }
 {
     let w = lie(input.len(), window);
@@ -96,7 +96,7 @@ pub fn hold_piece(input: &mut [u8], window: Window, most: usize) -> Window
     move_down(input, at, end);
     let held = end - at;
     let to = end_piece(held, most, input.len());
-    let got = read_once(input, held, to);
+    let got = read_once(stdin, input, held, to);
     Window {
         at: held,
         end: held + got,

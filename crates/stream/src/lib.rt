@@ -1,4 +1,6 @@
 // Standard input and output in large pieces, for the programs: octets that were read and are not yet used, and octets that wait to be written.
+#![tactic(auto)]
+
 mod input;
 mod output;
 mod place;

@@ -1,17 +1,17 @@
 // Output: the first octets of a buffer, written.
 ghost use Rattle.std.specs.Prelude.{◌≡◌, true};
 
-use libc::STDOUT_FILENO;
+use std::io::{Print, Stdout};
 
 // Writes the first n octets, all where there are fewer, and answers whether they are written. A write that fails may have written some of them.
-pub fn send(out: &[u8], n: usize) -> bool
+pub fn send(stdout: Stdout, out: &[u8], n: usize) -> bool
     ensures { n ≡ 0 → result ≡ true }
 {
     if n == 0 {
         return true;
     }
     if out.len() <= n {
-        return io::write_all(STDOUT_FILENO, out);
+        return stdout.write_all(out).is_ok();
     }
-    io::write_all(STDOUT_FILENO, &out[..n])
+    stdout.write_all(&out[..n]).is_ok()
 }

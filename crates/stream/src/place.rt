@@ -4,9 +4,10 @@ ghost use Rattle.stream.specs.Place.{going_place, stopped_place, Flushes, Spares
 
 use crate::input::{Window, hold, lie};
 use crate::output::send;
+use std::io::{Stdin, Stdout};
 
 // The input that is held, how many octets of output wait, and whether to go on.
-#[derive(Drop)]
+#[derive(Clone, Copy)]
 pub struct Place {
     pub window: Window,
     pub waiting: usize,
@@ -43,10 +44,10 @@ pub fn stop(waiting: usize) -> Place
 }
 
 // Writes what waits. Where the write fails nothing waits any more and nothing follows, so that what was written stays a prefix of the answer.
-pub fn flush(out: &[u8], place: Place) -> Place
+pub fn flush(stdout: Stdout, out: &[u8], place: Place) -> Place
     ensures { Flushes place result }
 {
-    let sent = send(out, place.waiting);
+    let sent = send(stdout, out, place.waiting);
     if !sent {
         return stop(0);
     }
@@ -59,20 +60,27 @@ pub fn flush(out: &[u8], place: Place) -> Place
 }
 
 // Sees to room for `room` octets more: where there is less, what waits is written.
-pub fn spare(out: &[u8], place: Place, room: usize) -> Place
+pub fn spare(stdout: Stdout, out: &[u8], place: Place, room: usize) -> Place
     ensures { Spares out.now place room result }
 {
     if out.len() < place.waiting {
-        return flush(out, place);
+        return flush(stdout, out, place);
     }
     if out.len() - place.waiting < room {
-        return flush(out, place);
+        return flush(stdout, out, place);
     }
     place
 }
 
 // Holds n octets of the input, or all that it still has. Before a read, which may block, what waits is written.
-pub fn feed(input: &mut [u8], out: &[u8], place: Place, n: usize) -> Place
+pub fn feed(
+    stdin: Stdin,
+    stdout: Stdout,
+    input: &mut [u8],
+    out: &[u8],
+    place: Place,
+    n: usize,
+) -> Place
     ensures { Feeds input.old place n input.new result }
 {
     let window = place.window;
@@ -80,10 +88,10 @@ pub fn feed(input: &mut [u8], out: &[u8], place: Place, n: usize) -> Place
     if n <= w.end - w.at {
         return go_on(w.at, w.end, place.waiting);
     }
-    let sent = send(out, place.waiting);
+    let sent = send(stdout, out, place.waiting);
     if !sent {
         return stop(0);
     }
-    let h = hold(input, window, n);
+    let h = hold(stdin, input, window, n);
     go_on(h.at, h.end, 0)
 }

@@ -1,4 +1,6 @@
 // Renumbering tables: rows of categories and pairs of levels, and what makes them sound (document 01, "Records"; document 02, wish 8).
+#![tactic(auto)]
+
 ghost use Rattle.std.specs.Prelude.{◌≡◌, true, ◌&&◌, ◌+◌, ◌*◌, ◌≤◌, leb, length, take, get_or, replicate};
 ghost use Rattle.table.specs.Table.{lent, rows_from, row, no_row, target_end, rising, targets_apart, row_list_sound, bare_sound, table_sound};
 ghost use Rattle.table.specs.Renumbering.{no_renumbering, levels_of, typed_pairs};
@@ -10,7 +12,7 @@ use table_levels::{LevelPair, Levels, MAX_PAIRS, levels_sound};
 use table_rows::row_rises;
 
 // The categories from low to high go to those from target on.
-#[derive(Drop)]
+#[derive(Clone, Copy)]
 pub struct Row {
     pub low: u16,
     pub high: u16,
@@ -19,7 +21,7 @@ pub struct Row {
 
 // A table without its rows and its level pairs. The rows are lent beside it as one list of numbers, three to a row: low, high and target. The level
 // pairs are passed beside it too, and the first `pairs` of them are used.
-#[derive(Drop)]
+#[derive(Clone, Copy)]
 pub struct Table {
     pub from: u32,
     pub to: u32,
@@ -28,7 +30,7 @@ pub struct Table {
 }
 
 // A table, and beside it its level pairs: the first `table.pairs` are used.
-#[derive(Drop)]
+#[derive(Clone, Copy)]
 pub struct Renumbering {
     pub table: Table,
     pub levels: [LevelPair; MAX_PAIRS],
@@ -224,7 +226,7 @@ fn fields_sound(table: Table, held: usize) -> bool
 }
 
 // Whether the sources rise and every end keeps to the highest category; and whether the targets rise as they stand.
-#[derive(Drop)]
+#[derive(Clone, Copy)]
 struct Rise {
     sources: bool,
     targets: bool,

@@ -7,7 +7,7 @@ use native.Mathlib.Omega.{arith}
 use lib.Dec.{leb, eqb}
 use lib.ListN.{length, take, drop, get_or, length-take, length-drop, drop_of_length-le}
 use lib.Seq.{take_all, drop-drop}
-use borrow.Author.Tests.{leb-true, leb-false, eqb-true, eq-eqb}
+use borrow.Author.Tests.{leb-false, eqb-true, eq-eqb}
 use Rattle.label.proofs.Bools.{same_yes}
 use Rattle.table_levels.proofs.Levels.{next_there}
 use Rattle.table.specs.declared.Renumbering.{Renumbering}

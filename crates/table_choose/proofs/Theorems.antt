@@ -1,17 +1,16 @@
 -- The theorems of `specs/Theorems.antt`.
 use mathlib.Core.Path.{◌≡◌, refl, sym, ◌∙◌, ap}
-use mathlib.Core.Bool.{Bool, true, false, cond, ◌&&◌}
+use mathlib.Core.Bool.{Bool, true, false, cond}
 use mathlib.Core.List.{List, [], ◌∷◌, ◌++◌, append_assoc}
 use Prim.Native.Nat.{ℕ}
 use native.Mathlib.Omega.{arith}
 use lib.Dec.{eqb}
-use lib.ListN.{length, take, drop}
+use lib.ListN.{drop}
 use lib.Seq.{take_at, drop_at}
 use borrow.Author.Tests.{eqb-true, eq-eqb}
 use Rattle.label.proofs.Bools.{never, and_left, and_right}
 use Rattle.table.specs.Table.{table_sound, rows_sound, typed}
 use Rattle.table_levels.specs.Levels.{levels_sound}
-use Rattle.table.specs.declared.Renumbering.{Renumbering}
 use Rattle.table.specs.Renumbering.{LentTable, lent_sound}
 use Rattle.table_choose.specs.Tables.{share, tables_from, left_over, all_tables_sound, is_for, no_table_from, first_table}
 use Rattle.table_choose.specs.Theorems.{NoneFor, FirstTable, numbers_of, items_of, Counted, OneList}

@@ -1,5 +1,7 @@
 // Up to 8 tables with their level pairs, and one lent list with the rows of all (document 02, wishes 7 and 8): whether all are sound, and the first for a
 // pair of domains.
+#![tactic(auto)]
+
 ghost use Rattle.std.specs.Prelude.{◌≡◌, cond, ◌&&◌, ◌+◌, ◌-◌, ◌*◌, ◌≤◌, leb, eqb, length};
 ghost use Rattle.table_choose.specs.Tables.{used_tables, tables_from, tables_sound, no_table_from, first_table, lent_found};
 
@@ -9,14 +11,14 @@ use table::{Renumbering, Table, empty_table, levels_of, table_sound};
 pub const MAX_TABLES: usize = 8;
 
 // The first `count` are used. The rows of all are lent beside them as one list of numbers, three to a row, table after table.
-#[derive(Drop)]
+#[derive(Clone, Copy)]
 pub struct Tables {
     pub count: usize,
     pub items: [Renumbering; MAX_TABLES],
 }
 
 // A table of the set, and where its rows lie in the lent list.
-#[derive(Drop)]
+#[derive(Clone, Copy)]
 pub struct Found {
     pub item: Renumbering,
     pub at: usize,

@@ -1,4 +1,6 @@
 // Level pairs of a renumbering table: what makes them sound, and the partner of a level (document 01, "Records").
+#![tactic(auto)]
+
 ghost use Rattle.std.specs.Prelude.{◌≡◌, true, ◌+◌, ◌*◌, ◌≤◌, take};
 ghost use Rattle.table_levels.specs.Levels.{pairs_sound, partner_of, partner_number, lead_on};
 
@@ -11,13 +13,13 @@ pub const MAX_PAIRS: usize = 256;
 pub type Levels = [[u8; 2]; MAX_PAIRS];
 
 // A level and the level that it goes to.
-#[derive(Drop)]
+#[derive(Clone, Copy)]
 pub struct LevelPair {
     pub levels: [u8; 2],
 }
 
 // The level that a level goes to, where it has a partner.
-#[derive(Drop)]
+#[derive(Clone, Copy)]
 pub enum Partner {
     Level(u8),
     Missing,
@@ -49,7 +51,7 @@ pub fn levels_sound(levels: Levels, count: usize) -> bool
 }
 
 // Whether the pairs are sound, and then the partner of a level, 256 where it has none.
-#[derive(Drop)]
+#[derive(Clone, Copy)]
 pub struct Lead {
     pub sound: bool,
     pub to: u16,

@@ -1,4 +1,6 @@
 // The test of a table's row over plain numbers (document 01, "Records").
+#![tactic(auto)]
+
 ghost use Rattle.std.specs.Prelude.{◌≡◌};
 ghost use Rattle.table_rows.specs.Rows.{row_rises};
 

@@ -1,16 +1,15 @@
 -- The theorems of `specs/Theorems.antt`.
-use Prim.Native.Nat.{ℕ, zero, suc, ◌+◌, ◌*◌, ◌/◌, ◌%◌, ◌≤◌, ◌<◌}
-use mathlib.Core.Path.{◌≡◌, refl, sym, ap, ◌∙◌}
+use Prim.Native.Nat.{ℕ, zero, suc, ◌+◌, ◌*◌, ◌/◌, ◌%◌, ◌≤◌}
+use mathlib.Core.Path.{◌≡◌, refl, ◌∙◌}
 use mathlib.Core.Bool.{Bool, true, false, cond}
 use mathlib.Core.List.{List, [], ◌∷◌, ◌++◌}
 use native.Mathlib.Omega.{arith}
-use lib.ListN.{length, take, drop, length-append, length-take}
+use lib.ListN.{length, take, length-append, length-take}
 use lib.Seq.{sets-eq}
 use lib.Dec.{eqb}
-use Rattle.text.specs.Put.{Puts}
-use Rattle.text.specs.Text.{leading, decimal, next, hex_of}
-use Rattle.text.specs.Line.{forward_word, drop_word, broken_line, shown, forward_line, drop_line}
-use Rattle.text.specs.Theorems.{Whole, PutsWhole, Longest}
+use Rattle.text.specs.Text.{leading, decimal, hex_of}
+use Rattle.text.specs.Line.{shown, forward_line, drop_line}
+use Rattle.text.specs.Theorems.{PutsWhole, Longest}
 use Rattle.text.proofs.Laws.{put_sets, place_room}
 
 pub puts_whole : PutsWhole

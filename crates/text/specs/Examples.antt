@@ -1,6 +1,6 @@
 -- Document 01, "The sample program": lines as octets, the sample's two first. "The whole output is" these two; `FORWARD 0` has no blank behind it (document 02, Wish 6);
 -- a refusal says its number, its type, its code, its pointer.
-use Rattle.std.specs.Prelude.{◌≡◌, List, [], ◌∷◌, ℕ}
+use Rattle.std.specs.Prelude.{◌≡◌, [], ◌∷◌}
 use Rattle.text.specs.Line.{forward_line, drop_line, broken_line}
 
 pub record Lines : Type 0 where

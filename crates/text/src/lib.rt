@@ -1,5 +1,7 @@
 // Text in a lent buffer: octets, words, numbers in decimal and in hex, and the lines of the sample program (document 01, "The sample program"). Nothing here reads or writes: each
 // function puts octets into a buffer from place n on and answers the place behind them, and an octet that finds no room is left out.
+#![tactic(auto)]
+
 ghost use Rattle.std.specs.Prelude.{◌≡◌, [], ◌∷◌, ◌+◌, ◌%◌, ◌≤◌, ◌<◌, length, drop};
 ghost use Rattle.text.specs.Put.{Puts};
 ghost use Rattle.text.specs.Text.{decimal, next, hex_digit, hex_of};

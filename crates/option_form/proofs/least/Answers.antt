@@ -1,0 +1,20 @@
+-- `option_form::least` meets its contract: the forms that may be taken, and the shorter of them.
+-- Assumes nothing.
+use mathlib.Core.Path.{sym, ap, ◌∙◌}
+use Rattle.option.specs.declared.Spellings.{Spellings}
+use Rattle.option.specs.Spelling.{shorter, least_form}
+use Rattle.option.proofs.Sets.{usual_is}
+use Rattle.option_form.proofs.least.Goals as goal
+
+pub returns-then-is_usual : goal.returns-then-is_usual
+returns-then-is_usual c =
+    let a = c.args in
+    let u = usual_is a.permitted (sym c.is_usual.ensures ∙ c.if-is_usual.true) in
+    c.least_usual.ensures ∙ ap (λ (p : Spellings). least_form p a.one a.two a.five) (sym u)
+
+pub returns : goal.returns
+unfolding least_form
+returns c =
+    let last = c.shorter_of.ensures ∙ (λ i. shorter (c.form_if-numbers.ensures i) (c.form_if-pairs.ensures i)) in
+    let rest = c.shorter_of-2.ensures ∙ (λ i. shorter (c.form_if-ten.ensures i) (last i)) in
+    c.shorter_of-3.ensures ∙ (λ i. shorter (c.form_if-shortest.ensures i) (rest i))

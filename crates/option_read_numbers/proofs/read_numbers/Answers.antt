@@ -1,0 +1,16 @@
+-- `option_read_numbers::read_numbers` meets its contract.
+use mathlib.Core.Path.{sym, ◌∙◌}
+use Rattle.option_read_numbers.proofs.Loops.{pass_none, fits_parts}
+use Rattle.option_read_numbers.proofs.read_numbers.Goals as goal
+
+pub returns-then-not-fit : goal.returns-then-not-fit
+returns-then-not-fit c = pass_none _ _ _ _ (sym c.fit.ensures ∙ c.if-not-fit.true)
+
+pub number_keys-requires : goal.number_keys-requires
+number_keys-requires c =
+    let f = fits_parts _ _ (sym c.fit.ensures ∙ c.if-not-fit.false) in
+    (f.most, f.room)
+
+pub returns : goal.returns
+returns c =
+    rw (sym c.fit.ensures ∙ c.if-not-fit.false) c.number_keys.ensures

@@ -1,0 +1,5 @@
+-- `sample_records::arriving` meets its contract.
+use Rattle.sample_records.proofs.arriving.Goals as goal
+
+pub returns : goal.returns
+returns c = cc (c.plain.ensures, c.empty-2.ensures, c.up_to.ensures, c.empty.ensures)

@@ -1,0 +1,22 @@
+use Rattle.std.proofs.Common.{arith}
+use Rattle.stream.proofs.Laws.{holds_piece}
+use Rattle.stream.proofs.input.hold_piece.Goals as goal
+
+pub returns : goal.returns
+returns c =
+    holds_piece
+    _
+    _
+    c.lie-w.result
+    c.lie-w.ensures.value
+    c.lie-w.ensures.at_le_end
+    _
+    c.move_down.new.input
+    c.read_once-got.new.input
+    c.read_once-got.result
+    c.move_down.ensures.input_after
+    c.move_down.ensures.input_len_unchanged
+    (omega arith)
+    (omega arith)
+    c.read_once-got.ensures.result_bound.1
+    c.read_once-got.ensures.input_unchanged
