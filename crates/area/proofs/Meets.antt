@@ -8,8 +8,8 @@ use lib.ListN.{length, get_or, drop, length-drop}
 use lib.Seq.{drop-drop, get_or-drop}
 use Rattle.area.specs.declared.Kind.{Kind}
 use Rattle.area.specs.declared.Kind.TheVariants.{End, NoOperation, Basic, Extended, Cipso, Other}
-use Rattle.area.specs.declared.Size.{Size}
-use Rattle.area.specs.declared.Size.TheVariants.{Whole, Bad}
+use Rattle.std.specs.Prelude.{Some, None}
+use Rattle.area.specs.Kinds.{Size}
 use Rattle.area.specs.Kinds.{kind_of, size_of}
 use Rattle.area.specs.Area.{Met, span_of, front_of, met_from, met_of}
 use Rattle.area.specs.Meets.{StandIn, MetStand}
@@ -22,7 +22,7 @@ next_octet area at t r e =
 
 stand_by : (area r : List ℕ) (at t : ℕ) (k : Kind) (z : Size) → drop at area ≡ t ∷ r → k ≡ kind_of t → z ≡ size_of (t ∷ r)
     → ((n : ℕ) → StandIn area (met_from r (pred n) (suc at)))
-    → StandIn area (front_of k z at ++ elim (span_of k z) as (λ _. List Met) [ Whole n ↦ met_from r (pred n) (suc at) | Bad ↦ [] ])
+    → StandIn area (front_of k z at ++ elim (span_of k z) as (λ _. List Met) [ Some n ↦ met_from r (pred n) (suc at) | None ↦ [] ])
 stand_by area r at t k z e ek ez g = go k z ek ez
   where
     inside : at < length area
@@ -35,17 +35,17 @@ stand_by area r at t k z e ek ez g = go k z ek ez
     sized = ap size_of (sym e)
 
     go : (k : Kind) (z : Size) → k ≡ kind_of t → z ≡ size_of (t ∷ r)
-        → StandIn area (front_of k z at ++ elim (span_of k z) as (λ _. List Met) [ Whole n ↦ met_from r (pred n) (suc at) | Bad ↦ [] ])
+        → StandIn area (front_of k z at ++ elim (span_of k z) as (λ _. List Met) [ Some n ↦ met_from r (pred n) (suc at) | None ↦ [] ])
     go End z ek ez = tt
     go NoOperation z ek ez = (inside, ek ∙ octet, refl, g 1)
-    go Basic (Whole n) ek ez = (inside, ek ∙ octet, ez ∙ sized, g n)
-    go Basic Bad ek ez = (inside, ek ∙ octet, ez ∙ sized, tt)
-    go Extended (Whole n) ek ez = (inside, ek ∙ octet, ez ∙ sized, g n)
-    go Extended Bad ek ez = (inside, ek ∙ octet, ez ∙ sized, tt)
-    go Cipso (Whole n) ek ez = (inside, ek ∙ octet, ez ∙ sized, g n)
-    go Cipso Bad ek ez = (inside, ek ∙ octet, ez ∙ sized, tt)
-    go Other (Whole n) ek ez = (inside, ek ∙ octet, ez ∙ sized, g n)
-    go Other Bad ek ez = (inside, ek ∙ octet, ez ∙ sized, tt)
+    go Basic (Some n) ek ez = (inside, ek ∙ octet, ez ∙ sized, g n)
+    go Basic None ek ez = (inside, ek ∙ octet, ez ∙ sized, tt)
+    go Extended (Some n) ek ez = (inside, ek ∙ octet, ez ∙ sized, g n)
+    go Extended None ek ez = (inside, ek ∙ octet, ez ∙ sized, tt)
+    go Cipso (Some n) ek ez = (inside, ek ∙ octet, ez ∙ sized, g n)
+    go Cipso None ek ez = (inside, ek ∙ octet, ez ∙ sized, tt)
+    go Other (Some n) ek ez = (inside, ek ∙ octet, ez ∙ sized, g n)
+    go Other None ek ez = (inside, ek ∙ octet, ez ∙ sized, tt)
 
 stand_from : (area l : List ℕ) (k at : ℕ) → drop at area ≡ l → StandIn area (met_from l k at)
 unfolding met_from

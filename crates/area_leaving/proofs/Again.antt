@@ -10,23 +10,17 @@ use lib.ListN.{length, get_or, take, drop, replicate, length-append, length-drop
 use lib.Seq.{take-append_seam, drop-append_seam, drop-drop, get_or-take, length-take-le}
 use Rattle.area.specs.declared.Kind.{Kind}
 use Rattle.area.specs.declared.Kind.TheVariants.{End, NoOperation, Basic, Extended, Cipso, Other}
-use Rattle.area.specs.declared.Size.{Size}
-use Rattle.area.specs.declared.Size.TheVariants.{Whole, Bad}
-use Rattle.area.specs.declared.Place.{Place}
-use Rattle.area.specs.declared.Place.TheVariants.{Nowhere, At}
-use Rattle.area.specs.declared.Walk.TheVariants.{Sound}
-use Rattle.area.specs.declared.Turn.TheVariants.{On}
+use Rattle.std.specs.Prelude.{Ok, Some, None}
+use Rattle.area.specs.Kinds.{Place, Size, places}
 use Rattle.area.specs.Kinds.{kind_of, size_of}
 use Rattle.area.specs.Area.{Met, span_of, front_of, met_from, met_of, judged, walk_of, octets_at}
-use Rattle.area.specs.Turn.{turn_of}
 use Rattle.area.proofs.Basic.{basic_front, basic_among, met_once, walk_basic}
 use Rattle.area.proofs.KindLaws.{size_whole, whole_size}
-use Rattle.area.proofs.Laws.{behind, met_turn, walk_turn, after_turn}
+use Rattle.area.proofs.Laws.{behind, met_turn}
 use Rattle.area.proofs.Meets.{next_octet}
 use Rattle.area.proofs.Front.{zeros_met, label_first}
-use Rattle.area_leaving.specs.declared.Next.TheVariants.{Over}
 use Rattle.area_leaving.specs.Kept.{kept_among, kept_of}
-use Rattle.area_leaving.specs.Stages.{over_of, next_of}
+use Rattle.area_leaving.specs.Stages.{over, over_of, next_of}
 use Rattle.area_leaving.proofs.Laws.{kept_from, after_next, kept_turn}
 
 -- a list that starts with an option that fills o
@@ -42,7 +36,7 @@ module _ (o rest : List ℕ) (k : Kind) (s : Starts o k) where
   kind_front : kind_of (get_or (o ++ rest) 0 0) ≡ k
   kind_front = ap kind_of (get_or-append o rest 0 0 (omega (arith, s.least))) ∙ s.kind
 
-  size_front : size_of (o ++ rest) ≡ Whole (length o)
+  size_front : size_of (o ++ rest) ≡ Some (length o)
   size_front =
       let la : length (o ++ rest) ≡ length o + length rest = length-append o rest in
       let h : 2 ≤ length o = s.least in
@@ -53,16 +47,14 @@ module _ (o rest : List ℕ) (k : Kind) (s : Starts o k) where
 other_walk : (on : Bool) (o rest : List ℕ) (at : ℕ) (label basic : Place) → Starts o Other
     → judged on false (met_from (o ++ rest) 0 at) label basic ≡ judged on false (met_from rest 0 (at + length o)) label basic
 other_walk on o rest at label basic s =
-    let t : turn_of on false (kind_of (get_or (o ++ rest) 0 0)) (size_of (o ++ rest)) at label basic ≡ On (length o) label basic =
-    rw (kind_front o rest Other s, size_front o rest Other s) in
-    walk_turn on false (o ++ rest) at label basic (long o rest Other s) ∙ ap (after_turn on false (o ++ rest) at) t ∙ rw drop-append_seam
+    ap (λ (ms : List Met). judged on false ms label basic) (met_turn (o ++ rest) at (long o rest Other s))
+    ∙ rw (kind_front o rest Other s, size_front o rest Other s, drop-append_seam)
 
 basic_walk : (o rest : List ℕ) (at : ℕ) (label : Place) → Starts o Basic
-    → judged true false (met_from (o ++ rest) 0 at) label Nowhere ≡ judged true false (met_from rest 0 (at + length o)) label (At at)
+    → judged true false (met_from (o ++ rest) 0 at) label None ≡ judged true false (met_from rest 0 (at + length o)) label (Some at)
 basic_walk o rest at label s =
-    let t : turn_of true false (kind_of (get_or (o ++ rest) 0 0)) (size_of (o ++ rest)) at label Nowhere ≡ On (length o) label (At at) =
-    rw (kind_front o rest Basic s, size_front o rest Basic s) in
-    walk_turn true false (o ++ rest) at label Nowhere (long o rest Basic s) ∙ ap (after_turn true false (o ++ rest) at) t ∙ rw drop-append_seam
+    ap (λ (ms : List Met). judged true false ms label None) (met_turn (o ++ rest) at (long o rest Basic s))
+    ∙ rw (kind_front o rest Basic s, size_front o rest Basic s, drop-append_seam)
 
 -- the octets of the first option 130 from an octet on
 abbrev pub basic_from : List ℕ → ℕ → Option (List ℕ)
@@ -70,10 +62,10 @@ basic_from area at = basic_among area (met_from (drop at area) 0 at)
 
 -- what they are with an option in front of which n octets are passed over
 abbrev basic_next : List ℕ → ℕ → Kind → ℕ → Option (List ℕ)
-basic_next area at k n = basic_front area k (Whole n) at (basic_from area (at + n))
+basic_next area at k n = basic_front area k (Some n) at (basic_from area (at + n))
 
-basic_front_lem : (area : List ℕ) (at n : ℕ) (k : Kind) → span_of k (Whole n) ≡ Whole n
-    → basic_among area (front_of k (Whole n) at ++ behind (drop at area) at (span_of k (Whole n))) ≡ basic_next area at k n
+basic_front_lem : (area : List ℕ) (at n : ℕ) (k : Kind) → span_of k (Some n) ≡ Some n
+    → basic_among area (front_of k (Some n) at ++ behind (drop at area) at (span_of k (Some n))) ≡ basic_next area at k n
 basic_front_lem area at n End e = let z : ◌≡◌ {A = ℕ} 0 1 = cc in absurd (omega arith)
 basic_front_lem area at n NoOperation e =
     let q : 1 ≡ n = cc in ap (λ (l : List ℕ). basic_among area (met_from l 0 (at + 1))) (drop-drop 1 at area) ∙ ap (λ (i : ℕ). basic_from area (at + i)) q
@@ -87,17 +79,17 @@ module _ (area o rest : List ℕ) (at : ℕ) (k : Kind) (s : Starts o k) (e : dr
   pub drop_front : drop (at + length o) area ≡ rest
   drop_front = sym (drop-drop (length o) at area) ∙ ap (drop (length o)) e ∙ drop-append_seam o rest
 
-  kept_front : (n : ℕ) → over_of k (span_of k (Whole (length o))) ≡ Over (length o) n → kept_from area at ≡ take n (o ++ rest) ++ kept_from area (at + length o)
+  kept_front : (n : ℕ) → over_of k (span_of k (Some (length o))) ≡ Some (over (length o) n) → kept_from area at ≡ take n (o ++ rest) ++ kept_from area (at + length o)
   kept_front n f =
-      let t : next_of (o ++ rest) ≡ Over (length o) n = rw (kind_front o rest k s, size_front o rest k s) f in
+      let t : next_of (o ++ rest) ≡ Some (over (length o) n) = rw (kind_front o rest k s, size_front o rest k s) f in
       let h : at < length area = omega (arith, long o rest k s, ap length e, length-drop at area) in
       kept_turn area at h ∙ ap (after_next area at) (ap next_of e ∙ t) ∙ ap (λ (l : List ℕ). take n l ++ kept_from area (at + length o)) e
 
-  basic_in_front : span_of k (Whole (length o)) ≡ Whole (length o) → basic_from area at ≡ basic_next area at k (length o)
+  basic_in_front : span_of k (Some (length o)) ≡ Some (length o) → basic_from area at ≡ basic_next area at k (length o)
   basic_in_front f =
       let h : 0 < length (drop at area) = rw e (long o rest k s) in
       let ek : kind_of (get_or (drop at area) 0 0) ≡ k = rw e (kind_front o rest k s) in
-      let ez : size_of (drop at area) ≡ Whole (length o) = rw e (size_front o rest k s) in
+      let ez : size_of (drop at area) ≡ Some (length o) = rw e (size_front o rest k s) in
       ap (basic_among area) (met_turn (drop at area) at h)
       ∙ (λ i. basic_among area (front_of (ek i) (ez i) at ++ behind (drop at area) at (span_of (ek i) (ez i))))
       ∙ basic_front_lem area at (length o) k f
@@ -114,15 +106,15 @@ label_kept area o rest at s e = kept_front area o rest at Cipso s e 0 refl
 -- nothing was met before an option 130
 abbrev pub Free : Option (List ℕ) → Place → Type 0
 Free none b = Unit {0}
-Free (some o) b = b ≡ Nowhere
+Free (some o) b = b ≡ None
 
 -- what is kept, with the octets of its option 130: it passes the walk, whatever option 134 was seen before, and is kept
 pub record Again (on : Bool) (ks : List ℕ) (c : Option (List ℕ)) : Type 0 where
-  pub walk : (z at : ℕ) (label basic : Place) → Free c basic → (b : Place) × (judged on false (met_from (ks ++ replicate z 0) 0 at) label basic ≡ Sound label b)
+  pub walk : (z at : ℕ) (label basic : Place) → Free c basic → (b : Place) × (judged on false (met_from (ks ++ replicate z 0) 0 at) label basic ≡ Ok (places label b))
   pub kept : (area : List ℕ) (z at : ℕ) → drop at area ≡ ks ++ replicate z 0 → kept_from area at ≡ ks
   pub found : (area : List ℕ) (z at : ℕ) → drop at area ≡ ks ++ replicate z 0 → basic_from area at ≡ c
 
-pub free_nowhere : (c : Option (List ℕ)) → Free c Nowhere
+pub free_nowhere : (c : Option (List ℕ)) → Free c None
 free_nowhere none = tt
 free_nowhere (some o) = refl
 
@@ -154,7 +146,7 @@ again_basic : (o ks : List ℕ) → Starts o Basic → Again true ks none → Ag
 again_basic o ks s a =
     record {
       walk = λ z at label basic f.
-          (let n = a.walk z (at + length o) label (At at) tt in
+          (let n = a.walk z (at + length o) label (Some at) tt in
           (n.0, rw (append_assoc, f) (basic_walk o (ks ++ replicate z 0) at label s ∙ n.1)));
       kept = λ area z at e.
           (let f : drop at area ≡ o ++ (ks ++ replicate z 0) = e ∙ append_assoc o ks (replicate z 0) in
@@ -165,7 +157,7 @@ again_basic o ks s a =
           basic_in_front area o (ks ++ replicate z 0) at Basic s f refl ∙ rw (f, take-append_seam));
     }
 
-starts_take : (l : List ℕ) (n : ℕ) (k : Kind) → kind_of (get_or l 0 0) ≡ k → size_of l ≡ Whole n → Starts (take n l) k
+starts_take : (l : List ℕ) (n : ℕ) (k : Kind) → kind_of (get_or l 0 0) ≡ k → size_of l ≡ Some n → Starts (take n l) k
 starts_take l n k ek ez =
     let w = size_whole l n ez in
     let e : length (take n l) ≡ n = length-take-le n l w.1 in
@@ -178,33 +170,33 @@ starts_take l n k ek ez =
 -- one option of an area that the walk passed, with what is kept behind it
 abbrev Behind : Bool → List ℕ → List ℕ → ℕ → Place → Place → Type 0
 Behind on area r at l b =
-    (n : ℕ) (label basic : Place) → judged on false (met_from r (pred n) (suc at)) label basic ≡ Sound l b
+    (n : ℕ) (label basic : Place) → judged on false (met_from r (pred n) (suc at)) label basic ≡ Ok (places l b)
     → Again on (kept_among area (met_from r (pred n) (suc at))) (basic_among area (met_from r (pred n) (suc at)))
 
 again_by : (on : Bool) (area : List ℕ) (t : ℕ) (r : List ℕ) (at : ℕ) (k : Kind) (y : Size) (label basic l b : Place) → drop at area ≡ t ∷ r → kind_of t ≡ k → size_of (t ∷ r) ≡ y
-    → judged on false (front_of k y at ++ elim (span_of k y) as (λ _. List Met) [ Whole n ↦ met_from r (pred n) (suc at) | Bad ↦ [] ]) label basic ≡ Sound l b
+    → judged on false (front_of k y at ++ elim (span_of k y) as (λ _. List Met) [ Some n ↦ met_from r (pred n) (suc at) | None ↦ [] ]) label basic ≡ Ok (places l b)
     → Behind on area r at l b
-    → Again on (kept_among area (front_of k y at ++ elim (span_of k y) as (λ _. List Met) [ Whole n ↦ met_from r (pred n) (suc at) | Bad ↦ [] ]))
-    (basic_among area (front_of k y at ++ elim (span_of k y) as (λ _. List Met) [ Whole n ↦ met_from r (pred n) (suc at) | Bad ↦ [] ]))
+    → Again on (kept_among area (front_of k y at ++ elim (span_of k y) as (λ _. List Met) [ Some n ↦ met_from r (pred n) (suc at) | None ↦ [] ]))
+    (basic_among area (front_of k y at ++ elim (span_of k y) as (λ _. List Met) [ Some n ↦ met_from r (pred n) (suc at) | None ↦ [] ]))
 again_by on area t r at End y label basic l b ed ek ey e g = again_none on
 again_by on area t r at NoOperation y label basic l b ed ek ey e g = g 1 label basic e
-again_by false area t r at Basic (Whole n) label basic l b ed ek ey e g = let z : ◌≡◌ {A = ℕ} 0 1 = cc in absurd (omega arith)
-again_by true area t r at Basic (Whole n) label (At p) l b ed ek ey e g = let z : ◌≡◌ {A = ℕ} 0 1 = cc in absurd (omega arith)
-again_by true area t r at Basic (Whole n) label Nowhere l b ed ek ey e g =
+again_by false area t r at Basic (Some n) label basic l b ed ek ey e g = let z : ◌≡◌ {A = ℕ} 0 1 = cc in absurd (omega arith)
+again_by true area t r at Basic (Some n) label (Some p) l b ed ek ey e g = let z : ◌≡◌ {A = ℕ} 0 1 = cc in absurd (omega arith)
+again_by true area t r at Basic (Some n) label None l b ed ek ey e g =
     rw ed
     (again_basic (take n (t ∷ r)) (kept_among area (met_from r (pred n) (suc at))) (starts_take (t ∷ r) n Basic ek ey)
-    (rw (met_once true area (met_from r (pred n) (suc at)) label l b at e).0 at (g n label (At at) e)))
-again_by on area t r at Basic Bad label basic l b ed ek ey e g = let z : ◌≡◌ {A = ℕ} 0 1 = cc in absurd (omega arith)
-again_by on area t r at Extended (Whole n) label basic l b ed ek ey e g = let z : ◌≡◌ {A = ℕ} 0 1 = cc in absurd (omega arith)
-again_by on area t r at Extended Bad label basic l b ed ek ey e g = let z : ◌≡◌ {A = ℕ} 0 1 = cc in absurd (omega arith)
-again_by on area t r at Cipso (Whole n) Nowhere basic l b ed ek ey e g = g n (At at) basic e
-again_by on area t r at Cipso (Whole n) (At p) basic l b ed ek ey e g = let z : ◌≡◌ {A = ℕ} 0 1 = cc in absurd (omega arith)
-again_by on area t r at Cipso Bad label basic l b ed ek ey e g = let z : ◌≡◌ {A = ℕ} 0 1 = cc in absurd (omega arith)
-again_by on area t r at Other (Whole n) label basic l b ed ek ey e g =
+    (rw (met_once true area (met_from r (pred n) (suc at)) label l b at e).0 at (g n label (Some at) e)))
+again_by on area t r at Basic None label basic l b ed ek ey e g = let z : ◌≡◌ {A = ℕ} 0 1 = cc in absurd (omega arith)
+again_by on area t r at Extended (Some n) label basic l b ed ek ey e g = let z : ◌≡◌ {A = ℕ} 0 1 = cc in absurd (omega arith)
+again_by on area t r at Extended None label basic l b ed ek ey e g = let z : ◌≡◌ {A = ℕ} 0 1 = cc in absurd (omega arith)
+again_by on area t r at Cipso (Some n) None basic l b ed ek ey e g = g n (Some at) basic e
+again_by on area t r at Cipso (Some n) (Some p) basic l b ed ek ey e g = let z : ◌≡◌ {A = ℕ} 0 1 = cc in absurd (omega arith)
+again_by on area t r at Cipso None label basic l b ed ek ey e g = let z : ◌≡◌ {A = ℕ} 0 1 = cc in absurd (omega arith)
+again_by on area t r at Other (Some n) label basic l b ed ek ey e g =
     rw ed (again_other on (take n (t ∷ r)) (kept_among area (met_from r (pred n) (suc at))) _ (starts_take (t ∷ r) n Other ek ey) (g n label basic e))
-again_by on area t r at Other Bad label basic l b ed ek ey e g = let z : ◌≡◌ {A = ℕ} 0 1 = cc in absurd (omega arith)
+again_by on area t r at Other None label basic l b ed ek ey e g = let z : ◌≡◌ {A = ℕ} 0 1 = cc in absurd (omega arith)
 
-again_from : (on : Bool) (area xs : List ℕ) (k at : ℕ) (label basic l b : Place) → drop at area ≡ xs → judged on false (met_from xs k at) label basic ≡ Sound l b
+again_from : (on : Bool) (area xs : List ℕ) (k at : ℕ) (label basic l b : Place) → drop at area ≡ xs → judged on false (met_from xs k at) label basic ≡ Ok (places l b)
     → Again on (kept_among area (met_from xs k at)) (basic_among area (met_from xs k at))
 unfolding met_from
 again_from on area [] k at label basic l b ed e = again_none on
@@ -213,19 +205,19 @@ again_from on area (t ∷ r) zero at label basic l b ed e =
     again_by on area t r at (kind_of t) (size_of (t ∷ r)) label basic l b ed refl refl e
     (λ n x y h. again_from on area r (pred n) (suc at) x y l b (next_octet area at t r ed) h)
 
-pub kept_again : (on : Bool) (area : List ℕ) (l b : Place) → walk_of on area ≡ Sound l b → Again on (kept_of area) (octets_at b area)
+pub kept_again : (on : Bool) (area : List ℕ) (l b : Place) → walk_of on area ≡ Ok (places l b) → Again on (kept_of area) (octets_at b area)
 unfolding walk_of kept_of met_of
-kept_again on area l b e = rw (walk_basic on area l b e) (again_from on area area 0 0 Nowhere Nowhere l b refl e)
+kept_again on area l b e = rw (walk_basic on area l b e) (again_from on area area 0 0 None None l b refl e)
 
 -- the kept options have the octets of the option 130
-pub basic_of_kept : (on : Bool) (area : List ℕ) (l b : Place) → walk_of on area ≡ Sound l b → octets_at b area ≡ basic_from (kept_of area) 0
+pub basic_of_kept : (on : Bool) (area : List ℕ) (l b : Place) → walk_of on area ≡ Ok (places l b) → octets_at b area ≡ basic_from (kept_of area) 0
 basic_of_kept on area l b e = sym ((kept_again on area l b e).found (kept_of area) 0 0 (sym (append-nil (kept_of area))))
 
 -- an option 134, kept options and zeros: the walk meets that option in front, and the kept options are these
 module _ (on : Bool) (o ks : List ℕ) (c : Option (List ℕ)) (z : ℕ) (s : Starts o Cipso) (type : get_or o 0 0 ≡ 134) (a : Again on ks c) where
-  pub front_walk : (b : Place) × (walk_of on (o ++ (ks ++ replicate z 0)) ≡ Sound (At 0) b)
+  pub front_walk : (b : Place) × (walk_of on (o ++ (ks ++ replicate z 0)) ≡ Ok (places (Some 0) b))
   front_walk =
-      let n = a.walk z (length o) (At 0) Nowhere (free_nowhere c) in
+      let n = a.walk z (length o) (Some 0) None (free_nowhere c) in
       (n.0, label_first on o (ks ++ replicate z 0) type s.size s.least ∙ n.1)
 
   pub front_kept : kept_of (o ++ (ks ++ replicate z 0)) ≡ ks

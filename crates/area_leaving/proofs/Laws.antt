@@ -11,17 +11,16 @@ use lib.ListN.{length, get_or, take, drop, replicate, length-drop, length-take, 
 use lib.Seq.{take_all, take-append-le, take-append-add, take-take, length-take-le, drop-drop, get_or-drop}
 use Rattle.area.specs.declared.Kind.{Kind}
 use Rattle.area.specs.declared.Kind.TheVariants.{End, NoOperation, Basic, Extended, Cipso, Other}
-use Rattle.area.specs.declared.Size.{Size}
-use Rattle.area.specs.declared.Size.TheVariants.{Whole, Bad}
+use Rattle.std.specs.Prelude.{Option, Some, None}
+use Rattle.area.specs.Kinds.{Size}
 use Rattle.area.specs.Kinds.{kind_of, size_of}
 use Rattle.area.specs.Area.{span_of, front_of, met_from, met_of}
 use Rattle.lists.specs.Lists.{paint, copied}
 use Rattle.lists.proofs.Laws.{tail_is, copied_whole, Back, back_written, back_zeroed, paint_two, paint_none, paint_length}
 use Rattle.area.proofs.Laws.{span_on, behind, met_turn, met_end}
-use Rattle.area_leaving.specs.declared.Next.{Next}
-use Rattle.area_leaving.specs.declared.Next.TheVariants.{Stop, Over}
+use Rattle.area_leaving.specs.declared.Over.{Over}
 use Rattle.area_leaving.specs.Kept.{kept_len, kept_among, kept_of, round_up, leaving_of, has_room, rest_count, rest_of}
-use Rattle.area_leaving.specs.Stages.{over_of, next_of}
+use Rattle.area_leaving.specs.Stages.{over, over_of, next_of}
 
 kept_short : (k : Kind) (n : ℕ) → kept_len k n ≤ n
 kept_short End n = omega arith
@@ -31,16 +30,17 @@ kept_short Extended n = omega arith
 kept_short Cipso n = omega arith
 kept_short Other n = omega arith
 
-over_on : (k : Kind) (l : List ℕ) (z : Size) (n m : ℕ) → span_of k (size_of l) ≡ z → 0 < length l → over_of k z ≡ Over n m
+over_on : (k : Kind) (l : List ℕ) (z : Size) (n m : ℕ) → span_of k (size_of l) ≡ z → 0 < length l → over_of k z ≡ Some (over n m)
     → (1 ≤ n) × (n ≤ length l) × (m ≤ n)
-over_on k l Bad n m p h e = let z : ◌≡◌ {A = ℕ} 0 1 = cc in omega arith
-over_on k l (Whole x) n m p h e =
-    let q : x ≡ n = cc in
-    let r : kept_len k x ≡ m = cc in
+over_on k l None n m p h e = let z : ◌≡◌ {A = ℕ} 0 1 = cc in omega arith
+over_on k l (Some x) n m p h e =
+    let s : over x (kept_len k x) ≡ over n m = cc in
+    let q : x ≡ n = ap (λ (o : Over). o.n) s in
+    let r : kept_len k x ≡ m = ap (λ (o : Over). o.kept) s in
     omega (arith, span_on k l (size_of l) x refl h p, kept_short k x)
 
 -- the walk goes over at least one octet, stays in the list, and keeps no more than it goes over
-pub next_on : (l : List ℕ) (n m : ℕ) → 0 < length l → next_of l ≡ Over n m → (1 ≤ n) × (n ≤ length l) × (m ≤ n)
+pub next_on : (l : List ℕ) (n m : ℕ) → 0 < length l → next_of l ≡ Some (over n m) → (1 ≤ n) × (n ≤ length l) × (m ≤ n)
 next_on l n m h e = over_on (kind_of (get_or l 0 0)) l (span_of (kind_of (get_or l 0 0)) (size_of l)) n m refl h e
 
 -- the kept options from an octet on
@@ -48,22 +48,22 @@ abbrev pub kept_from : List ℕ → ℕ → List ℕ
 kept_from area at = kept_among area (met_from (drop at area) 0 at)
 
 -- what is kept from an octet on, by what the walk does at the option there
-abbrev pub after_next : List ℕ → ℕ → Next → List ℕ
-after_next area at Stop = []
-after_next area at (Over n m) = take m (drop at area) ++ kept_from area (at + n)
+abbrev pub after_next : List ℕ → ℕ → Option Over → List ℕ
+after_next area at None = []
+after_next area at (Some o) = take o.kept (drop at area) ++ kept_from area (at + o.n)
 
 kept_front : (area : List ℕ) (at : ℕ) (k : Kind) (z : Size)
     → kept_among area (front_of k z at ++ behind (drop at area) at (span_of k z)) ≡ after_next area at (over_of k (span_of k z))
 kept_front area at End z = refl
 kept_front area at NoOperation z = rw drop-drop
-kept_front area at Basic (Whole n) = rw drop-drop
-kept_front area at Basic Bad = refl
-kept_front area at Extended (Whole n) = rw drop-drop
-kept_front area at Extended Bad = refl
-kept_front area at Cipso (Whole n) = rw drop-drop
-kept_front area at Cipso Bad = refl
-kept_front area at Other (Whole n) = rw drop-drop
-kept_front area at Other Bad = refl
+kept_front area at Basic (Some n) = rw drop-drop
+kept_front area at Basic None = refl
+kept_front area at Extended (Some n) = rw drop-drop
+kept_front area at Extended None = refl
+kept_front area at Cipso (Some n) = rw drop-drop
+kept_front area at Cipso None = refl
+kept_front area at Other (Some n) = rw drop-drop
+kept_front area at Other None = refl
 
 pub kept_turn : (area : List ℕ) (at : ℕ) → at < length area → kept_from area at ≡ after_next area at (next_of (drop at area))
 kept_turn area at h =
@@ -83,22 +83,22 @@ kept_none area at h e =
     kept_turn area at h ∙ ap (λ (t : ℕ). after_next area at (over_of (kind_of t) (span_of (kind_of t) (size_of (drop at area))))) k
 
 -- one turn of a loop over the area, which found u at the octet `at`
-module _ (area : List ℕ) (at : ℕ) (u : Next) (h : at < length area) (eu : u ≡ next_of (take (length area - at) (drop at area))) where
-  pub kept_stop : u ≡ Stop → kept_from area at ≡ []
+module _ (area : List ℕ) (at : ℕ) (u : Option Over) (h : at < length area) (eu : u ≡ next_of (take (length area - at) (drop at area))) where
+  pub kept_stop : u ≡ None → kept_from area at ≡ []
   kept_stop e = kept_turn area at h ∙ ap (after_next area at) (rw tail_is at (sym eu) ∙ e)
 
-  pub kept_over : (n m : ℕ) → u ≡ Over n m → kept_from area at ≡ take m (take (length area - at) (drop at area)) ++ kept_from area (at + n)
-  kept_over n m e = kept_turn area at h ∙ ap (after_next area at) (rw tail_is at (sym eu) ∙ e) ∙ rw tail_is
+  pub kept_over : (o : Over) → u ≡ Some o → kept_from area at ≡ take o.kept (take (length area - at) (drop at area)) ++ kept_from area (at + o.n)
+  kept_over o e = kept_turn area at h ∙ ap (after_next area at) (rw tail_is at (sym eu) ∙ e) ∙ rw tail_is
 
-  pub over_moves : (n m : ℕ) → u ≡ Over n m → (1 ≤ n) × (at + n ≤ length area) × (m ≤ n)
-  over_moves n m e =
-      let q = next_on (drop at area) n m (simp length-drop (omega arith)) (rw tail_is at (sym eu) ∙ e) in
+  pub over_moves : (o : Over) → u ≡ Some o → (1 ≤ o.n) × (at + o.n ≤ length area) × (o.kept ≤ o.n)
+  over_moves o e =
+      let q = next_on (drop at area) o.n o.kept (simp length-drop (omega arith)) (rw tail_is at (sym eu) ∙ e) in
       omega (arith, length-drop at area)
 
-  pub over_count : (n m : ℕ) → u ≡ Over n m → length (kept_from area at) ≡ m + length (kept_from area (at + n))
-  over_count n m e =
-      let f : m ≤ length (drop at area) = omega (arith, over_moves n m e, length-drop at area) in
-      rw (kept_over n m e, length-append, tail_is, length-take-le m (drop at area) f)
+  pub over_count : (o : Over) → u ≡ Some o → length (kept_from area at) ≡ o.kept + length (kept_from area (at + o.n))
+  over_count o e =
+      let f : o.kept ≤ length (drop at area) = omega (arith, over_moves o e, length-drop at area) in
+      rw (kept_over o e, length-append, tail_is, length-take-le o.kept (drop at area) f)
 
 pub kept_end : (area : List ℕ) (at : ℕ) → length area ≤ at → kept_from area at ≡ []
 kept_end area at h = ap (kept_among area) (met_end area at h)
@@ -113,12 +113,12 @@ kept_most area = omega (arith, go (length area) 0 (omega arith) (omega arith))
     go zero at h l = omega (arith, ap length (kept_end area at (omega arith)))
     go (suc k) at h l = elim (dec_le (suc at) (length area)) [ yes t ↦ by t (next_of (take (length area - at) (drop at area))) refl (go k) | no t ↦ omega (arith, ap length (kept_end area at (omega arith))) ]
       where
-        by : at < length area → (u : Next) → u ≡ next_of (take (length area - at) (drop at area))
+        by : at < length area → (u : Option Over) → u ≡ next_of (take (length area - at) (drop at area))
             → ((at : ℕ) → at ≤ length area → length area ≤ at + k → length (kept_from area at) + at ≤ length area) → length (kept_from area at) + at ≤ length area
-        by t Stop e ih = omega (arith, ap length (kept_stop area at Stop t e refl))
-        by t (Over n m) e ih =
-            let q = over_moves area at (Over n m) t e n m refl in
-            omega (arith, q, over_count area at (Over n m) t e n m refl, ih (at + n) q.1 (omega (arith, q)))
+        by t None e ih = omega (arith, ap length (kept_stop area at None t e refl))
+        by t (Some o) e ih =
+            let q = over_moves area at (Some o) t e o refl in
+            omega (arith, q, over_count area at (Some o) t e o refl, ih (at + o.n) q.1 (omega (arith, q)))
 
 pub take_both : (m left k : ℕ) (rest ks : List ℕ) → k ≡ min m left → m ≤ length rest
     → take left (take m rest ++ ks) ≡ take k rest ++ take (left - k) ks

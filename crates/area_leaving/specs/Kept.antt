@@ -2,7 +2,7 @@
 use Rattle.std.specs.Prelude.{ℕ, ◌+◌, ◌-◌, ◌*◌, ◌/◌, List, [], ◌∷◌, ◌++◌, Bool, cond, ◌&&◌, leb, length, take, drop, replicate}
 use Rattle.area.specs.declared.Kind.{Kind}
 use Rattle.area.specs.declared.Kind.TheVariants.{End, NoOperation, Basic, Extended, Cipso, Other}
-use Rattle.area.specs.declared.Size.TheVariants.{Whole, Bad}
+use Rattle.std.specs.Prelude.{Some, None}
 use Rattle.area.specs.Area.{Met, met_of}
 
 -- how many octets are kept of an option of n octets: a kept option is one the walk meets, not 134, 0 or 1
@@ -16,7 +16,7 @@ kept_len Other n = n
 
 -- what is kept of an option that the walk meets
 abbrev pub kept_in : List ℕ → Met → List ℕ
-kept_in area m = elim m.size [ Whole n ↦ take (kept_len m.kind n) (drop m.at area) | Bad ↦ [] ]
+kept_in area m = elim m.size [ Some n ↦ take (kept_len m.kind n) (drop m.at area) | None ↦ [] ]
 
 -- in order
 abbrev pub kept_among : List ℕ → List Met → List ℕ

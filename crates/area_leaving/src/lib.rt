@@ -7,20 +7,17 @@ ghost use Rattle.area.specs.Area.{span_of};
 ghost use Rattle.area_leaving.specs.Kept.{kept_len, kept_of, rest_count, rest_of};
 ghost use Rattle.area_leaving.specs.Stages.{next_of};
 
-use area::{Kind, Size};
-use lists::{copy_octets, lesser, zero_all};
+use area::Kind;
+use lists::copy_list;
 
 // How far the walk goes on: over a whole option, or not at all.
-fn step(kind: Kind, size: Size) -> Size
+fn step(kind: Kind, size: Option<usize>) -> Option<usize>
     ensures { result ≡ span_of kind size }
 {
     match kind {
-        Kind::End => Size::Bad,
-        Kind::NoOperation => Size::Whole(1),
-        Kind::Basic => size,
-        Kind::Extended => size,
-        Kind::Cipso => size,
-        Kind::Other => size,
+        Kind::End => None,
+        Kind::NoOperation => Some(1),
+        Kind::Basic | Kind::Extended | Kind::Cipso | Kind::Other => size,
     }
 }
 
@@ -38,25 +35,25 @@ fn kept_len(kind: Kind, n: usize) -> usize
     }
 }
 
-// What the walk does at an option: it ends, or goes on over n octets, of which the first `kept` are kept.
+// What the walk goes over at an option: n octets, of which the first `kept` are kept.
 #[derive(Clone, Copy)]
-pub enum Next {
-    Stop,
-    Over { n: usize, kept: usize },
+struct Over {
+    n: usize,
+    kept: usize,
 }
 
-// What the walk does at the option that rest starts with.
-fn next_option(rest: &[u8]) -> Next
+// What the walk goes over at the option that rest starts with, if it does not end there.
+fn next_option(rest: &[u8]) -> Option<Over>
     requires { 0 < length rest.now }
     ensures { result ≡ next_of rest.now }
 {
     let k = area::read_kind(rest[0]);
     match step(k, area::read_size(rest)) {
-        Size::Bad => Next::Stop,
-        Size::Whole(n) => Next::Over {
-            n: n,
+        None => None,
+        Some(n) => Some(Over {
+            n,
             kept: kept_len(k, n),
-        },
+        }),
     }
 }
 
@@ -76,10 +73,10 @@ pub fn count_kept(area: &[u8]) -> usize
             return w;
         } else {
             match next_option(&area[at..]) {
-                Next::Stop => return w,
-                Next::Over { n, kept } => {
-                    w = w + kept;
-                    at = at + n;
+                None => return w,
+                Some(over) => {
+                    w = w + over.kept;
+                    at = at + over.n;
                 }
             }
         }
@@ -102,13 +99,13 @@ fn copy_kept(area: &[u8], out: &mut [u8], from: usize, most: usize) -> usize
         }
         let rest = &area[at..];
         match next_option(rest) {
-            Next::Stop => return w,
-            Next::Over { n, kept } => {
-                let m = lesser(kept, left);
-                copy_octets(&rest[..m], &mut out[w..]);
+            None => return w,
+            Some(over) => {
+                let m = over.kept.min(left);
+                copy_list(&rest[..m], &mut out[w..]);
                 w = w + m;
                 left = left - m;
-                at = at + n;
+                at = at + over.n;
             }
         }
     }
@@ -131,6 +128,6 @@ pub fn write_rest(area: &[u8], from: usize, kept: usize, out: &mut [u8]) -> usiz
         return 0;
     }
     let w = copy_kept(area, &mut out[..], from, kept);
-    zero_all(&mut out[w..40]);
+    out[w..40].fill(0);
     (w + 3) / 4 * 4
 }

@@ -16,26 +16,24 @@ use Rattle.label_keys.specs.Keys.{key_runs, with_keys}
 use Rattle.label.proofs.Bools.{and_left}
 use Rattle.label.proofs.Labels.{leq_says, used_of}
 use Rattle.option.specs.Option.{Octets}
-use Rattle.option_read.specs.declared.Reading.{Reading}
-use Rattle.option_read.specs.declared.KeyReading.{KeyReading}
+use Rattle.option_read.specs.Reading.{Reading}
+use Rattle.option_read.specs.Keys.{KeyReading}
 use Rattle.option_read.specs.Reading.{framed, reading_for}
 use Rattle.option_read.specs.Keys.{keyed, labelled, key_reading_for, keys_after, ReadsKeys}
 use Rattle.option_read.proofs.Checks.{parts_framed}
 use Rattle.option_read.proofs.Theorems.{reads}
 use Rattle.option_slack.specs.Strict.{stops_slack}
 use Rattle.option_slack.proofs.Strict.{strict_else, strict_stops}
-use Rattle.area.specs.declared.Place.{Place}
-use Rattle.area.specs.declared.Place.TheVariants.{Nowhere, At}
-use Rattle.area.specs.declared.Walk.{Walk}
-use Rattle.area.specs.declared.Walk.TheVariants.{Sound, Refused}
+use Rattle.std.specs.Prelude.{Ok, Err, Some, None, is_none}
+use Rattle.area.specs.Kinds.{Place, Walk, places, fault}
 use Rattle.area.specs.declared.Kind.TheVariants.{Cipso}
 use Rattle.area.specs.Area.{bad_area, walk_of, octets_at, WholeAt}
 use Rattle.area.proofs.KindLaws.{cipso_octet}
 use Rattle.area.proofs.Laws.{area_refused, off_nowhere, whole_inside, slice_is}
 use Rattle.basic.specs.declared.Way.{Way}
 use Rattle.basic.specs.declared.BasicReading.{BasicReading}
-use Rattle.basic.specs.Alone.{basic_reading}
-use Rattle.basic.specs.Settings.{passes_way}
+use Rattle.basic.specs.Alone.{BasicRead, basic_reading}
+use Rattle.basic.specs.Settings.{passes_way, passes_read}
 use Rattle.port.specs.declared.Port.{Port}
 use Rattle.port.specs.Port.{port_sound}
 use Rattle.port.proofs.Laws.{sound}
@@ -50,7 +48,7 @@ use Rattle.arrive.proofs.First.{first_append, Real, late_else, Late, late_first,
 use Rattle.arrive.proofs.Verdicts.{held_in_range, label_stands}
 
 -- The walk's answer decides which checks are left.
-pub arrival_refused : (p : Port) (area : List ℕ) (code n at : ℕ) → walk_at p area ≡ Refused n at → first_of (arrival_checks p area code) ≡ some (faulty n at)
+pub arrival_refused : (p : Port) (area : List ℕ) (code n at : ℕ) → walk_at p area ≡ Err (fault n at) → first_of (arrival_checks p area code) ≡ some (faulty n at)
 unfolding walk_check
 arrival_refused p area code n at e = rw e
 
@@ -61,7 +59,7 @@ label_checks l p area = required_by l p ∷ option_by l p area ∷ []
 abbrev out_of_range : Place → Port → List ℕ → Bool
 out_of_range l p area = not (in_range p.lowest p.highest (label_by l p area))
 
-pub arrival_placed : (p : Port) (area : List ℕ) (code : ℕ) (l b : Place) → walk_at p area ≡ Sound l b
+pub arrival_placed : (p : Port) (area : List ℕ) (code : ℕ) (l b : Place) → walk_at p area ≡ Ok (places l b)
     → (first_of (arrival_checks p area code)
     ≡ first_of (label_checks l p area ++ (basic_checks b p.basic.on p.basic.receiving area code ++ (when (out_of_range l p area) (barred 14 code) ∷ []))))
     × (arriving_label p area ≡ label_by l p area)
@@ -71,14 +69,14 @@ arrival_placed p area code l b e = (rw e, rw e)
 -- Every refusal has a number, 3 or above, and those before the range have not 14.
 
 walk_late : (on : Bool) (area : List ℕ) (w : Walk) → walk_of on area ≡ w → Late (walk_refusal w)
-walk_late on area (Sound l b) e = tt
-walk_late on area (Refused n at) e = (area_refused on area n at e).0
+walk_late on area (Ok m) e = tt
+walk_late on area (Err r) e = (area_refused on area r.number r.at e).0
 
 walk_early : (on : Bool) (area : List ℕ) (w : Walk) → walk_of on area ≡ w → Early (walk_refusal w)
-walk_early on area (Sound l b) e = tt
-walk_early on area (Refused n at) e =
-    let r = area_refused on area n at e in
-    (λ z. omega (arith, r.0), λ z. omega (arith, r.1))
+walk_early on area (Ok m) e = tt
+walk_early on area (Err r) e =
+    let q = area_refused on area r.number r.at e in
+    (λ z. omega (arith, q.0), λ z. omega (arith, q.1))
 
 module _ (p : Port) (area : List ℕ) where
   option_in : (i : ℕ) → (b : Bool) → eqb (read_at p (option_at i area)).number 0 ≡ b
@@ -90,17 +88,17 @@ module _ (p : Port) (area : List ℕ) where
       (strict_number p.strict p.domain (option_at i area) (eqb-false _ _ e))
 
   option_late : (q : Place) → Late (option_by q p area) × Early (option_by q p area)
-  option_late Nowhere = (tt, tt)
-  option_late (At i) = option_in i (eqb (read_at p (option_at i area)).number 0) refl
+  option_late None = (tt, tt)
+  option_late (Some i) = option_in i (eqb (read_at p (option_at i area)).number 0) refl
 
 required_late : (q : Place) (p : Port) → Late (required_by q p) × Early (required_by q p)
-required_late Nowhere p = (late_when p.required _ (omega arith), early_when p.required _ (λ z. omega arith) (λ z. omega arith))
-required_late (At i) p = (tt, tt)
+required_late None p = (late_when p.required _ (omega arith), early_when p.required _ (λ z. omega arith) (λ z. omega arith))
+required_late (Some i) p = (tt, tt)
 
 bad_late : (b : Place) (area : List ℕ) → Late (bad_basic_by b area) × Early (bad_basic_by b area)
-bad_late Nowhere area = (tt, tt)
-bad_late (At i) area =
-    let c : Bool = not (eqb (basic_reading (option_at i area)).number 0) in
+bad_late None area = (tt, tt)
+bad_late (Some i) area =
+    let c : Bool = is_none (basic_reading (option_at i area)) in
     (late_when c (faulty 19 i) (omega arith), early_when c (faulty 19 i) (λ z. omega arith) (λ z. omega arith))
 
 missing_late : (o : Option (List ℕ)) (on : Bool) → Late (missing_basic_by o on) × Early (missing_basic_by o on)
@@ -223,26 +221,26 @@ module _ (p : Port) (area : List ℕ) (at code : ℕ) (r : Reading) (is : r ≡ 
   stops_is b e = (λ i. stops_slack p.strict (sym r_is i).number (sym (slice_is at area) i)) ∙ e
 
   pub read_slack : stops_slack p.strict r.number (take (at + get_or area (at + 1) 0 - at) (drop at area)) ≡ true
-      → first_of (place_checks (At at) p area code) ≡ some (faulty 23 (at + 10))
+      → first_of (place_checks (Some at) p area code) ≡ some (faulty 23 (at + 10))
   read_slack e =
       ap (λ (x : Reading). first_of (read_checks p at code x (reading_for p.domain (option_at at area))))
       (strict_stops p.strict p.domain (option_at at area) (stops_is true e))
 
   module _ (passed : stops_slack p.strict r.number (take (at + get_or area (at + 1) 0 - at) (drop at area)) ≡ false) where
-    checks_are : first_of (place_checks (At at) p area code) ≡ first_of (read_checks p at code r r)
+    checks_are : first_of (place_checks (Some at) p area code) ≡ first_of (read_checks p at code r r)
     checks_are =
         ap (λ (x : Reading). first_of (read_checks p at code x (reading_for p.domain (option_at at area))))
         (strict_else p.strict p.domain (option_at at area) (stops_is false passed))
         ∙ ap (λ (x : Reading). first_of (read_checks p at code x x)) (sym r_is)
 
-    pub read_refused : (r.number ≡ 0 → ⊥) → first_of (place_checks (At at) p area code) ≡ some (faulty r.number (at + r.pointer))
+    pub read_refused : (r.number ≡ 0 → ⊥) → first_of (place_checks (Some at) p area code) ≡ some (faulty r.number (at + r.pointer))
     read_refused h = checks_are ∙ rw (ne_eqb r.number 0 h)
 
-    pub read_outside : r.number ≡ 0 → in_range p.lowest p.highest r.label ≡ false → first_of (place_checks (At at) p area code) ≡ some (barred 14 code)
+    pub read_outside : r.number ≡ 0 → in_range p.lowest p.highest r.label ≡ false → first_of (place_checks (Some at) p area code) ≡ some (barred 14 code)
     read_outside h e = checks_are ∙ rw (eq-eqb r.number 0 h, e)
 
     pub read_inside : r.number ≡ 0 → in_range p.lowest p.highest r.label ≡ true
-        → (first_of (place_checks (At at) p area code) ≡ none) × (label_by (At at) p area ≡ r.label)
+        → (first_of (place_checks (Some at) p area code) ≡ none) × (label_by (Some at) p area ≡ r.label)
     read_inside h e = (checks_are ∙ rw (eq-eqb r.number 0 h, e), ap (λ (x : Reading). x.label) (sym r_is))
 
   pub read_formed : WholeAt Cipso area at → Octets (option_at at area) → port_sound p ≡ true → r.number ≡ 0 → well_formed r.label ≡ true
@@ -268,7 +266,7 @@ module _ (p : Port) (area keys keys' : List ℕ) (at code : ℕ) (r : KeyReading
   here : at + get_or area (at + 1) 0 - at ≡ get_or area (at + 1) 0
   here = omega arith
 
-  left_is : keys' ≡ keys_by (At at) p area keys
+  left_is : keys' ≡ keys_by (Some at) p area keys
   left_is = is.left ∙ ap (λ (k : ℕ). keys_after p.domain (take k (drop at area)) keys) here
 
   answer_is : r ≡ keyed (reading_for p.domain (option_at at area))
@@ -282,18 +280,18 @@ module _ (p : Port) (area keys keys' : List ℕ) (at code : ℕ) (r : KeyReading
   abbrev stops : Bool
   stops = stops_slack p.strict r.number (take (at + get_or area (at + 1) 0 - at) (drop at area))
 
-  pub keys_slack : stops ≡ true → ArrivesAt (At at) p area code keys keys' (stopped 23 12 0 (20 + (at + 10)))
+  pub keys_slack : stops ≡ true → ArrivesAt (Some at) p area code keys keys' (stopped 23 12 0 (20 + (at + 10)))
   keys_slack e =
       record {
-        answer = ap (λ (o : Option Refusal). verdict_of o (label_by (At at) p area).level (label_by (At at) p area).count) (sym (read_slack p area at code whole (is.reading room) e));
+        answer = ap (λ (o : Option Refusal). verdict_of o (label_by (Some at) p area).level (label_by (Some at) p area).count) (sym (read_slack p area at code whole (is.reading room) e));
         left = left_is;
         stands = λ z. absurd (omega arith);
       }
 
-  pub keys_refused : stops ≡ false → (r.number ≡ 0 → ⊥) → ArrivesAt (At at) p area code keys keys' (stopped r.number 12 0 (20 + (at + r.pointer)))
+  pub keys_refused : stops ≡ false → (r.number ≡ 0 → ⊥) → ArrivesAt (Some at) p area code keys keys' (stopped r.number 12 0 (20 + (at + r.pointer)))
   keys_refused passed h =
       record {
-        answer = ap (λ (o : Option Refusal). verdict_of o (label_by (At at) p area).level (label_by (At at) p area).count) (sym (read_refused p area at code whole (is.reading room) passed h));
+        answer = ap (λ (o : Option Refusal). verdict_of o (label_by (Some at) p area).level (label_by (Some at) p area).count) (sym (read_refused p area at code whole (is.reading room) passed h));
         left = left_is;
         stands = λ z. absurd (h z);
       }
@@ -317,32 +315,32 @@ module _ (p : Port) (area keys keys' : List ℕ) (at code : ℕ) (r : KeyReading
         held_in_range p.lowest p.highest whole.label (going r.level r.count) keys' g.low_formed g.high_formed formed_is
         (g.low_domain ∙ sym owner_is) (owner_is ∙ sym g.high_domain) refl (sym used_is)
 
-    pub keys_held : stops ≡ false → ArrivesAt (At at) p area code keys keys'
+    pub keys_held : stops ≡ false → ArrivesAt (Some at) p area code keys keys'
         (cond (held_between p.lowest p.highest (going r.level r.count) keys') (going r.level r.count) (stopped 14 3 code 0))
     keys_held passed = go (held_between p.lowest p.highest (going r.level r.count) keys') refl
       where
         go : (b : Bool) → held_between p.lowest p.highest (going r.level r.count) keys' ≡ b
-            → ArrivesAt (At at) p area code keys keys' (cond b (going r.level r.count) (stopped 14 3 code 0))
+            → ArrivesAt (Some at) p area code keys keys' (cond b (going r.level r.count) (stopped 14 3 code 0))
         go true e =
             record {
               answer = ap (λ (x : KeyReading). going x.level x.count) answer_is
-                  ∙ ap (λ (o : Option Refusal). verdict_of o (label_by (At at) p area).level (label_by (At at) p area).count) (sym (read_inside p area at code whole (is.reading room) passed z (sym held_is ∙ e)).0);
+                  ∙ ap (λ (o : Option Refusal). verdict_of o (label_by (Some at) p area).level (label_by (Some at) p area).count) (sym (read_inside p area at code whole (is.reading room) passed z (sym held_is ∙ e)).0);
               left = left_is;
               stands = λ w. sym used_is ∙ ap (λ (x : Reading). used x.label) reading_is;
             }
         go false e =
             record {
-              answer = ap (λ (o : Option Refusal). verdict_of o (label_by (At at) p area).level (label_by (At at) p area).count) (sym (read_outside p area at code whole (is.reading room) passed z (sym held_is ∙ e)));
+              answer = ap (λ (o : Option Refusal). verdict_of o (label_by (Some at) p area).level (label_by (Some at) p area).count) (sym (read_outside p area at code whole (is.reading room) passed z (sym held_is ∙ e)));
               left = left_is;
               stands = λ w. absurd (omega arith);
             }
 
 -- No option: 6, or the assigned label, which is in the range of a sound port.
-pub none_required : (p : Port) (area keys : List ℕ) (code : ℕ) → p.required ≡ true → ArrivesAt Nowhere p area code keys keys (stopped 6 12 1 134)
+pub none_required : (p : Port) (area keys : List ℕ) (code : ℕ) → p.required ≡ true → ArrivesAt None p area code keys keys (stopped 6 12 1 134)
 none_required p area keys code e = record { answer = rw e; left = rw e; stands = λ z. absurd (omega arith) }
 
 pub none_assigned : (p : Port) (area keys keys' : List ℕ) (code : ℕ) → port_sound p ≡ true → p.required ≡ false → 120 ≤ length keys → keys' ≡ with_keys p.assigned keys
-    → ArrivesAt Nowhere p area code keys keys' (going p.assigned.level p.assigned.count)
+    → ArrivesAt None p area code keys keys' (going p.assigned.level p.assigned.count)
 none_assigned p area keys keys' code s e h w =
     record {
       answer = rw (e, (sound p s).assigned e);
@@ -363,8 +361,8 @@ unfolding arriving_basic
 off_none p area e = go (walk_at p area) refl
   where
     go : (w : Walk) → walk_at p area ≡ w → octets_at (basic_in w) area ≡ none
-    go (Sound l b) g = rw (off_nowhere area l b (ap (λ (t : Bool). walk_of t area) (sym e) ∙ g))
-    go (Refused n at) g = refl
+    go (Ok m) g = rw (off_nowhere area m.label m.basic (ap (λ (t : Bool). walk_of t area) (sym e) ∙ g))
+    go (Err r) g = refl
 
 -- One that does meets the option that a walk with it read meets.
 pub on_some : (p : Port) (area o : List ℕ) → p.basic.on ≡ true → arriving_basic p area ≡ some o → octets_at (basic_in (walk_of true area)) area ≡ some o
@@ -380,24 +378,27 @@ module _ (r : Verdict) (way : Way) (area : List ℕ) (code : ℕ) (asked : is_op
       → instead_of r o ≡ before_range r (first_of (basic_checks b true way area code))
   answered_by b o e = sym (ap (λ (t : Bool). cond t (instead_of r (first_of (basic_checks b true way area code))) r) asked ∙ ap (instead_of r) e)
 
-  pub basic_missing : stopped 20 12 1 130 ≡ before_range r (first_of (basic_checks Nowhere true way area code))
-  basic_missing = answered_by Nowhere _ refl
+  pub basic_missing : stopped 20 12 1 130 ≡ before_range r (first_of (basic_checks None true way area code))
+  basic_missing = answered_by None _ refl
 
-  module _ (at : ℕ) (x : BasicReading) (is : x ≡ basic_reading (option_at at area)) where
-    abbrev by_reading : BasicReading → Option Refusal
-    by_reading y =
-        first_of
-        (when (not (eqb y.number 0)) (faulty 19 at) ∷ none ∷ when (not (passes_way way y.level y.flags)) (barred 21 code) ∷ [])
+  module _ (at : ℕ) where
+    abbrev by_reading : BasicRead → Option Refusal
+    by_reading y = first_of (when (is_none y) (faulty 19 at) ∷ none ∷ when (not (passes_read way y)) (barred 21 code) ∷ [])
 
-    pub basic_bad_lem : (x.number ≡ 0 → ⊥) → stopped 19 12 0 (20 + at) ≡ before_range r (first_of (basic_checks (At at) true way area code))
-    basic_bad_lem h = answered_by (At at) (some (faulty 19 at)) (ap by_reading (sym is) ∙ rw (ne_eqb x.number 0 h))
+    pub basic_bad_lem : basic_reading (option_at at area) ≡ None → stopped 19 12 0 (20 + at) ≡ before_range r (first_of (basic_checks (Some at) true way area code))
+    basic_bad_lem h = answered_by (Some at) (some (faulty 19 at)) (ap by_reading h)
 
-    pub basic_outside : x.number ≡ 0 → passes_way way x.level x.flags ≡ false
-        → stopped 21 3 code 0 ≡ before_range r (first_of (basic_checks (At at) true way area code))
-    basic_outside h e = answered_by (At at) (some (barred 21 code)) (ap by_reading (sym is) ∙ rw (eq-eqb x.number 0 h, e))
+    module _ (x : BasicReading) (is : basic_reading (option_at at area) ≡ Some x) where
+      pub basic_outside : passes_way way x.level x.flags ≡ false → stopped 21 3 code 0 ≡ before_range r (first_of (basic_checks (Some at) true way area code))
+      basic_outside e = answered_by (Some at) (some (barred 21 code)) (ap by_reading is ∙ rw e)
 
-    pub basic_passes_lem : x.number ≡ 0 → passes_way way x.level x.flags ≡ true → r ≡ before_range r (first_of (basic_checks (At at) true way area code))
-    basic_passes_lem h e = answered_by (At at) none (ap by_reading (sym is) ∙ rw (eq-eqb x.number 0 h, e))
+      pub basic_passes_lem : passes_way way x.level x.flags ≡ true → r ≡ before_range r (first_of (basic_checks (Some at) true way area code))
+      basic_passes_lem e = answered_by (Some at) none (ap by_reading is ∙ rw e)
+
+-- 19 to 21 at equal places
+pub checks_at : (r : Verdict) (way : Way) (area : List ℕ) (code : ℕ) (p q : Place) → p ≡ q
+    → before_range r (first_of (basic_checks q true way area code)) ≡ before_range r (first_of (basic_checks p true way area code))
+checks_at r way area code p q e = sym (ap (λ (x : Place). before_range r (first_of (basic_checks x true way area code))) e)
 
 -- Checks 1 and 2, and then those of the walk.
 module _ (p : Port) (area keys : List ℕ) (code : ℕ) where
@@ -411,7 +412,7 @@ module _ (p : Port) (area keys : List ℕ) (code : ℕ) where
     port_unsound e = record { answer = rw (sized, e); left = rw (sized, e); stands = λ z. absurd (omega arith) }
 
     module _ (s : port_sound p ≡ true) where
-      pub port_walked : (n at : ℕ) → walk_at p area ≡ Refused n at → Arrives p area code keys keys (stopped n 12 0 (20 + at))
+      pub port_walked : (n at : ℕ) → walk_at p area ≡ Err (fault n at) → Arrives p area code keys keys (stopped n 12 0 (20 + at))
       unfolding arrival_of arrival_keys
       port_walked n at e =
           record {
@@ -421,7 +422,7 @@ module _ (p : Port) (area keys : List ℕ) (code : ℕ) where
           }
 
       -- what 6 to 13, 23 and 14 answered, with 19 to 21 between
-      pub port_placed : (l b : Place) (keys' : List ℕ) (r : Verdict) → walk_at p area ≡ Sound l b → ArrivesAt l p area code keys keys' r
+      pub port_placed : (l b : Place) (keys' : List ℕ) (r : Verdict) → walk_at p area ≡ Ok (places l b) → ArrivesAt l p area code keys keys' r
           → Arrives p area code keys keys' (before_range r (first_of (basic_checks b p.basic.on p.basic.receiving area code)))
       unfolding arrival_of arrival_keys
       port_placed l b keys' r e w =
@@ -443,15 +444,15 @@ module _ (p : Port) (area keys : List ℕ) (code : ℕ) where
           }
 
       -- where the port does not read option 130 there is none
-      pub port_off : (l b : Place) (keys' : List ℕ) (r : Verdict) → walk_at p area ≡ Sound l b → p.basic.on ≡ false → ArrivesAt l p area code keys keys' r
+      pub port_off : (l b : Place) (keys' : List ℕ) (r : Verdict) → walk_at p area ≡ Ok (places l b) → p.basic.on ≡ false → ArrivesAt l p area code keys keys' r
           → Arrives p area code keys keys' r
       port_off l b keys' r e f w =
-          let q : b ≡ Nowhere = off_nowhere area l b (ap (λ (x : Bool). walk_of x area) (sym f) ∙ e) in
+          let q : b ≡ None = off_nowhere area l b (ap (λ (x : Bool). walk_of x area) (sym f) ∙ e) in
           let o : first_of (basic_checks b p.basic.on p.basic.receiving area code) ≡ none = rw (q, f) in
           subst (Arrives p area code keys keys') (ap (before_range r) o ∙ before_none r) (port_placed l b keys' r e w)
 
       -- where it does, they are asked
-      pub port_on : (l b : Place) (keys' : List ℕ) (r v : Verdict) → walk_at p area ≡ Sound l b → p.basic.on ≡ true → ArrivesAt l p area code keys keys' r
+      pub port_on : (l b : Place) (keys' : List ℕ) (r v : Verdict) → walk_at p area ≡ Ok (places l b) → p.basic.on ≡ true → ArrivesAt l p area code keys keys' r
           → v ≡ before_range r (first_of (basic_checks b true p.basic.receiving area code)) → Arrives p area code keys keys' v
       port_on l b keys' r v e f w g =
           subst (Arrives p area code keys keys')

@@ -12,7 +12,7 @@ use Rattle.label.specs.declared.Label.{Label}
 use Rattle.option.specs.Option.{domain_of, tag_of, tag_length_of}
 use Rattle.option_slack.specs.Strict.{strict_reading, stops_slack}
 use Rattle.option_slack.proofs.Strict.{strict_else, strict_stops}
-use Rattle.option_read.specs.declared.Reading.{Reading}
+use Rattle.option_read.specs.Reading.{Reading}
 use Rattle.option_read.specs.Reading.{Check, check, not_read, checked_reading, categories_in, bad_place, tag_checks, label_in, reading_by, reading_for}
 
 abbrev PointWithin : ℕ → List Check → Type 0

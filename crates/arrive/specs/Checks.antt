@@ -4,18 +4,16 @@ use Rattle.std.specs.Prelude.{◌≡◌, Bool, true, false, not, ◌&&◌, List,
 use Rattle.std.proofs.Math.Option.{Option, none, some}
 use Rattle.label.specs.declared.Label.{Label}
 use Rattle.label.specs.Label.{in_range}
-use Rattle.option_read.specs.declared.Reading.{Reading}
+use Rattle.option_read.specs.Reading.{Reading}
 use Rattle.option_read.specs.Reading.{reading_for}
 use Rattle.option_slack.specs.Strict.{strict_reading}
-use Rattle.area.specs.declared.Place.{Place}
-use Rattle.area.specs.declared.Place.TheVariants.{Nowhere, At}
-use Rattle.area.specs.declared.Walk.{Walk}
-use Rattle.area.specs.declared.Walk.TheVariants.{Sound, Refused}
+use Rattle.std.specs.Prelude.{Ok, Err, Some, None, is_none}
+use Rattle.area.specs.Kinds.{Place, Walk}
 use Rattle.area.specs.Area.{walk_of, octets_at}
 pub use Rattle.area.specs.Area.{option_at}
 use Rattle.basic.specs.declared.Way.{Way}
 use Rattle.basic.specs.Alone.{basic_reading}
-use Rattle.basic.specs.Settings.{passes_way}
+use Rattle.basic.specs.Settings.{passes_read}
 use Rattle.port.specs.declared.Port.{Port}
 use Rattle.decision.specs.Decision.{Refusal}
 
@@ -53,25 +51,25 @@ walk_at port area = walk_of port.basic.on area
 
 -- 3, 4 and 5, from it
 abbrev pub walk_refusal : Walk → Option Refusal
-walk_refusal (Sound label basic) = none
-walk_refusal (Refused n at) = some (faulty n at)
+walk_refusal (Ok met) = none
+walk_refusal (Err r) = some (faulty r.number r.at)
 
 unfoldable pub walk_check : Port → List ℕ → Option Refusal
 walk_check port area = walk_refusal (walk_at port area)
 
 -- the area's option 134, and its option 130, are those that the walk meets
 abbrev pub place_in : Walk → Place
-place_in (Sound label basic) = label
-place_in (Refused n at) = Nowhere
+place_in (Ok met) = met.label
+place_in (Err r) = None
 
 abbrev pub basic_in : Walk → Place
-basic_in (Sound label basic) = basic
-basic_in (Refused n at) = Nowhere
+basic_in (Ok met) = met.basic
+basic_in (Err r) = None
 
 -- 6: a label is required and none is there
 abbrev pub required_by : Place → Port → Option Refusal
-required_by Nowhere port = when port.required (record { number = 6; kind = 12; code = 1; pointer = 134 })
-required_by (At p) port = none
+required_by None port = when port.required (record { number = 6; kind = 12; code = 1; pointer = 134 })
+required_by (Some p) port = none
 
 unfoldable pub required_check : Port → List ℕ → Option Refusal
 required_check port area = required_by (place_in (walk_at port area)) port
@@ -81,8 +79,8 @@ abbrev pub read_at : Port → List ℕ → Reading
 read_at port o = strict_reading port.strict port.domain o
 
 abbrev pub option_by : Place → Port → List ℕ → Option Refusal
-option_by Nowhere port area = none
-option_by (At p) port area =
+option_by None port area = none
+option_by (Some p) port area =
     when (not (eqb (read_at port (option_at p area)).number 0))
     (faulty (read_at port (option_at p area)).number (p + (read_at port (option_at p area)).pointer))
 
@@ -91,8 +89,8 @@ option_check port area = option_by (place_in (walk_at port area)) port area
 
 -- 19: the option 130 is bad
 abbrev pub bad_basic_by : Place → List ℕ → Option Refusal
-bad_basic_by Nowhere area = none
-bad_basic_by (At p) area = when (not (eqb (basic_reading (option_at p area)).number 0)) (faulty 19 p)
+bad_basic_by None area = none
+bad_basic_by (Some p) area = when (is_none (basic_reading (option_at p area))) (faulty 19 p)
 
 unfoldable pub bad_basic_check : Port → List ℕ → Option Refusal
 bad_basic_check port area = bad_basic_by (basic_in (walk_at port area)) area
@@ -112,7 +110,7 @@ missing_basic_check port area = missing_basic_by (arriving_basic port area) port
 -- what passes a port one way: no option 130 where it is switched off; where it is on, one whose level and flags are permitted
 abbrev pub basic_passes : Bool → Way → Option (List ℕ) → Bool
 basic_passes on way none = not on
-basic_passes on way (some o) = on && passes_way way (basic_reading o).level (basic_reading o).flags
+basic_passes on way (some o) = on && passes_read way (basic_reading o)
 
 -- 21: level or flags out of the arriving port's range
 unfoldable pub basic_range_check : Port → List ℕ → ℕ → Option Refusal
@@ -121,8 +119,8 @@ basic_range_check port area code =
 
 -- the datagram's label: its own, or the port's assigned one where it has none
 abbrev pub label_by : Place → Port → List ℕ → Label
-label_by Nowhere port area = port.assigned
-label_by (At p) port area = (reading_for port.domain (option_at p area)).label
+label_by None port area = port.assigned
+label_by (Some p) port area = (reading_for port.domain (option_at p area)).label
 
 unfoldable pub arriving_label : Port → List ℕ → Label
 arriving_label port area = label_by (place_in (walk_at port area)) port area

@@ -1,15 +1,14 @@
 -- What the stages of an arrival answer, in the terms of the checks.
-use Rattle.std.specs.Prelude.{Bool, cond, not, ◌||◌, List, [], ◌∷◌, ◌≡◌, ℕ, eqb, take}
+use Rattle.std.specs.Prelude.{Bool, cond, not, ◌||◌, List, [], ◌∷◌, ◌≡◌, ℕ, eqb, take, None}
 use Rattle.std.proofs.Math.Option.{Option, none, some}
 use Rattle.label.specs.declared.Label.{Label}
 use Rattle.label.specs.Label.{used, in_range}
 use Rattle.label_keys.specs.Keys.{key_runs}
 use Rattle.label_keys.specs.Range.{answered, look_of, runs_between}
-use Rattle.area.specs.declared.Place.{Place}
+use Rattle.area.specs.Kinds.{Place}
 use Rattle.area.specs.Area.{octets_at}
-use Rattle.basic.specs.declared.BasicReading.{BasicReading}
 use Rattle.basic.specs.declared.Way.{Way}
-use Rattle.basic.specs.Alone.{basic_bad, basic_reading}
+use Rattle.basic.specs.Alone.{BasicRead, basic_reading}
 use Rattle.port.specs.declared.Port.{Port}
 use Rattle.decision.specs.declared.Verdict.{Verdict}
 use Rattle.decision.specs.Decision.{Refusal}
@@ -52,8 +51,8 @@ abbrev pub before_range : Verdict → Option Refusal → Verdict
 before_range r o = cond (is_open r.number) (instead_of r o) r
 
 -- the level and flags of an area's option 130, if it has one
-abbrev pub basic_read : Option (List ℕ) → BasicReading
-basic_read none = basic_bad
+abbrev pub basic_read : Option (List ℕ) → BasicRead
+basic_read none = None
 basic_read (some o) = basic_reading o
 
 -- whether a verdict's level and keys lie between two labels

@@ -4,10 +4,8 @@ use Rattle.std.proofs.Math.Option.{Option}
 use Rattle.label.specs.Label.{used}
 use Rattle.label_keys.specs.Keys.{key_runs, with_keys}
 use Rattle.option_read.specs.Keys.{keys_after}
-use Rattle.area.specs.declared.Place.{Place}
-use Rattle.area.specs.declared.Place.TheVariants.{Nowhere, At}
-use Rattle.area.specs.declared.Walk.{Walk}
-use Rattle.area.specs.declared.Walk.TheVariants.{Sound, Refused}
+use Rattle.std.specs.Prelude.{Ok, Err, Some, None}
+use Rattle.area.specs.Kinds.{Place, Walk}
 use Rattle.port.specs.declared.Port.{Port}
 use Rattle.port.specs.Port.{port_sound}
 use Rattle.decision.specs.declared.Verdict.{Verdict}
@@ -27,12 +25,12 @@ arrival_of port area code room =
 
 -- the keys at the end: those of the option, where one is read; those of the assigned label, where it is taken; else as they were
 abbrev pub keys_by : Place → Port → List ℕ → List ℕ → List ℕ
-keys_by Nowhere port area keys = cond port.required keys (with_keys port.assigned keys)
-keys_by (At p) port area keys = keys_after port.domain (option_at p area) keys
+keys_by None port area keys = cond port.required keys (with_keys port.assigned keys)
+keys_by (Some p) port area keys = keys_after port.domain (option_at p area) keys
 
 abbrev pub keys_walked : Walk → Port → List ℕ → List ℕ → List ℕ
-keys_walked (Sound label basic) port area keys = keys_by label port area keys
-keys_walked (Refused n at) port area keys = keys
+keys_walked (Ok met) port area keys = keys_by met.label port area keys
+keys_walked (Err r) port area keys = keys
 
 unfoldable pub arrival_keys : Port → List ℕ → List ℕ → List ℕ
 arrival_keys port area keys =

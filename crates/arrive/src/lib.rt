@@ -2,10 +2,9 @@
 // and 10).
 #![tactic(auto)]
 
-ghost use Rattle.std.specs.Prelude.{◌≡◌, true, cond, ◌≤◌, length};
+ghost use Rattle.std.specs.Prelude.{◌≡◌, true, cond, ◌≤◌, length, Some};
 ghost use Rattle.area.specs.Area.{walk_of, octets_at, placed_within, WholeAt};
 ghost use Rattle.area.specs.declared.Kind.TheVariants.{Basic, Cipso};
-ghost use Rattle.area.specs.declared.Place.TheVariants.{At};
 ghost use Rattle.basic.specs.Alone.{basic_reading};
 ghost use Rattle.port.specs.Port.{port_sound};
 ghost use Rattle.arrive.specs.Verdict.{Arrives};
@@ -13,8 +12,8 @@ ghost use Rattle.decision.specs.Verdict.{stopped, going};
 ghost use Rattle.arrive.specs.Checks.{first_of, basic_in, option_at};
 ghost use Rattle.arrive.specs.Stages.{ArrivesAt, basic_checks, is_open, before_range, basic_read, held_between};
 
-use area::{Place, Walk, bad_area, walk_area};
-use basic::{BASIC_TYPE, BasicReading, Way, passes_way, read_basic};
+use area::{bad_area, walk_area};
+use basic::{BAD_BASIC, BASIC_TYPE, BasicReading, Way, passes_way, read_basic};
 use decision::{HEADER_OCTETS, Verdict, barred, faulty, go_on, missing, silent};
 use label::Label;
 use label_keys::{Look, label_keys, look_between, runs_between};
@@ -39,14 +38,14 @@ pub fn arrive(port: Port, area: &[u8], code: u8, keys: &mut [u32]) -> Verdict
     }
     let on = port.basic.on;
     match walk_area(area, on) {
-        Walk::Refused(number, at) => faulty(number, (HEADER_OCTETS + at) as u8),
-        Walk::Sound(label, basic) => {
-            let arrived = arrive_at(port, area, label, code, keys);
+        Err(fault) => faulty(fault.number, (HEADER_OCTETS + fault.at) as u8),
+        Ok(met) => {
+            let arrived = arrive_at(port, area, met.label, code, keys);
             if !on {
                 // no option 130 was met
                 return arrived;
             }
-            check_basic(arrived, port.basic.receiving, area, basic, code)
+            check_basic(arrived, port.basic.receiving, area, met.basic, code)
         }
     }
 }
@@ -58,21 +57,17 @@ pub fn is_open(number: u8) -> bool
     (number == 0) | (number == 14)
 }
 
-// The level and flags of the area's option 130; 19 where its walk meets none, or one that is not valid.
-pub fn find_basic(area: &[u8]) -> BasicReading
+// The level and flags of the area's option 130; none where its walk meets none, or one that is not valid.
+pub fn find_basic(area: &[u8]) -> Option<BasicReading>
     ensures { result ≡ basic_read (octets_at (basic_in (walk_of true area.now)) area.now) }
 {
-    match walk_area(area, true) {
-        Walk::Refused(_, _) => BasicReading::bad(),
-        Walk::Sound(_, place) => match place {
-            Place::Nowhere => BasicReading::bad(),
-            Place::At(at) => read_basic_at(area, at),
-        },
-    }
+    let met = walk_area(area, true).ok()?;
+    let at = met.basic?;
+    read_basic_at(area, at)
 }
 
 // Checks 6 to 13 and 23, and 14, with the place of the option 134.
-fn arrive_at(port: Port, area: &[u8], place: Place, code: u8, keys: &mut [u32]) -> Verdict
+fn arrive_at(port: Port, area: &[u8], place: Option<usize>, code: u8, keys: &mut [u32]) -> Verdict
     requires area_len_bound { length area.now ≤ 40 }
     requires placed_in { placed_within Cipso place area.now }
     requires port_value { port_sound port ≡ true }
@@ -80,7 +75,7 @@ fn arrive_at(port: Port, area: &[u8], place: Place, code: u8, keys: &mut [u32]) 
     ensures { ArrivesAt place port area.now code keys.old keys.new result }
 {
     match place {
-        Place::Nowhere => {
+        None => {
             if port.required {
                 return missing(6, OPTION_TYPE);
             }
@@ -89,7 +84,7 @@ fn arrive_at(port: Port, area: &[u8], place: Place, code: u8, keys: &mut [u32]) 
             label_keys(label, keys);
             go_on(label.level, label.count)
         }
-        Place::At(at) => read_at(port, area, at, code, keys),
+        Some(at) => read_at(port, area, at, code, keys),
     }
 }
 
@@ -99,26 +94,26 @@ fn read_at(port: Port, area: &[u8], at: usize, code: u8, keys: &mut [u32]) -> Ve
     requires whole_at { WholeAt Cipso area.now at }
     requires port_value { port_sound port ≡ true }
     requires in_bounds { 120 ≤ length keys.old }
-    ensures { ArrivesAt (At at) port area.now code keys.old keys.new result }
+    ensures { ArrivesAt (Some at) port area.now code keys.old keys.new result }
 {
     let next = at + 1;
     let n = area[next] as usize;
     let end = at + n;
     let read = read_keys(&area[at..end], port.domain, &mut keys[..]);
-    if stops_slack(port.strict, read.number, &area[at..end]) {
+    if stops_slack(port.strict, read, &area[at..end]) {
         return faulty(23, (HEADER_OCTETS + (at + CATEGORIES_AT)) as u8);
     }
-    if read.number != 0 {
-        return faulty(read.number, (HEADER_OCTETS + (at + read.pointer)) as u8);
+    match read {
+        Err(fault) => faulty(fault.number, (HEADER_OCTETS + (at + fault.at)) as u8),
+        Ok(held) => hold_within(
+            held.level,
+            held.count,
+            port.lowest,
+            port.highest,
+            code,
+            &keys[..],
+        ),
     }
-    hold_within(
-        read.level,
-        read.count,
-        port.lowest,
-        port.highest,
-        code,
-        &keys[..],
-    )
 }
 
 // Check 14 of a level and the first keys: a first look at the range, and a pass where it leaves the answer open.
@@ -145,7 +140,7 @@ fn hold_within(
 }
 
 // Checks 19 to 21 of a port that reads option 130, which come before 14, with the place of the option 130.
-fn check_basic(arrived: Verdict, way: Way, area: &[u8], place: Place, code: u8) -> Verdict
+fn check_basic(arrived: Verdict, way: Way, area: &[u8], place: Option<usize>, code: u8) -> Verdict
     requires area_len_bound { length area.now ≤ 40 }
     requires placed_in { placed_within Basic place area.now }
     ensures { result ≡ before_range arrived (first_of (basic_checks place true way area.now code)) }
@@ -154,12 +149,11 @@ fn check_basic(arrived: Verdict, way: Way, area: &[u8], place: Place, code: u8) 
         return arrived;
     }
     match place {
-        Place::Nowhere => missing(20, BASIC_TYPE),
-        Place::At(at) => {
-            let read = read_basic_at(area, at);
-            if read.number != 0 {
-                return faulty(19, (HEADER_OCTETS + at) as u8);
-            }
+        None => missing(20, BASIC_TYPE),
+        Some(at) => {
+            let Some(read) = read_basic_at(area, at) else {
+                return faulty(BAD_BASIC, (HEADER_OCTETS + at) as u8);
+            };
             if !passes_way(way, read.level, read.flags) {
                 return barred(21, code);
             }
@@ -169,7 +163,7 @@ fn check_basic(arrived: Verdict, way: Way, area: &[u8], place: Place, code: u8) 
 }
 
 // Reads the option 130 at an octet.
-fn read_basic_at(area: &[u8], at: usize) -> BasicReading
+fn read_basic_at(area: &[u8], at: usize) -> Option<BasicReading>
     requires { WholeAt Basic area.now at }
     ensures { result ≡ basic_reading (option_at at area.now) }
 {

@@ -2,7 +2,7 @@
 use mathlib.Core.Path.{refl}
 use Rattle.basic.specs.Levels.{is_level, rank_of, at_most}
 use Rattle.basic.specs.Option.{basic_valid}
-use Rattle.basic.specs.Alone.{basic_reading, flag_octets_for, writing_number, basic_writing, basic_out}
+use Rattle.basic.specs.Alone.{basic_reading, flag_octets_for, basic_writing, basic_out}
 use Rattle.basic.specs.Settings.{way_sound, way_zero, basic_sound}
 use Rattle.basic.specs.Examples.{examples, Read, Written, WrittenAlone, FourInOrder, WorkedSettings}
 
@@ -15,8 +15,8 @@ unfolding flag_octets_for
 examples_written = (refl, refl, refl, refl)
 
 pub written_alone : WrittenAlone
-unfolding is_level flag_octets_for writing_number basic_writing basic_out
-written_alone = (refl, refl, refl, refl, refl, refl, refl)
+unfolding is_level flag_octets_for basic_writing basic_out
+written_alone = (refl, refl, refl, refl, refl, refl, refl, refl, refl)
 
 pub four_in_order : FourInOrder
 unfolding is_level rank_of at_most

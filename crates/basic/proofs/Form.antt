@@ -8,9 +8,10 @@ use lib.Dec.{eqb}
 use lib.ListN.{length, get_or}
 use borrow.Author.Tests.{eqb-true, eqb-false, eq-eqb, ne_eqb, le-leb, lt-leb}
 use Rattle.label.proofs.Bools.{never, and_left, and_right}
+use Rattle.std.specs.Prelude.{None}
 use Rattle.basic.specs.Levels.{is_level}
 use Rattle.basic.specs.Option.{basic_level, more_follows, basic_flags, basic_valid}
-use Rattle.basic.specs.Alone.{basic_found, basic_bad, basic_reading}
+use Rattle.basic.specs.Alone.{basic_found, basic_reading}
 use Rattle.basic.specs.Stages.{framed_at, ended_at}
 
 last_bit : (x : ℕ) → not (more_follows x) ≡ eqb (x % 2) 0
@@ -49,7 +50,7 @@ valid_at (a ∷ b ∷ v ∷ x ∷ y ∷ []) = rw (last_bit y) (regroup (eqb a 13
 valid_at (a ∷ b ∷ v ∷ x ∷ y ∷ z ∷ o) = too_long a b v x y z o ∙ rw (lt-leb (length (a ∷ b ∷ v ∷ x ∷ y ∷ z ∷ o)) 5 (omega arith), le-leb 3 (length (a ∷ b ∷ v ∷ x ∷ y ∷ z ∷ o)) (omega arith))
 
 -- and what reading answers
-pub reading_at : (o : List ℕ) → basic_reading o ≡ cond (framed_at (length o) (get_or o 0 0) (get_or o 1 0) && (is_level (get_or o 2 0) && ended_at (length o) (get_or o 3 0) (get_or o 4 0))) (basic_found (basic_level o) (basic_flags o)) basic_bad
+pub reading_at : (o : List ℕ) → basic_reading o ≡ cond (framed_at (length o) (get_or o 0 0) (get_or o 1 0) && (is_level (get_or o 2 0) && ended_at (length o) (get_or o 3 0) (get_or o 4 0))) (basic_found (basic_level o) (basic_flags o)) None
 unfolding basic_reading
 reading_at o = rw (valid_at o)
 

@@ -8,6 +8,7 @@ use native.Mathlib.Omega.{arith}
 use lib.Dec.{leb, ltb, eqb}
 use lib.ListN.{length}
 use borrow.Author.Tests.{eqb-true, ltb-true, leb-true, le-leb, lt-ltb, eq-eqb}
+use Rattle.std.specs.Prelude.{Option, Some, None, MatchOption, is_some}
 use Rattle.label.proofs.Bools.{never, and_left, and_right, and_both, or_cases, same_yes}
 use Rattle.basic.specs.declared.Level.{Level}
 use Rattle.basic.specs.Levels.{levels, is_in, rank_in, is_level, rank_of, at_most, bits_apart, far_from_all, table_rule}
@@ -158,6 +159,10 @@ rank_level x h = is_level_lem x (omega (arith, ranked_most x))
 
 pub rank_no_level : (x : ℕ) → rank_of x ≡ 4 → is_level x ≡ false
 rank_no_level x h = level_is x ∙ ap (λ (k : ℕ). ltb k 4) h
+
+pub level_ranked : (x : ℕ) (r : Option ℕ) → MatchOption r (rank_of x ≡ 4) (λ k. (rank_of x ≡ k) × (k < 4)) → is_some r ≡ true → is_level x ≡ true
+level_ranked x (Some k) m e = is_level_lem x (omega (arith, m.0, m.1))
+level_ranked x None m e = absurd (never (sym e))
 
 -- the code's comparing of ranks
 pub at_most_is : (a b : ℕ) → at_most a b ≡ (leb (rank_of a) (rank_of b) && ltb (rank_of b) 4)

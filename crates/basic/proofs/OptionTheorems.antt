@@ -10,16 +10,18 @@ use lib.ListN.{length, take, drop, length-append, length-drop}
 use lib.Seq.{take_at, drop_at}
 use borrow.Author.Tests.{leb-true}
 use Rattle.label.proofs.Bools.{never, and_left, and_right, not_yes}
+use Rattle.std.specs.Prelude.{is_some, Some, None, Result, Ok, Err}
 use Rattle.option.specs.Option.{Octets}
 use Rattle.basic.specs.declared.BasicReading.{BasicReading}
-use Rattle.basic.specs.declared.BasicWriting.{BasicWriting}
+use Rattle.basic.specs.declared.BasicError.{BasicError}
+use Rattle.basic.specs.declared.BasicError.TheVariants.{Short, Bad}
 use Rattle.basic.specs.Levels.{is_level}
 use Rattle.basic.specs.Option.{basic_level, basic_flags, basic_valid, BasicMeans}
-use Rattle.basic.specs.Alone.{basic_found, basic_reading, basic_option, writable, writing_number, basic_writing, basic_out}
+use Rattle.basic.specs.Alone.{basic_found, basic_reading, basic_option, writable, number_of, basic_writing, basic_out}
 use Rattle.basic.specs.OptionTheorems.{ReadsBasic, OneMeaning, ShortestBasic, WritesBasic}
 use Rattle.basic.proofs.Levels.{level_octet}
 use Rattle.basic.proofs.Form.{Form, bare, one, two, form, bare_valid, one_valid, two_valid}
-use Rattle.basic.proofs.Writing.{FlagsFor, no_flags_lem, first_only, both_octets, flags_for, option_none, option_one, option_two, number_short, number_bad, number_done, can_write, refused_by, done_by}
+use Rattle.basic.proofs.Writing.{FlagsFor, no_flags_lem, first_only, both_octets, flags_for, option_none, option_one, option_two, writes_short, writes_bad, writes_done, can_write, refused_by, done_by}
 
 -- Reading.
 
@@ -27,13 +29,16 @@ reading_found : (o : List ℕ) → basic_valid o ≡ true → basic_reading o �
 unfolding basic_reading
 reading_found o e = rw e
 
-reading_number : (o : List ℕ) → (basic_reading o).number ≡ 0 → basic_valid o ≡ true
+reading_none : (o : List ℕ) → basic_valid o ≡ false → basic_reading o ≡ None
 unfolding basic_reading
-reading_number o e = go (basic_valid o) refl
+reading_none o e = rw e
+
+reading_valid : (o : List ℕ) → is_some (basic_reading o) ≡ true → basic_valid o ≡ true
+reading_valid o e = go (basic_valid o) refl
   where
     go : (t : Bool) → basic_valid o ≡ t → basic_valid o ≡ true
     go true p = p
-    go false p = let z : ◌≡◌ {A = ℕ} 19 0 = rw p at e in absurd (omega arith)
+    go false p = absurd (never (sym e ∙ ap is_some (reading_none o p)))
 
 means_own : (o : List ℕ) → Octets o → basic_valid o ≡ true → BasicMeans o (basic_level o) (basic_flags o)
 means_own o h e = record { octets = h; good = e; level = refl; flags = refl }
@@ -41,13 +46,17 @@ means_own o h e = record { octets = h; good = e; level = refl; flags = refl }
 reading_back : (o : List ℕ) (v f : ℕ) → BasicMeans o v f → basic_reading o ≡ basic_found v f
 reading_back o v f m = reading_found o m.good ∙ (λ i. basic_found (m.level i) (m.flags i))
 
-reading_means : (o : List ℕ) → Octets o → (basic_reading o).number ≡ 0 → BasicMeans o (basic_reading o).level (basic_reading o).flags
-reading_means o h e = let g = reading_number o e in rw (reading_found o g) (means_own o h g)
+reading_means : (o : List ℕ) (r : BasicReading) → Octets o → basic_reading o ≡ Some r → BasicMeans o r.level r.flags
+reading_means o r h e =
+    let g = reading_valid o (ap is_some e) in
+    let k : Some r ≡ basic_found (basic_level o) (basic_flags o) = sym e ∙ reading_found o g in
+    let q : r ≡ record { level = basic_level o; flags = basic_flags o } = cc in
+    rw q (means_own o h g)
 
 pub reads_basic_lem : ReadsBasic
 reads_basic_lem =
     record {
-      exactly = λ o. (reading_number o, λ e. ap (λ (r : BasicReading). r.number) (reading_found o e));
+      exactly = λ o. (reading_valid o, λ e. ap is_some (reading_found o e));
       means = reading_means;
       back = reading_back;
     }
@@ -156,53 +165,37 @@ cannot v f = (
 )
 
 -- The ways that writing into n octets goes.
-data Result (v f n : ℕ) : Type 0 where
-  refusal : (k : ℕ) → (k ≡ 0 → ⊥) → (k ≡ 1 → n < 5) → writing_number v f n ≡ k → Result v f n
-  option : writing_number v f n ≡ 0 → Result v f n
+data Ways (v f n : ℕ) : Type 0 where
+  refusal : (e : BasicError) → (e ≡ Short → n < 5) → basic_writing v f n ≡ Err e → Ways v f n
+  option : 5 ≤ n → basic_writing v f n ≡ Ok (length (basic_option v f)) → Ways v f n
 
-result : (v f n : ℕ) → Result v f n
-result v f n = go (dec_le 5 n) (writable v f) refl
+ways : (v f n : ℕ) → Ways v f n
+ways v f n = go (dec_le 5 n) (writable v f) refl
   where
-    go : Dec (5 ≤ n) → (t : Bool) → writable v f ≡ t → Result v f n
-    go (no h) t e = refusal 1 (λ z. omega arith) (λ z. omega arith) (number_short v f n (omega arith))
-    go (yes h) false e = refusal 19 (λ z. omega arith) (λ z. omega arith) (number_bad v f n h e)
-    go (yes h) true e = option (number_done v f n h e)
+    go : Dec (5 ≤ n) → (t : Bool) → writable v f ≡ t → Ways v f n
+    go (no h) t e = refusal Short (λ z. omega arith) (writes_short v f n (omega arith))
+    go (yes h) false e = refusal Bad (λ z. absurd (omega (arith, ap number_of z))) (writes_bad v f n h e)
+    go (yes h) true e = option h (writes_done v f n h e)
 
-number_is : (v f n : ℕ) → (basic_writing v f n).number ≡ writing_number v f n
-unfolding basic_writing
-number_is v f n = refl
-
-short_one : (v f n : ℕ) → (basic_writing v f n).number ≡ 1 → n < 5
-short_one v f n e = go (result v f n)
+short_one : (v f n : ℕ) → basic_writing v f n ≡ Err Short → n < 5
+short_one v f n q = go (ways v f n)
   where
-    go : Result v f n → n < 5
-    go (refusal k d h p) = h (sym p ∙ sym (number_is v f n) ∙ e)
-    go (option p) = absurd (omega (arith, p, number_is v f n))
-
-left_alone : (v f : ℕ) (out : List ℕ) → ((basic_writing v f (length out)).number ≡ 0 → ⊥)
-    → ((basic_writing v f (length out)).count ≡ 0) × (basic_out v f out ≡ out)
-left_alone v f out d = go (result v f (length out))
-  where
-    go : Result v f (length out) → ((basic_writing v f (length out)).count ≡ 0) × (basic_out v f out ≡ out)
-    go (refusal k z h p) = let l = refused_by v f out k z p in (sym (ap (λ (r : BasicWriting). r.count) l.0), sym l.1)
-    go (option p) = absurd (d (number_is v f (length out) ∙ p))
+    go : Ways v f n → n < 5
+    go (refusal e h p) = let w : ◌≡◌ {A = Result ℕ BasicError} (Err e) (Err Short) = sym p ∙ q in let k : e ≡ Short = cc in h k
+    go (option h p) = absurd (let w : ◌≡◌ {A = Result ℕ BasicError} (Ok (length (basic_option v f))) (Err Short) = sym p ∙ q in let z : ◌≡◌ {A = ℕ} 0 1 = cc in omega arith)
 
 module _ (v f : ℕ) (out : List ℕ) (w : writable v f ≡ true) (long : 5 ≤ length out) where
   out_is : (basic_option v f ++ drop (length (basic_option v f)) out) ≡ basic_out v f out
-  out_is = (done_by v f out (number_done v f (length out) long w)).1
+  out_is = (done_by v f out (writes_done v f (length out) long w)).1
 
-  all_done : ((basic_writing v f (length out)).number ≡ 0)
-      × ((basic_writing v f (length out)).count ≡ length (basic_option v f))
+  all_done : (basic_writing v f (length out) ≡ Ok (length (basic_option v f)))
       × (take (length (basic_option v f)) (basic_out v f out) ≡ basic_option v f)
       × (drop (length (basic_option v f)) (basic_out v f out) ≡ drop (length (basic_option v f)) out)
-  all_done =
-      let n = number_done v f (length out) long w in
-      let l = done_by v f out n in (
-        number_is v f (length out) ∙ n,
-        sym (ap (λ (r : BasicWriting). r.count) l.0),
-        rw (sym out_is) (take_at (basic_option v f) (drop (length (basic_option v f)) out) (length (basic_option v f)) refl),
-        rw (sym out_is) (drop_at (basic_option v f) (drop (length (basic_option v f)) out) (length (basic_option v f)) refl),
-      )
+  all_done = (
+    writes_done v f (length out) long w,
+    rw (sym out_is) (take_at (basic_option v f) (drop (length (basic_option v f)) out) (length (basic_option v f)) refl),
+    rw (sym out_is) (drop_at (basic_option v f) (drop (length (basic_option v f)) out) (length (basic_option v f)) refl),
+  )
 
 -- an option has at most five octets
 at_most_five : (v f : ℕ) → FlagsFor f → length (basic_option v f) ≤ 5
@@ -211,12 +204,11 @@ at_most_five v f (first_only d z) = omega (arith, ap length (option_one v f d z)
 at_most_five v f (both_octets d) = omega (arith, ap length (option_two v f d))
 
 same_size : (v f : ℕ) (out : List ℕ) → length (basic_out v f out) ≡ length out
-same_size v f out = go (result v f (length out)) (dec_le 5 (length out))
+same_size v f out = go (ways v f (length out))
   where
-    go : Result v f (length out) → Dec (5 ≤ length out) → length (basic_out v f out) ≡ length out
-    go (refusal k z h p) t = sym (ap length (refused_by v f out k z p).1)
-    go (option p) (no h) = absurd (omega (arith, p, number_short v f (length out) (omega arith)))
-    go (option p) (yes h) =
+    go : Ways v f (length out) → length (basic_out v f out) ≡ length out
+    go (refusal e h p) = sym (ap length (refused_by v f out e p).1)
+    go (option h p) =
         let s = basic_option v f in
         sym (ap length (done_by v f out p).1)
         ∙ omega (arith, length-append s (drop (length s) out), length-drop (length s) out, at_most_five v f (flags_for f))
@@ -228,7 +220,7 @@ writes_basic =
       shortest = one_shortest;
       back = λ v f w. reading_back (basic_option v f) v f (written v f w);
       done = all_done;
-      short = λ v f n. (short_one v f n, λ h. number_is v f n ∙ number_short v f n h);
-      refused = left_alone;
+      short = λ v f n. (short_one v f n, writes_short v f n);
+      refused = λ v f out e w. sym (refused_by v f out e w).1;
       sized = same_size;
     }

@@ -1,17 +1,16 @@
--- Laws of the settings: one more place of a set, as a loop meets it.
+-- Laws of the settings.
 use Prim.Native.Nat.{ℕ, zero, suc, ◌+◌, ◌<◌}
 use mathlib.Core.Path.{◌≡◌, refl, sym, ◌∙◌, ap}
-use mathlib.Core.Bool.{Bool, true, false, not, ◌&&◌, ◌||◌}
+use mathlib.Core.Bool.{Bool, true, false, not, ◌&&◌, ◌||◌, and-true, or-false}
 use mathlib.Core.List.{List, [], ◌∷◌}
 use mathlib.Core.Logic.{⊎_elim}
 use native.Mathlib.Omega.{arith}
+use native.Mathlib.Numerals.{add-one}
 use lib.Dec.{eqb}
 use lib.Bits.{bit_or, or_add_and, and_le_l, and_le_r}
-use lib.ListN.{length, get_or, take, drop, replicate, length-take}
+use lib.ListN.{length, get_or, take, replicate}
 use borrow.Author.Tests.{eqb-true, eq-eqb, not-true}
-use lib.Seq.{get_or-take}
 use Rattle.label.proofs.Bools.{never, and_left, and_right, and_both, or_cases, or_true_right, same_yes}
-use Rattle.label.proofs.Steps.{next}
 use Rattle.basic.specs.declared.Way.{Way}
 use Rattle.basic.specs.declared.Basic.{Basic}
 use Rattle.basic.specs.Settings.{no_way, basic_off, unused, way_sound, way_zero, basic_sound, is_off, among}
@@ -34,20 +33,20 @@ and_assoc : (a b c : Bool) → (a && (b && c)) ≡ ((a && b) && c)
 and_assoc true b c = refl
 and_assoc false b c = refl
 
-pub unused_step : (fs : List ℕ) (any i : ℕ) → i < length fs
-    → (eqb any 0 && unused (drop i fs)) ≡ (eqb (bit_or any (get_or fs i 0)) 0 && unused (drop (i + 1) fs))
-unused_step fs any i h =
-    rw (next 0 fs i h, or_zero any (get_or fs i 0)) (and_assoc (eqb any 0) (eqb (get_or fs i 0) 0) (unused (drop (i + 1) fs)))
+-- one more place
+pub unused_more : (fs : List ℕ) (i : ℕ) → i < length fs → unused (take (i + 1) fs) ≡ (unused (take i fs) && eqb (get_or fs i 0) 0)
+unused_more [] i h = absurd (omega arith)
+unused_more (x ∷ xs) zero h = and-true (eqb x 0)
+unused_more (x ∷ xs) (suc i) h =
+    rw add-one (ap (λ (b : Bool). eqb x 0 && b) (rw add-one at (unused_more xs i (omega arith))) ∙ and_assoc (eqb x 0) (unused (take i xs)) (eqb (get_or xs i 0) 0))
 
-or_assoc : (a b c : Bool) → (a || (b || c)) ≡ ((a || b) || c)
-or_assoc true b c = refl
-or_assoc false b c = refl
+pub any_zero : (any x : ℕ) (rest : Bool) → eqb any 0 ≡ rest → eqb (bit_or any x) 0 ≡ (rest && eqb x 0)
+any_zero any x rest e = or_zero any x ∙ ap (λ (b : Bool). b && eqb x 0) e
 
-pub among_step : (fs : List ℕ) (n f i : ℕ) (found same : Bool) → i < n → i < length fs → same ≡ eqb (get_or fs i 0) f
-    → (found || among (drop i (take n fs)) f) ≡ ((found || same) || among (drop (i + 1) (take n fs)) f)
-among_step fs n f i found same h k e =
-    let l : i < length (take n fs) = simp length-take (omega arith) in
-    rw (next 0 (take n fs) i l, get_or-take n fs i 0 h, e) (or_assoc found (eqb (get_or fs i 0) f) (among (drop (i + 1) (take n fs)) f))
+pub among_more : (fs : List ℕ) (f i : ℕ) → i < length fs → among (take (i + 1) fs) f ≡ (among (take i fs) f || eqb (get_or fs i 0) f)
+among_more [] f i h = absurd (omega arith)
+among_more (x ∷ xs) f zero h = or-false (eqb x f)
+among_more (x ∷ xs) f (suc i) h = grind (arith, among_more xs f i)
 
 -- a member stands at a place
 pub among_says : (fs : List ℕ) (f : ℕ) → among fs f ≡ true → (k : ℕ) × (k < length fs) × (get_or fs k 0 ≡ f)

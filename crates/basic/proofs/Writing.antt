@@ -1,15 +1,17 @@
--- Laws of writing: the flag octets of a flag field, the answer by its number, and what the stores leave.
+-- Laws of writing: the flag octets of a flag field, the answer, and what the stores leave.
 use Prim.Native.Nat.{ℕ, ◌+◌, ◌*◌, ◌/◌, ◌%◌, ◌≤◌, ◌<◌}
-use mathlib.Core.Path.{◌≡◌, refl, ap, subst, ◌∙◌}
+use mathlib.Core.Path.{◌≡◌, refl, sym, ap, subst, ◌∙◌}
 use mathlib.Core.Bool.{Bool, true, false}
 use mathlib.Core.List.{List, [], ◌∷◌, ◌++◌}
 use native.Mathlib.Omega.{arith}
 use lib.Dec.{eqb}
 use lib.ListN.{length, set, drop}
-use borrow.Author.Tests.{eqb-true, eqb-false, eq-eqb, ne_eqb, lt-ltb, le-ltb, le-leb, lt-leb}
-use Rattle.basic.specs.declared.BasicWriting.{BasicWriting}
+use borrow.Author.Tests.{eqb-true, eqb-false, eq-eqb, ne_eqb, lt-ltb, le-ltb, le-leb}
+use Rattle.std.specs.Prelude.{Result, Ok, Err}
+use Rattle.basic.specs.declared.BasicError.{BasicError}
+use Rattle.basic.specs.declared.BasicError.TheVariants.{Short, Bad}
 use Rattle.basic.specs.Levels.{is_level}
-use Rattle.basic.specs.Alone.{flag_octets_for, basic_option, writable, writing_number, basic_writing, basic_out}
+use Rattle.basic.specs.Alone.{flag_octets_for, basic_option, writable, basic_writing, basic_out}
 
 -- The flag octets: none, one or two.
 pub data FlagsFor (f : ℕ) : Type 0 where
@@ -39,44 +41,35 @@ flags_two f d =
     let z : f ≡ 0 → ⊥ = λ e. d (omega arith) in
     rw (ne_eqb f 0 z, ne_eqb (f % 128) 0 d)
 
--- The number.
+-- The answer.
 
-pub number_short : (v f n : ℕ) → n < 5 → writing_number v f n ≡ 1
-unfolding writing_number
-number_short v f n h = rw (lt-ltb n 5 h)
+pub writes_short : (v f n : ℕ) → n < 5 → basic_writing v f n ≡ Err Short
+unfolding basic_writing
+writes_short v f n h = rw (lt-ltb n 5 h)
 
-pub number_bad : (v f n : ℕ) → 5 ≤ n → writable v f ≡ false → writing_number v f n ≡ 19
-unfolding writing_number
-number_bad v f n h e = rw (le-ltb n 5 h, e)
+pub writes_bad : (v f n : ℕ) → 5 ≤ n → writable v f ≡ false → basic_writing v f n ≡ Err Bad
+unfolding basic_writing
+writes_bad v f n h e = rw (le-ltb n 5 h, e)
 
-pub number_done : (v f n : ℕ) → 5 ≤ n → writable v f ≡ true → writing_number v f n ≡ 0
-unfolding writing_number
-number_done v f n h e = rw (le-ltb n 5 h, e)
-
-pub no_level : (v f : ℕ) → is_level v ≡ false → writable v f ≡ false
-no_level v f e = rw e
-
-pub too_many : (v f : ℕ) → is_level v ≡ true → 16383 < f → writable v f ≡ false
-too_many v f e h = rw (e, lt-leb f 16383 h)
+pub writes_done : (v f n : ℕ) → 5 ≤ n → writable v f ≡ true → basic_writing v f n ≡ Ok (length (basic_option v f))
+unfolding basic_writing
+writes_done v f n h e = rw (le-ltb n 5 h, e)
 
 pub can_write : (v f : ℕ) → is_level v ≡ true → f ≤ 16383 → writable v f ≡ true
 can_write v f e h = rw (e, le-leb f 16383 h)
 
 -- What a refusal and a written option answer and leave.
-abbrev pub answer : ℕ → ℕ → BasicWriting
-answer k n = record { number = k; count = n }
-
-abbrev pub Leaves : ℕ → ℕ → List ℕ → BasicWriting → List ℕ → Type 0
+abbrev pub Leaves : ℕ → ℕ → List ℕ → Result ℕ BasicError → List ℕ → Type 0
 Leaves v f out r out' = (r ≡ basic_writing v f (length out)) × (out' ≡ basic_out v f out)
 
-pub refused_by : (v f : ℕ) (out : List ℕ) (k : ℕ) → (k ≡ 0 → ⊥) → writing_number v f (length out) ≡ k → Leaves v f out (answer k 0) out
-unfolding basic_writing basic_out
-refused_by v f out k d e = (rw (e, ne_eqb k 0 d), rw (e, ne_eqb k 0 d))
+pub refused_by : (v f : ℕ) (out : List ℕ) (e : BasicError) → basic_writing v f (length out) ≡ Err e → Leaves v f out (Err e) out
+unfolding basic_out
+refused_by v f out e w = (sym w, rw (w, basic_out))
 
-pub done_by : (v f : ℕ) (out : List ℕ) → writing_number v f (length out) ≡ 0
-    → Leaves v f out (answer 0 (length (basic_option v f))) (basic_option v f ++ drop (length (basic_option v f)) out)
-unfolding basic_writing basic_out
-done_by v f out e = (rw e, rw e)
+pub done_by : (v f : ℕ) (out : List ℕ) → basic_writing v f (length out) ≡ Ok (length (basic_option v f))
+    → Leaves v f out (Ok (length (basic_option v f))) (basic_option v f ++ drop (length (basic_option v f)) out)
+unfolding basic_out
+done_by v f out w = (sym w, rw (w, basic_out))
 
 -- Five octets or more.
 pub data Five : List ℕ → Type 0 where
@@ -94,12 +87,6 @@ has_five (a ∷ b ∷ c ∷ d ∷ e ∷ o) h = five
 stored_bare : (o : List ℕ) (v : ℕ) → Five o → set (set (set o 0 130) 2 v) 1 3 ≡ (130 ∷ 3 ∷ v ∷ []) ++ drop 3 o
 stored_bare o v five = refl
 
-stored_one : (o : List ℕ) (v x : ℕ) → Five o → set (set (set (set o 0 130) 2 v) 1 4) 3 x ≡ (130 ∷ 4 ∷ v ∷ x ∷ []) ++ drop 4 o
-stored_one o v x five = refl
-
-stored_two : (o : List ℕ) (v x y : ℕ) → Five o → set (set (set (set (set o 0 130) 2 v) 1 5) 3 x) 4 y ≡ (130 ∷ 5 ∷ v ∷ x ∷ y ∷ []) ++ drop 5 o
-stored_two o v x y five = refl
-
 -- The option by its flag octets.
 with_flags : (v f : ℕ) (xs : List ℕ) → flag_octets_for f ≡ xs → basic_option v f ≡ 130 ∷ (3 + length xs) ∷ v ∷ xs
 with_flags v f xs e = ap (λ (ys : List ℕ). 130 ∷ (3 + length ys) ∷ v ∷ ys) e
@@ -114,23 +101,12 @@ pub option_two : (v f : ℕ) → (f % 128 ≡ 0 → ⊥) → basic_option v f �
 option_two v f d = with_flags v f ((f / 128 * 2 + 1) ∷ (f % 128 * 2) ∷ []) (flags_two f d)
 
 -- the option s is written
-done_as : (v f : ℕ) (out s : List ℕ) → basic_option v f ≡ s → writing_number v f (length out) ≡ 0
-    → Leaves v f out (answer 0 (length s)) (s ++ drop (length s) out)
-done_as v f out s e n = subst (λ (t : List ℕ). Leaves v f out (answer 0 (length t)) (t ++ drop (length t) out)) e (done_by v f out n)
+done_as : (v f : ℕ) (out s : List ℕ) → basic_option v f ≡ s → basic_writing v f (length out) ≡ Ok (length (basic_option v f))
+    → Leaves v f out (Ok (length s)) (s ++ drop (length s) out)
+done_as v f out s e n = subst (λ (t : List ℕ). Leaves v f out (Ok (length t)) (t ++ drop (length t) out)) e (done_by v f out n)
 
-module _ (v f : ℕ) (out : List ℕ) (long : 5 ≤ length out) (n : writing_number v f (length out) ≡ 0) where
-  pub leaves_bare : f ≡ 0 → Leaves v f out (answer 0 3) (set (set (set out 0 130) 2 v) 1 3)
+module _ (v f : ℕ) (out : List ℕ) (long : 5 ≤ length out) (n : basic_writing v f (length out) ≡ Ok (length (basic_option v f))) where
+  pub leaves_bare : f ≡ 0 → Leaves v f out (Ok 3) (set (set (set out 0 130) 2 v) 1 3)
   leaves_bare e =
       let l = done_as v f out _ (option_none v f e) n in
       (l.0, stored_bare out v (has_five out long) ∙ l.1)
-
-  pub leaves_one : (f ≡ 0 → ⊥) → f % 128 ≡ 0 → Leaves v f out (answer 0 4) (set (set (set (set out 0 130) 2 v) 1 4) 3 (f / 128 * 2))
-  leaves_one d e =
-      let l = done_as v f out _ (option_one v f d e) n in
-      (l.0, stored_one out v (f / 128 * 2) (has_five out long) ∙ l.1)
-
-  pub leaves_two : (f % 128 ≡ 0 → ⊥)
-      → Leaves v f out (answer 0 5) (set (set (set (set (set out 0 130) 2 v) 1 5) 3 (f / 128 * 2 + 1)) 4 (f % 128 * 2))
-  leaves_two d =
-      let l = done_as v f out _ (option_two v f d) n in
-      (l.0, stored_two out v (f / 128 * 2 + 1) (f % 128 * 2) (has_five out long) ∙ l.1)

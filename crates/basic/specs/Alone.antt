@@ -1,20 +1,22 @@
 -- Wish 3, option 130 asked alone: what reading one answers, what writing one answers, and what it leaves in the output.
-use Rattle.std.specs.Prelude.{ℕ, ◌+◌, ◌*◌, ◌/◌, ◌%◌, Bool, cond, ◌&&◌, List, [], ◌∷◌, ◌++◌, length, drop, leb, ltb, eqb}
+use Rattle.std.specs.Prelude.{ℕ, ◌+◌, ◌*◌, ◌/◌, ◌%◌, Bool, cond, ◌&&◌, List, [], ◌∷◌, ◌++◌, length, drop, leb, ltb, eqb, Option, Some, None, Result, Ok, Err}
 use Rattle.basic.specs.declared.BasicReading.{BasicReading}
-use Rattle.basic.specs.declared.BasicWriting.{BasicWriting}
+use Rattle.basic.specs.declared.BasicError.{BasicError}
+use Rattle.basic.specs.declared.BasicError.TheVariants.{Short, Bad}
 use Rattle.basic.specs.Levels.{is_level}
 use Rattle.basic.specs.Option.{basic_level, basic_flags, basic_valid}
 
+-- what is read: level and flags, or none
+abbrev pub BasicRead : Type 0
+BasicRead = Option BasicReading
+
 -- the level and the flags were read
-abbrev pub basic_found : ℕ → ℕ → BasicReading
-basic_found v f = record { number = 0; level = v; flags = f }
+abbrev pub basic_found : ℕ → ℕ → BasicRead
+basic_found v f = Some (record { level = v; flags = f })
 
-abbrev pub basic_bad : BasicReading
-basic_bad = record { number = 19; level = 0; flags = 0 }
-
--- 19 for anything but a valid option that fills its buffer
-unfoldable pub basic_reading : List ℕ → BasicReading
-basic_reading o = cond (basic_valid o) (basic_found (basic_level o) (basic_flags o)) basic_bad
+-- none of anything but a valid option that fills its buffer
+unfoldable pub basic_reading : List ℕ → BasicRead
+basic_reading o = cond (basic_valid o) (basic_found (basic_level o) (basic_flags o)) None
 
 -- the flag octets that are written: final octets without flags are left out
 unfoldable pub flag_octets_for : ℕ → List ℕ
@@ -31,16 +33,15 @@ basic_option v f = 130 ∷ (3 + length (flag_octets_for f)) ∷ v ∷ flag_octet
 abbrev pub writable : ℕ → ℕ → Bool
 writable v f = is_level v && leb f 16383
 
--- 1 for an output under 5 octets, then 19; 0 is done
-unfoldable pub writing_number : ℕ → ℕ → ℕ → ℕ
-writing_number v f n = cond (ltb n 5) 1 (cond (writable v f) 0 19)
+-- the numbers of the refusals
+abbrev pub number_of : BasicError → ℕ
+number_of Short = 1
+number_of Bad = 19
 
--- done, the count is the option's length; a refusal has count 0
-unfoldable pub basic_writing : ℕ → ℕ → ℕ → BasicWriting
-basic_writing v f n =
-    record { number = writing_number v f n; count = cond (eqb (writing_number v f n) 0) (length (basic_option v f)) 0 }
+-- 1 for an output under 5 octets, then 19; else the option's length
+unfoldable pub basic_writing : ℕ → ℕ → ℕ → Result ℕ BasicError
+basic_writing v f n = cond (ltb n 5) (Err Short) (cond (writable v f) (Ok (length (basic_option v f))) (Err Bad))
 
--- only `count` octets change; a refusal writes nothing
+-- only so many octets change; a refusal writes nothing
 unfoldable pub basic_out : ℕ → ℕ → List ℕ → List ℕ
-basic_out v f out =
-    cond (eqb (writing_number v f (length out)) 0) (basic_option v f ++ drop (length (basic_option v f)) out) out
+basic_out v f out = elim (basic_writing v f (length out)) [ Ok n ↦ basic_option v f ++ drop n out | Err e ↦ out ]

@@ -1,22 +1,22 @@
 -- Options 130 and what each means, octet by octet: level Secret (90) or another of the four, flags GENSER (first of the first octet) and others. The four levels
 -- in their order, and a port's settings that are sound or not, part by part.
-use Rattle.std.specs.Prelude.{ℕ, ◌+◌, ◌-◌, ◌*◌, ◌≡◌, Bool, true, false, List, [], ◌∷◌, ◌++◌, map, length, replicate}
+use Rattle.std.specs.Prelude.{ℕ, ◌+◌, ◌-◌, ◌*◌, ◌≡◌, Bool, true, false, List, [], ◌∷◌, ◌++◌, map, length, replicate, Option, None, Ok, Err}
 use Rattle.basic.specs.declared.BasicReading.{BasicReading}
-use Rattle.basic.specs.declared.BasicWriting.{BasicWriting}
+use Rattle.basic.specs.declared.BasicError.TheVariants.{Short, Bad}
 use Rattle.basic.specs.declared.Way.{Way}
 use Rattle.basic.specs.declared.Basic.{Basic}
 use Rattle.basic.specs.Levels.{is_level, rank_of, at_most}
 use Rattle.basic.specs.Settings.{way_sound, basic_sound}
-use Rattle.basic.specs.Alone.{basic_found, basic_reading, basic_option, basic_writing, basic_out}
+use Rattle.basic.specs.Alone.{basic_found, basic_reading, basic_option, number_of, basic_writing, basic_out}
 
 -- octets, and what reading them alone answers
 pub record Example : Type 0 where
   pub octets : List ℕ
-  pub reading : BasicReading
+  pub reading : Option BasicReading
 
--- 19 and zeros
-abbrev pub nineteen : BasicReading
-nineteen = record { number = 19; level = 0; flags = 0 }
+-- not valid
+abbrev pub invalid : Option BasicReading
+invalid = None
 
 abbrev pub examples : List Example
 examples =
@@ -32,14 +32,14 @@ examples =
     ∷ record { octets = 130 ∷ 4 ∷ 171 ∷ 0 ∷ []; reading = basic_found 171 0 }
     ∷ record { octets = 130 ∷ 5 ∷ 171 ∷ 1 ∷ 0 ∷ []; reading = basic_found 171 0 }
     -- another is said to follow, and none does; none is said to follow, and one does; a third
-    ∷ record { octets = 130 ∷ 4 ∷ 90 ∷ 129 ∷ []; reading = nineteen }
-    ∷ record { octets = 130 ∷ 5 ∷ 90 ∷ 128 ∷ 2 ∷ []; reading = nineteen }
-    ∷ record { octets = 130 ∷ 6 ∷ 90 ∷ 129 ∷ 3 ∷ 2 ∷ []; reading = nineteen }
+    ∷ record { octets = 130 ∷ 4 ∷ 90 ∷ 129 ∷ []; reading = invalid }
+    ∷ record { octets = 130 ∷ 5 ∷ 90 ∷ 128 ∷ 2 ∷ []; reading = invalid }
+    ∷ record { octets = 130 ∷ 6 ∷ 90 ∷ 129 ∷ 3 ∷ 2 ∷ []; reading = invalid }
     -- a reserved level; another type; a length that is not the buffer's; no level
-    ∷ record { octets = 130 ∷ 3 ∷ 102 ∷ []; reading = nineteen }
-    ∷ record { octets = 133 ∷ 3 ∷ 90 ∷ []; reading = nineteen }
-    ∷ record { octets = 130 ∷ 4 ∷ 90 ∷ []; reading = nineteen }
-    ∷ record { octets = 130 ∷ 2 ∷ []; reading = nineteen }
+    ∷ record { octets = 130 ∷ 3 ∷ 102 ∷ []; reading = invalid }
+    ∷ record { octets = 133 ∷ 3 ∷ 90 ∷ []; reading = invalid }
+    ∷ record { octets = 130 ∷ 4 ∷ 90 ∷ []; reading = invalid }
+    ∷ record { octets = 130 ∷ 2 ∷ []; reading = invalid }
     ∷ []
 
 abbrev pub Read : List Example → Type 0
@@ -55,17 +55,16 @@ Written =
     × (basic_option 61 1 ≡ 130 ∷ 5 ∷ 61 ∷ 1 ∷ 2 ∷ [])
 
 -- writing alone: 1 for an output under 5 octets, also of what cannot be written; 19 for a level that is none and for flags past the fourteenth
-abbrev pub answered : ℕ → ℕ → BasicWriting
-answered n c = record { number = n; count = c }
-
 abbrev pub WrittenAlone : Type 0
 WrittenAlone =
-    (basic_writing 171 0 4 ≡ answered 1 0)
-    × (basic_writing 102 16384 4 ≡ answered 1 0)
-    × (basic_writing 102 0 5 ≡ answered 19 0)
-    × (basic_writing 171 16384 5 ≡ answered 19 0)
-    × (basic_writing 171 16383 5 ≡ answered 0 5)
-    × (basic_writing 171 0 5 ≡ answered 0 3)
+    (basic_writing 171 0 4 ≡ Err Short)
+    × (basic_writing 102 16384 4 ≡ Err Short)
+    × (basic_writing 102 0 5 ≡ Err Bad)
+    × (basic_writing 171 16384 5 ≡ Err Bad)
+    × (basic_writing 171 16383 5 ≡ Ok 5)
+    × (basic_writing 171 0 5 ≡ Ok 3)
+    × (number_of Short ≡ 1)
+    × (number_of Bad ≡ 19)
     × (basic_out 90 8192 (9 ∷ 9 ∷ 9 ∷ 9 ∷ 9 ∷ 9 ∷ []) ≡ 130 ∷ 4 ∷ 90 ∷ 128 ∷ 9 ∷ 9 ∷ [])
 
 -- an octet by its bits, the top one first

@@ -1,14 +1,17 @@
 -- Wish 3; RFC 1108, 2.1 to 2.4: what is proved of reading and writing option 130 alone, over the meaning of an option.
-use Rattle.std.specs.Prelude.{ℕ, ◌≤◌, ◌<◌, ◌≡◌, true, false, List, ◌↔◌, length, take, drop}
+use Rattle.std.specs.Prelude.{ℕ, ◌≤◌, ◌<◌, ◌≡◌, true, false, List, ◌↔◌, length, take, drop, is_some, Some, Ok, Err}
 use Rattle.option.specs.Option.{Octets}
+use Rattle.basic.specs.declared.BasicReading.{BasicReading}
+use Rattle.basic.specs.declared.BasicError.{BasicError}
+use Rattle.basic.specs.declared.BasicError.TheVariants.{Short}
 use Rattle.basic.specs.Option.{basic_level, basic_flags, basic_valid, BasicMeans}
 use Rattle.basic.specs.Alone.{basic_found, basic_reading, basic_option, writable, basic_writing, basic_out}
 
 -- reading alone
 pub record ReadsBasic : Type 0 where
   -- an option is read exactly when it is valid; then level and flags are those that it means
-  pub exactly : (o : List ℕ) → ((basic_reading o).number ≡ 0) ↔ (basic_valid o ≡ true)
-  pub means : (o : List ℕ) → Octets o → (basic_reading o).number ≡ 0 → BasicMeans o (basic_reading o).level (basic_reading o).flags
+  pub exactly : (o : List ℕ) → (is_some (basic_reading o) ≡ true) ↔ (basic_valid o ≡ true)
+  pub means : (o : List ℕ) (r : BasicReading) → Octets o → basic_reading o ≡ Some r → BasicMeans o r.level r.flags
   -- every valid option that means a level and flags gives them back
   pub back : (o : List ℕ) (v f : ℕ) → BasicMeans o v f → basic_reading o ≡ basic_found v f
 
@@ -41,13 +44,11 @@ pub record WritesBasic : Type 0 where
   pub back : (v f : ℕ) → writable v f ≡ true → basic_reading (basic_option v f) ≡ basic_found v f
   -- an output of at least 5 octets gets it in front, and its count; the octets behind it stay
   pub done : (v f : ℕ) (out : List ℕ) → writable v f ≡ true → 5 ≤ length out
-      → ((basic_writing v f (length out)).number ≡ 0)
-      × ((basic_writing v f (length out)).count ≡ length (basic_option v f))
+      → (basic_writing v f (length out) ≡ Ok (length (basic_option v f)))
       × (take (length (basic_option v f)) (basic_out v f out) ≡ basic_option v f)
       × (drop (length (basic_option v f)) (basic_out v f out) ≡ drop (length (basic_option v f)) out)
   -- 1 exactly for an output under 5 octets
-  pub short : (v f n : ℕ) → ((basic_writing v f n).number ≡ 1) ↔ (n < 5)
-  -- a refusal has count 0 and leaves the output as it was; its length is as it was always
-  pub refused : (v f : ℕ) (out : List ℕ) → ((basic_writing v f (length out)).number ≡ 0 → ⊥)
-      → ((basic_writing v f (length out)).count ≡ 0) × (basic_out v f out ≡ out)
+  pub short : (v f n : ℕ) → (basic_writing v f n ≡ Err Short) ↔ (n < 5)
+  -- a refusal leaves the output as it was; its length is as it was always
+  pub refused : (v f : ℕ) (out : List ℕ) (e : BasicError) → basic_writing v f (length out) ≡ Err e → basic_out v f out ≡ out
   pub sized : (v f : ℕ) (out : List ℕ) → length (basic_out v f out) ≡ length out

@@ -1,8 +1,9 @@
 -- Wish 3: what a port permits of option 130 each way, when these settings are sound, and what passes them.
-use Rattle.std.specs.Prelude.{ℕ, Bool, true, false, cond, not, ◌&&◌, ◌||◌, List, [], ◌∷◌, take, drop, replicate, leb, eqb}
+use Rattle.std.specs.Prelude.{ℕ, Bool, true, false, cond, not, ◌&&◌, ◌||◌, List, [], ◌∷◌, take, drop, replicate, leb, eqb, Some, None}
 use Rattle.basic.specs.Levels.{at_most}
 use Rattle.basic.specs.declared.Way.{Way}
 use Rattle.basic.specs.declared.Basic.{Basic}
+use Rattle.basic.specs.Alone.{BasicRead}
 
 -- switched off, as document 01 had the ports: every field is 0
 abbrev pub no_way : Way
@@ -40,3 +41,8 @@ among (x ∷ xs) f = eqb x f || among xs f
 -- a level from lowest to highest; flags that are a member of the set, which are its first `count` places
 unfoldable pub passes_way : Way → ℕ → ℕ → Bool
 passes_way w v f = at_most w.lowest v && (at_most v w.highest && among (take w.count w.flags) f)
+
+-- what was read passes: where no level and flags were, it does not
+abbrev pub passes_read : Way → BasicRead → Bool
+passes_read w (Some x) = passes_way w x.level x.flags
+passes_read w None = false

@@ -2,10 +2,11 @@
 // what a port permits of it each way.
 #![tactic(auto)]
 
-ghost use Rattle.std.specs.Prelude.{◌≡◌, length, get_or, take, drop, ◌≤◌, min, eqb};
-ghost use Rattle.basic.specs.Levels.{rank_of, at_most};
+ghost use Rattle.std.specs.Prelude.{◌≡◌, length, get_or, take, drop, ◌≤◌, ◌<◌, min, eqb, MatchOption};
+ghost use Rattle.std.specs.List.{find};
+ghost use Rattle.basic.specs.Levels.{levels, rank_of, at_most};
 ghost use Rattle.basic.specs.Option.{flag_field};
-ghost use Rattle.basic.specs.Alone.{basic_bad, basic_reading, basic_writing, basic_out};
+ghost use Rattle.basic.specs.Alone.{number_of, basic_reading, basic_writing, basic_out};
 ghost use Rattle.basic.specs.Stages.{framed_at, ended_at};
 ghost use Rattle.basic.specs.Settings.{unused, no_way, basic_off, is_off, way_sound, way_zero, basic_sound, among, passes_way};
 
@@ -36,32 +37,33 @@ const LEVELS: [Level; 4] = [
     },
 ];
 
-// What stands for the rank of an octet that is none of the four.
-pub const NO_RANK: u8 = 4;
-
-// The rank of an octet: that of its level, or `NO_RANK` where it is none of the four.
-pub fn rank_of(octet: u8) -> u8
-    ensures { result ≡ rank_of octet }
+// The level that has the octet.
+fn level_of(octet: u8) -> Option<Level>
+    ensures { result ≡ find (λ l. eqb l.octet octet) levels }
 {
-    let levels = LEVELS;
-    let mut i: usize = 0;
-    while i < 4 {
-        let level = levels[i];
-        if level.octet == octet {
-            return level.rank;
-        }
-        i += 1;
+    LEVELS.iter().copied().find(|level| level.octet == octet)
+}
+
+// The rank of an octet: that of its level, or none where it is none of the four.
+#[tactic(auto, unfolding(crate::specs::Levels::rank_of))]
+pub fn rank_of(octet: u8) -> Option<u8>
+    ensures { MatchOption result (rank_of octet ≡ 4) (λ r. (rank_of octet ≡ r) × (r < 4)) }
+{
+    match level_of(octet) {
+        Some(level) => Some(level.rank),
+        None => None,
     }
-    NO_RANK
 }
 
 // Whether both are of the four levels, and the first has no higher rank.
+#[tactic(auto, using(crate::proofs::Levels::at_most_is))]
 pub fn at_most(low: u8, high: u8) -> bool
     ensures { result ≡ at_most low high }
 {
-    let a = rank_of(low);
-    let b = rank_of(high);
-    (a <= b) & (b < NO_RANK)
+    match (rank_of(low), rank_of(high)) {
+        (Some(a), Some(b)) => a <= b,
+        _ => false,
+    }
 }
 
 // The option's type, and the places of its fields, counted from its first octet.
@@ -87,36 +89,40 @@ const OCTET_FLAGS: u16 = 128;
 // The flag field with all 14 flags.
 const ALL_FLAGS: u16 = 16383;
 
-// Number 0, the level's octet and the flag field; else 19 and zeros.
+// What an option means: the level's octet and the flag field.
 #[derive(Clone, Copy)]
 pub struct BasicReading {
-    pub number: u8,
     pub level: u8,
     pub flags: u16,
 }
 
-impl BasicReading {
-    // What is read of an option that is not valid.
-    pub fn bad() -> BasicReading
-        ensures { result ≡ basic_bad }
+// The refusal of an option that is not valid, and of a level or flags that no option means.
+pub const BAD_BASIC: u8 = 19;
+
+// Why no option was written.
+#[derive(Clone, Copy)]
+pub enum BasicError {
+    // 1: an output under 5 octets
+    Short,
+    // 19: a level that is none of the four, or flags past the fourteenth
+    Bad,
+}
+
+impl BasicError {
+    // The number of the refusal.
+    pub fn number(self) -> u8
+        ensures { result ≡ number_of self }
     {
-        BasicReading {
-            number: 19,
-            level: 0,
-            flags: 0,
+        match self {
+            BasicError::Short => 1,
+            BasicError::Bad => BAD_BASIC,
         }
     }
 }
 
-// Number 0 and the option's length; or the number of a refusal and 0.
-#[derive(Clone, Copy)]
-pub struct BasicWriting {
-    pub number: u8,
-    pub count: usize,
-}
-
-// Reads one option alone: its level and flags, or 19 where it is not valid or does not fill its buffer.
-pub fn read_basic(octets: &[u8]) -> BasicReading
+// Reads one option alone: its level and flags, or none where it is not valid or does not fill its buffer.
+#[tactic(auto, using(crate::proofs::Form::reading_at, crate::proofs::Levels::rank_level, crate::proofs::Levels::rank_no_level))]
+pub fn read_basic(octets: &[u8]) -> Option<BasicReading>
     ensures { result ≡ basic_reading octets.now }
 {
     let n = octets.len();
@@ -124,19 +130,18 @@ pub fn read_basic(octets: &[u8]) -> BasicReading
     let first = octet_at(octets, FLAGS_AT);
     let second = octet_at(octets, FLAGS_AT + 1);
     if !framed(n, octet_at(octets, 0), octet_at(octets, LENGTH_AT)) {
-        return BasicReading::bad();
+        return None;
     }
-    if rank_of(level) == NO_RANK {
-        return BasicReading::bad();
+    if rank_of(level).is_none() {
+        return None;
     }
     if !ended(n, first, second) {
-        return BasicReading::bad();
+        return None;
     }
-    BasicReading {
-        number: 0,
-        level: level,
+    Some(BasicReading {
+        level,
         flags: flag_field(first, second),
-    }
+    })
 }
 
 // Octet i, or 0 past the end.
@@ -173,52 +178,35 @@ fn flag_field(first: u8, second: u8) -> u16
     (first / 2) as u16 * 128 + (second / 2) as u16
 }
 
-// Writes the shortest option of a level and a flag field: only `count` octets of the output change, and none where it is refused.
-pub fn write_basic(level: u8, flags: u16, out: &mut [u8]) -> BasicWriting
+// Writes the shortest option of a level and a flag field, and tells how many octets it has: only these change, and none where it is refused.
+#[tactic(auto, using(crate::proofs::Levels::rank_level, crate::proofs::Levels::rank_no_level), unfolding(crate::specs::Alone::basic_writing, crate::specs::Alone::basic_out, crate::specs::Alone::flag_octets_for))]
+pub fn write_basic(level: u8, flags: u16, out: &mut [u8]) -> Result<usize, BasicError>
     ensures { (result ≡ basic_writing level flags (length out.old)) × (out.new ≡ basic_out level flags out.old) }
 {
     if out.len() < BASIC_OCTETS {
-        return BasicWriting {
-            number: 1,
-            count: 0,
-        };
+        return Err(BasicError::Short);
     }
-    if rank_of(level) == NO_RANK {
-        return BasicWriting {
-            number: 19,
-            count: 0,
-        };
+    if rank_of(level).is_none() {
+        return Err(BasicError::Bad);
     }
     if ALL_FLAGS < flags {
-        return BasicWriting {
-            number: 19,
-            count: 0,
-        };
+        return Err(BasicError::Bad);
     }
     out[0] = BASIC_TYPE;
     out[LEVEL_AT] = level;
     if flags == 0 {
         out[LENGTH_AT] = 3;
-        return BasicWriting {
-            number: 0,
-            count: 3,
-        };
+        return Ok(3);
     }
     if flags % 128 == 0 {
         out[LENGTH_AT] = 4;
         out[FLAGS_AT] = (flags / 128 * 2) as u8;
-        return BasicWriting {
-            number: 0,
-            count: 4,
-        };
+        return Ok(4);
     }
     out[LENGTH_AT] = 5;
     out[FLAGS_AT] = (flags / 128 * 2 + 1) as u8;
     out[FLAGS_AT + 1] = (flags % 128 * 2) as u8;
-    BasicWriting {
-        number: 0,
-        count: 5,
-    }
+    Ok(5)
 }
 
 // The most flag fields that a port permits each way.
@@ -254,6 +242,7 @@ impl Basic {
     }
 
     // Whether it is switched off and every field is 0.
+    #[tactic(auto, unfolding(crate::specs::Settings::is_off, crate::specs::Settings::basic_sound))]
     pub fn is_off(self) -> bool
         ensures { result ≡ is_off self }
     {
@@ -281,6 +270,7 @@ fn no_way() -> Way
 }
 
 // Whether the settings are sound: of both ways where they are switched on, all 0 where they are off.
+#[tactic(auto, unfolding(crate::specs::Settings::basic_sound))]
 pub fn basic_sound(basic: Basic) -> bool
     ensures { result ≡ basic_sound basic }
 {
@@ -296,6 +286,7 @@ pub fn basic_sound(basic: Basic) -> bool
     first & second
 }
 
+#[tactic(auto, unfolding(crate::specs::Settings::way_sound))]
 fn way_sound(way: Way) -> bool
     ensures { result ≡ way_sound way }
 {
@@ -305,9 +296,10 @@ fn way_sound(way: Way) -> bool
     if MAX_FIELDS < way.count {
         return false;
     }
-    unused_from(way, way.count)
+    all_zero(&way.flags[way.count..])
 }
 
+#[tactic(auto, unfolding(crate::specs::Settings::way_zero))]
 fn way_zero(way: Way) -> bool
     ensures { result ≡ way_zero way }
 {
@@ -320,24 +312,23 @@ fn way_zero(way: Way) -> bool
     if way.count != 0 {
         return false;
     }
-    unused_from(way, 0)
+    all_zero(&way.flags)
 }
 
-// Whether every place from one on is 0, in one pass that does not end early.
-fn unused_from(way: Way, from: usize) -> bool
-    requires { from ≤ 256 }
-    ensures { result ≡ unused (drop from way.flags) }
+// Whether every field is 0, in one pass that does not end early.
+#[tactic(auto, using(crate::proofs::Settings::unused_more, crate::proofs::Settings::any_zero))]
+fn all_zero(fields: &[u16]) -> bool
+    ensures { result ≡ unused fields.now }
 {
     let mut any: u16 = 0;
-    let mut i = from;
-    while i < MAX_FIELDS {
-        any = any | way.flags[i];
-        i += 1;
+    for field in fields {
+        any |= *field;
     }
     any == 0
 }
 
 // Whether a level and a flag field pass: the level lies in the range by rank, and the flag field is one that is permitted.
+#[tactic(auto, unfolding(crate::specs::Settings::passes_way))]
 pub fn passes_way(way: Way, level: u8, flags: u16) -> bool
     ensures { result ≡ passes_way way level flags }
 {
@@ -351,27 +342,16 @@ pub fn passes_way(way: Way, level: u8, flags: u16) -> bool
 }
 
 // Whether the flag field is one of the first `count`, in one pass that does not end early.
+#[tactic(auto, using(crate::proofs::Settings::among_more))]
 fn permits(way: Way, flags: u16) -> bool
     ensures { result ≡ among (take way.count way.flags) flags }
 {
-    let n = fields_used(way.count);
+    let n = way.count.min(MAX_FIELDS);
     let mut found = false;
-    let mut i: usize = 0;
-    while i < n {
-        found = found | same_field(way.flags[i], flags);
-        i += 1;
+    for field in &way.flags[..n] {
+        found |= same_field(*field, flags);
     }
     found
-}
-
-// How many places a count takes in: no more than there are.
-fn fields_used(count: usize) -> usize
-    ensures { result ≡ min count 256 }
-{
-    if MAX_FIELDS < count {
-        return MAX_FIELDS;
-    }
-    count
 }
 
 // Flag fields are held against each other whole: one that has only some of the flags is another.

@@ -8,10 +8,10 @@ use lib.ListN.{length}
 use Rattle.table.specs.Table.{lent}
 use Rattle.label.specs.declared.Label.{Label}
 use Rattle.label_keys.specs.Keys.{with_keys}
-use Rattle.option_read.specs.declared.Reading.{Reading}
+use Rattle.option_read.specs.Reading.{Reading}
 use Rattle.option_read.specs.Reading.{reading_of}
 use Rattle.option.specs.Permitted.{usual}
-use Rattle.option_spell.specs.declared.Spelling.{Spelling}
+use Rattle.option_spell.specs.Spelling.{Spelling}
 use Rattle.option_spell.specs.Spelling.{spelling_answer, spelling_out}
 use Rattle.decision.specs.declared.Decision.{Decision}
 use Rattle.decision.specs.declared.Facts.{Facts}

@@ -34,18 +34,25 @@ pub fn inglebreek_read(octets: &[u8], answer: &mut [u64], runs: &mut [u32]) -> u
     if runs.len() < Label::MAX_RUNS {
         return 1;
     }
-    let r = read_option(octets);
-    let label = r.label;
-    let numbers = [
-        r.number as u64,
-        r.pointer as u64,
-        label.domain as u64,
-        label.level as u64,
-        label.count as u64,
-    ];
-    put_numbers(answer, &numbers);
-    label_keys(label, runs);
-    r.number
+    match read_option(octets) {
+        Ok(label) => {
+            let numbers = [
+                0,
+                0,
+                label.domain as u64,
+                label.level as u64,
+                label.count as u64,
+            ];
+            put_numbers(answer, &numbers);
+            label_keys(label, runs);
+            0
+        }
+        Err(fault) => {
+            let numbers = [fault.number as u64, fault.at as u64, 0, 0, 0];
+            put_numbers(answer, &numbers);
+            fault.number
+        }
+    }
 }
 
 // Spells the label of a domain, a level and runs, as many as are lent. `answer` gets number and length; 1 and nothing where it has under 2 places.
@@ -63,10 +70,17 @@ pub fn inglebreek_spell(
     }
     let label = to_label(runs, runs.len(), domain, level);
     let permitted = Spellings::usual();
-    let s = spell_label(label, permitted, out);
-    let numbers = [s.number as u64, s.count as u64];
-    put_numbers(answer, &numbers);
-    s.number
+    match spell_label(label, permitted, out) {
+        Ok(length) => {
+            put_numbers(answer, &[0, length as u64]);
+            0
+        }
+        Err(error) => {
+            let number = error.number();
+            put_numbers(answer, &[number as u64, 0]);
+            number
+        }
+    }
 }
 
 // Forwards an area through the sample's records; the five facts are those of `Facts`, in its order. `answer` gets number, type, code, pointer, count, domain, level and count of
@@ -125,13 +139,10 @@ pub fn inglebreek_forward(
 }
 
 // Numbers at the head of what is lent.
+#[tactic(auto, unfolding(crate::specs::Answers::with_numbers))]
 fn put_numbers(lent: &mut [u64], numbers: &[u64])
     requires { length numbers.now ≤ length lent.old }
     ensures { lent.new ≡ with_numbers numbers.now lent.old }
 {
-    let mut i: usize = 0;
-    while i < numbers.len() {
-        lent[i] = numbers[i];
-        i += 1;
-    }
+    lent[..numbers.len()].copy_from_slice(numbers);
 }

@@ -10,7 +10,7 @@ use decision::{Decision, Facts};
 use forward::forward;
 use label::Label;
 use option::Spellings;
-use option_read::{Reading, read_option};
+use option_read::{Fault, read_option};
 use option_spell::spell_label;
 use port::Port;
 use sample_records::{leaving, levels, table, up_to};
@@ -28,13 +28,11 @@ pub fn time_read(octets: &[u8], size: usize, times: usize) -> usize {
     let last = n - size;
     let mut at: usize = 0;
     let mut total: usize = 0;
-    let mut i: usize = 0;
-    while i < times {
+    for _ in 0..times {
         let end = at + size;
         let r = read_option(&octets[at..end]);
         total = mix(total, reading_digest(r));
         at = next_place(at, size, last);
-        i += 1;
     }
     total
 }
@@ -44,12 +42,13 @@ pub fn time_spell(octets: &[u8], size: usize, out: &mut [u8], times: usize) -> u
     let labels = read_labels(octets, size);
     let permitted = Spellings::usual();
     let mut total: usize = 0;
-    let mut i: usize = 0;
-    while i < times {
+    for i in 0..times {
         let label = labels[i % LABELS];
-        let s = spell_label(label, permitted, &mut out[..]);
-        total = mix(mix(total, s.number as usize), s.count);
-        i += 1;
+        let (number, count) = match spell_label(label, permitted, &mut out[..]) {
+            Ok(count) => (0, count),
+            Err(error) => (error.number(), 0),
+        };
+        total = mix(mix(total, usize::from(number)), count);
     }
     total
 }
@@ -113,8 +112,7 @@ fn forward_many(
     let mut at: usize = 0;
     let mut from: usize = 0;
     let mut total: usize = 0;
-    let mut i: usize = 0;
-    while i < times {
+    for _ in 0..times {
         let end = at + size;
         let to = from + width;
         let d = forward(
@@ -130,7 +128,6 @@ fn forward_many(
         total = mix(total, decision_digest(d));
         at = next_place(at, size, last);
         from = next_place(from, width, last_table);
-        i += 1;
     }
     total
 }
@@ -150,9 +147,14 @@ fn mix(total: usize, x: usize) -> usize {
     (total % 65536) * 31 + x % 65536
 }
 
-fn reading_digest(r: Reading) -> usize {
-    let label = r.label;
-    mix(mix(r.number as usize, r.pointer), label_digest(label))
+fn reading_digest(read: Result<Label, Fault>) -> usize {
+    match read {
+        Ok(label) => mix(0, label_digest(label)),
+        Err(fault) => mix(
+            mix(usize::from(fault.number), fault.at),
+            label_digest(Label::empty(0, 0)),
+        ),
+    }
 }
 
 fn decision_digest(d: Decision) -> usize {
@@ -183,14 +185,12 @@ fn read_labels(octets: &[u8], size: usize) -> [Label; 8] {
     }
     let last = n - size;
     let mut at: usize = 0;
-    let mut i: usize = 0;
-    while i < LABELS {
+    for label in labels.iter_mut() {
         let end = at + size;
-        let r = read_option(&octets[at..end]);
-        let label = r.label;
-        labels[i] = label;
+        if let Ok(read) = read_option(&octets[at..end]) {
+            *label = read;
+        }
         at = next_place(at, size, last);
-        i += 1;
     }
     labels
 }
@@ -208,11 +208,8 @@ fn port_of(lower: u8, upper: u8, high: u16) -> Port {
 
 // The sample's table with other rows.
 fn table_of(count: usize) -> Table {
-    let sample = table();
     Table {
-        from: sample.from,
-        to: sample.to,
-        pairs: sample.pairs,
         count: count,
+        ..table()
     }
 }

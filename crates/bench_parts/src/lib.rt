@@ -6,8 +6,8 @@ ghost use Rattle.std.specs.Prelude.{◌≤◌};
 
 use file_read::read_file;
 use file_set::Set;
-use file_write::{Written, write_file};
-use option_read_bitmap::read_bitmap;
+use file_write::{WriteError, write_file};
+use option_read_bitmap::{BitmapError, read_bitmap};
 use table::MAX_ROWS;
 use table_choose::MAX_TABLES;
 
@@ -24,18 +24,17 @@ pub fn time_bitmap(octets: &[u8], size: usize, times: usize) -> usize {
     let mut keys = [0u32; 120];
     let mut at: usize = 0;
     let mut total: usize = 0;
-    let mut i: usize = 0;
-    while i < times {
+    for _ in 0..times {
         let end = at + size;
-        let found = read_bitmap(&octets[at..end], &mut keys);
+        let (number, count) = match read_bitmap(&octets[at..end], &mut keys) {
+            Ok(count) => (0, count),
+            Err(BitmapError::Short) => (1, 0),
+            Err(BitmapError::Long) => (10, 0),
+        };
         // a key too: one that is never read is not written
         let first = keys[0];
-        total = mix(
-            mix(mix(total, found.number as usize), found.count),
-            wide(first),
-        );
+        total = mix(mix(mix(total, number), count), first as usize);
         at = next_place(at, size, last);
-        i += 1;
     }
     total
 }
@@ -48,11 +47,9 @@ pub fn time_read_file(octets: &[u8], times: usize) -> usize {
 
 fn read_again(octets: &[u8], rows: &mut [u16], times: usize) -> usize {
     let mut total: usize = 0;
-    let mut i: usize = 0;
-    while i < times {
+    for _ in 0..times {
         let read = read_file(octets, &mut rows[..]);
         total = mix(total, read.verdict as usize);
-        i += 1;
     }
     total
 }
@@ -68,11 +65,9 @@ pub fn time_write_file(octets: &[u8], out: &mut [u8], times: usize) -> usize {
 
 fn write_again(set: Set, rows: &[u16], out: &mut [u8], times: usize) -> usize {
     let mut total: usize = 0;
-    let mut i: usize = 0;
-    while i < times {
+    for _ in 0..times {
         let w = write_file(set, rows, &mut out[..]);
         total = written_digest(total, w);
-        i += 1;
     }
     total
 }
@@ -88,20 +83,16 @@ fn next_place(at: usize, size: usize, last: usize) -> usize
     at + size
 }
 
-fn wide(x: u32) -> usize {
-    x as usize
-}
-
 fn mix(total: usize, x: usize) -> usize {
     (total % 65536) * 31 + x % 65536
 }
 
 // The number of the writer, and the count; no number is that of a refusal by name.
-fn written_digest(total: usize, w: Written) -> usize {
+fn written_digest(total: usize, w: Result<usize, WriteError>) -> usize {
     match w {
-        Written::Done(count) => mix(mix(total, 0), count),
-        Written::Short => mix(mix(total, 1), 0),
-        Written::Unsound => mix(mix(total, 2), 0),
-        Written::Long => mix(mix(total, 3), 0),
+        Ok(count) => mix(mix(total, 0), count),
+        Err(WriteError::Short) => mix(mix(total, 1), 0),
+        Err(WriteError::Unsound) => mix(mix(total, 2), 0),
+        Err(WriteError::Long) => mix(mix(total, 3), 0),
     }
 }

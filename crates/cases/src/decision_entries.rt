@@ -1,108 +1,100 @@
 // Entries 6 to 9, 15 and 16 of the program `cases`: the decision, asked with a mark, which is the first of the five facts, or with all five.
-use crate::field::{octets_of, take_octets, take_output};
+use crate::field::Case;
 use crate::record::{
-    TABLE_NUMBERS, TakenFacts, TakenHost, TakenPort, TakenTable, first_rows, levels_at, take_facts,
-    take_host, take_mark, take_port, take_table, take_wide_port, take_wide_table,
+    TABLE_NUMBERS, TakenTable, first_rows, take_facts, take_host, take_mark, take_port, take_table,
+    take_wide_port, take_wide_table,
 };
-use case_lines::{LONGEST, put_broken, put_decided, put_decision};
+use case_lines::{LONGEST, Words, put_decided};
+use decision::Facts;
 use deliver::deliver;
 use forward::forward;
+use port::{Host, Port};
+use text::Line;
 
 // Entries 6 and 8: `all` tells whether five facts are stated or a mark.
-pub fn ask_forward(case: &[u8], at: usize, all: bool, out: &mut [u8], n: usize) -> usize {
+pub fn ask_forward(case: &mut Case, all: bool, line: &mut Line) -> Option<()> {
     let mut rows = [0u16; TABLE_NUMBERS];
-    let a = take_port(case, at);
-    let b = take_port(case, a.next);
-    let t = take_table(case, b.next, &mut rows);
-    let stated = take_stated(case, t.next, all);
-    put_forward(case, a, b, t, &rows, stated, out, n)
+    let arriving = take_port(case)?;
+    let leaving = take_port(case)?;
+    let taken = take_table(case, &mut rows)?;
+    let facts = take_stated(case, all)?;
+    put_forward(case, arriving, leaving, taken, &rows, facts, line)
 }
 
 // Entry 15: ports with their later fields.
-pub fn ask_wide_forward(case: &[u8], at: usize, out: &mut [u8], n: usize) -> usize {
+pub fn ask_wide_forward(case: &mut Case, line: &mut Line) -> Option<()> {
     let mut rows = [0u16; TABLE_NUMBERS];
-    let a = take_wide_port(case, at);
-    let b = take_wide_port(case, a.next);
-    let t = take_wide_table(case, b.next, &mut rows, 0);
-    let stated = take_facts(case, t.next);
-    put_forward(case, a, b, t, &rows, stated, out, n)
+    let arriving = take_wide_port(case)?;
+    let leaving = take_wide_port(case)?;
+    let taken = take_wide_table(case, &mut rows, 0)?;
+    let facts = take_facts(case)?;
+    put_forward(case, arriving, leaving, taken, &rows, facts, line)
 }
 
 // The area and the output, and what forward decides.
 fn put_forward(
-    case: &[u8],
-    a: TakenPort,
-    b: TakenPort,
-    t: TakenTable,
+    case: &mut Case,
+    arriving: Port,
+    leaving: Port,
+    taken: TakenTable,
     rows: &[u16],
-    stated: TakenFacts,
-    out: &mut [u8],
-    n: usize,
-) -> usize {
-    let area = take_octets(case, stated.next);
-    let lent = take_output(case, area.next);
-    if lent.next != case.len() {
-        return put_broken(out, n);
-    }
-    let arriving = a.port;
-    let leaving = b.port;
-    let table = t.table;
-    let levels = levels_at(case, t.levels, t.stored);
-    let octets = octets_of(case, area.from, area.end);
+    facts: Facts,
+    line: &mut Line,
+) -> Option<()> {
+    let area = case.octets()?;
+    let lent = case.output()?;
+    case.end()?;
     let room = lent.room;
     let mut space = [lent.fill; LONGEST];
     let d = forward(
         arriving,
         leaving,
-        table,
-        first_rows(rows, t.end),
-        levels,
-        stated.facts,
-        octets,
-        &mut space[0..room],
+        taken.table,
+        first_rows(rows, taken.end),
+        taken.levels,
+        facts,
+        area,
+        &mut space[..room],
     );
-    put_decided(out, n, d, &space, room)
+    put_decided(line, &d, &space, room);
+    Some(())
 }
 
 // Entries 7 and 9.
-pub fn ask_deliver(case: &[u8], at: usize, all: bool, out: &mut [u8], n: usize) -> usize {
-    let a = take_port(case, at);
-    let h = take_host(case, a.next);
-    let stated = take_stated(case, h.next, all);
-    put_deliver(case, a, h, stated, out, n)
+pub fn ask_deliver(case: &mut Case, all: bool, line: &mut Line) -> Option<()> {
+    let port = take_port(case)?;
+    let host = take_host(case)?;
+    let facts = take_stated(case, all)?;
+    put_deliver(case, port, host, facts, line)
 }
 
 // Entry 16: a port with its later fields.
-pub fn ask_wide_deliver(case: &[u8], at: usize, out: &mut [u8], n: usize) -> usize {
-    let a = take_wide_port(case, at);
-    let h = take_host(case, a.next);
-    let stated = take_facts(case, h.next);
-    put_deliver(case, a, h, stated, out, n)
+pub fn ask_wide_deliver(case: &mut Case, line: &mut Line) -> Option<()> {
+    let port = take_wide_port(case)?;
+    let host = take_host(case)?;
+    let facts = take_facts(case)?;
+    put_deliver(case, port, host, facts, line)
 }
 
 // The area, and what deliver decides.
 fn put_deliver(
-    case: &[u8],
-    a: TakenPort,
-    h: TakenHost,
-    stated: TakenFacts,
-    out: &mut [u8],
-    n: usize,
-) -> usize {
-    let area = take_octets(case, stated.next);
-    if area.next != case.len() {
-        return put_broken(out, n);
-    }
-    let port = a.port;
-    let host = h.host;
-    let octets = octets_of(case, area.from, area.end);
-    let d = deliver(port, host, stated.facts, octets);
-    put_decision(out, n, d)
+    case: &mut Case,
+    port: Port,
+    host: Host,
+    facts: Facts,
+    line: &mut Line,
+) -> Option<()> {
+    let area = case.octets()?;
+    case.end()?;
+    let d = deliver(port, host, facts, area);
+    d.put(line);
+    Some(())
 }
 
-fn take_stated(case: &[u8], at: usize, all: bool) -> TakenFacts {
+fn take_stated(case: &mut Case, all: bool) -> Option<Facts> {
     if all {
-        return take_facts(case, at);
+        take_facts(case)
+    } else {
+        take_mark(case)
     }
-    take_mark(case, at)
 }

@@ -1,42 +1,11 @@
-// The numbers of a case, taken one after the other: each with the place after it, or with `CUT` where it is cut off or breaks its limit.
-
-ghost use Rattle.std.specs.Prelude.{◌≤◌};
+// What is left of a case: its numbers are taken one after the other. None is taken where the case is cut off or a number breaks its limit.
+ghost use Rattle.std.specs.Prelude.{◌≤◌, IfSome};
 
 use case_lines::LONGEST;
 
-// No place of a case; what is taken from there on is cut off too.
-pub const CUT: usize = usize::MAX;
-
-#[derive(Clone, Copy)]
-pub struct Octet {
-    pub value: u8,
-    pub next: usize,
-}
-
-#[derive(Clone, Copy)]
-pub struct Short {
-    pub value: u16,
-    pub next: usize,
-}
-
-#[derive(Clone, Copy)]
-pub struct Word {
-    pub value: u32,
-    pub next: usize,
-}
-
-#[derive(Clone, Copy)]
-pub struct Flag {
-    pub value: bool,
-    pub next: usize,
-}
-
-// Octets of the case from `from` up to `end`.
-#[derive(Clone, Copy)]
-pub struct Part {
-    pub from: usize,
-    pub end: usize,
-    pub next: usize,
+#[derive(Drop)]
+pub struct Case<'a> {
+    rest: &'a [u8],
 }
 
 // A lent output: its length and the octet that it is filled with.
@@ -44,136 +13,99 @@ pub struct Part {
 pub struct Output {
     pub room: usize,
     pub fill: u8,
-    pub next: usize,
 }
 
-// One octet.
-pub fn take_octet(case: &[u8], at: usize) -> Octet {
-    if at < case.len() {
-        return Octet {
-            value: case[at],
-            next: at + 1,
-        };
+impl<'a> Case<'a> {
+    pub fn new(octets: &'a [u8]) -> Case<'a> {
+        Case { rest: octets }
     }
-    Octet {
-        value: 0,
-        next: CUT,
-    }
-}
 
-// Two octets.
-pub fn take_short(case: &[u8], at: usize) -> Short {
-    let high = take_octet(case, at);
-    let low = take_octet(case, high.next);
-    Short {
-        value: high.value as u16 * 256 + low.value as u16,
-        next: low.next,
+    // How many octets are left.
+    pub fn len(&self) -> usize {
+        self.rest.len()
     }
-}
 
-// Four octets.
-pub fn take_word(case: &[u8], at: usize) -> Word {
-    let high = take_short(case, at);
-    let low = take_short(case, high.next);
-    Word {
-        value: high.value as u32 * 65536 + low.value as u32,
-        next: low.next,
+    // The end of the case; none where octets are left over.
+    pub fn end(&self) -> Option<()> {
+        if self.rest.is_empty() { Some(()) } else { None }
     }
-}
 
-// One octet that is 0 or 1.
-pub fn take_flag(case: &[u8], at: usize) -> Flag {
-    let octet = take_octet(case, at);
-    if 1 < octet.value {
-        return Flag {
-            value: false,
-            next: CUT,
-        };
+    // One octet.
+    pub fn octet(&mut self) -> Option<u8> {
+        let (first, rest) = self.rest.split_first()?;
+        self.rest = rest;
+        Some(*first)
     }
-    Flag {
-        value: octet.value == 1,
-        next: octet.next,
-    }
-}
 
-// One octet that says how many entries of a list are stored, up to a limit; none where it says more.
-pub fn take_stored(case: &[u8], at: usize, limit: usize) -> Octet
-    ensures { result.value ≤ limit }
-{
-    let stored = take_octet(case, at);
-    if limit < stored.value as usize {
-        return Octet {
-            value: 0,
-            next: CUT,
-        };
+    // Two octets.
+    pub fn short(&mut self) -> Option<u16> {
+        Some(u16::from_be_bytes([self.octet()?, self.octet()?]))
     }
-    stored
-}
 
-// Two octets that say the same; a limit of 65,535 or more is none.
-pub fn take_limited(case: &[u8], at: usize, limit: usize) -> Short
-    ensures { result.value ≤ limit }
-{
-    let stored = take_short(case, at);
-    if limit < stored.value as usize {
-        return Short {
-            value: 0,
-            next: CUT,
-        };
+    // Four octets.
+    pub fn word(&mut self) -> Option<u32> {
+        let high = self.short()?;
+        let low = self.short()?;
+        Some(u32::from(high) << 16 | u32::from(low))
     }
-    stored
-}
 
-// The next `size` octets.
-pub fn take_part(case: &[u8], at: usize, size: usize) -> Part {
-    if at <= case.len() {
-        if size <= case.len() - at {
-            return Part {
-                from: at,
-                end: at + size,
-                next: at + size,
-            };
+    // One octet that is 0 or 1.
+    pub fn flag(&mut self) -> Option<bool> {
+        match self.octet()? {
+            0 => Some(false),
+            1 => Some(true),
+            _ => None,
         }
     }
-    Part {
-        from: 0,
-        end: 0,
-        next: CUT,
+
+    // One octet that says how many entries of a list are stored, up to a limit.
+    pub fn stored(&mut self, limit: usize) -> Option<usize>
+        ensures { IfSome result (λ n. n ≤ limit) }
+    {
+        let count = self.octet()?;
+        up_to(usize::from(count), limit)
+    }
+
+    // Two octets that say the same.
+    pub fn limited(&mut self, limit: usize) -> Option<usize>
+        ensures { IfSome result (λ n. n ≤ limit) }
+    {
+        let count = self.short()?;
+        up_to(usize::from(count), limit)
+    }
+
+    // The next `size` octets.
+    pub fn part(&mut self, size: usize) -> Option<&'a [u8]> {
+        let (part, rest) = self.rest.split_at_checked(size)?;
+        self.rest = rest;
+        Some(part)
+    }
+
+    // One octet n, and the next n octets.
+    pub fn octets(&mut self) -> Option<&'a [u8]> {
+        let size = self.octet()?;
+        self.part(usize::from(size))
+    }
+
+    // Two octets n, and the next n octets.
+    pub fn long_octets(&mut self) -> Option<&'a [u8]> {
+        let size = self.short()?;
+        self.part(usize::from(size))
+    }
+
+    // The length of an output, at most 512, and what it is filled with.
+    pub fn output(&mut self) -> Option<Output>
+        ensures { IfSome result (λ o. o.room ≤ 512) }
+    {
+        let room = self.limited(LONGEST)?;
+        let fill = self.octet()?;
+        Some(Output { room, fill })
     }
 }
 
-// One octet n, and the next n octets.
-pub fn take_octets(case: &[u8], at: usize) -> Part {
-    let n = take_octet(case, at);
-    take_part(case, n.next, n.value as usize)
-}
-
-// The octets of a part; none where it does not lie in the case.
-pub fn octets_of(case: &[u8], from: usize, end: usize) -> &[u8] {
-    if from <= end {
-        if end <= case.len() {
-            return &case[from..end];
-        }
-    }
-    &case[0..0]
-}
-
-// The length of an output, at most 512, and what it is filled with.
-pub fn take_output(case: &[u8], at: usize) -> Output
-    ensures { result.room ≤ 512 }
+// A number up to a limit.
+fn up_to(n: usize, limit: usize) -> Option<usize>
+    ensures { IfSome result (λ m. m ≤ limit) }
 {
-    let room = take_short(case, at);
-    let fill = take_octet(case, room.next);
-    if LONGEST < room.value as usize {
-        return Output {
-            room: 0,
-            fill: 0,
-            next: CUT,
-        };
-    }
-    Output {
-        room: room.value as usize,
-        fill: fill.value,
-        next: fill.next,
-    }
+    if limit < n { None } else { Some(n) }
 }

@@ -1,12 +1,12 @@
 // Entries 10 to 12 of the program `cases`: the house file.
 use crate::box_record::{NUMBERS, lent_rows, take_tables};
-use crate::field::{Part, octets_of, take_octet, take_part, take_short, take_stored};
-use crate::record::take_wide_port;
-use case_lines::{put_broken, put_named, put_part, put_two};
+use crate::field::Case;
+use crate::record::take_ports;
+use case_lines::{put_named, put_part, put_two};
 use file_read::{ACCEPTED, OUTGROWN, UNKNOWN, read_file};
 use file_set::{Set, empty_set};
-use file_write::{Written, write_file};
-use text::{put_next, put_word};
+use file_write::{WriteError, write_file};
+use text::Line;
 
 // The longest output that an entry about files can ask for.
 const ROOM: usize = 65535;
@@ -14,168 +14,105 @@ const ROOM: usize = 65535;
 // How many numbers are lent for the rows of a file: those of 2,048 rows.
 const LENT: usize = 6144;
 
-// Two octets n, and the next n octets.
-fn take_file(case: &[u8], at: usize) -> Part {
-    let n = take_short(case, at);
-    take_part(case, n.next, n.value as usize)
-}
+// The most ports that are stored of a set.
+const STORED_PORTS: usize = 16;
 
 // The version octet of a file.
 fn version_of(octets: &[u8]) -> u8 {
-    if 2 < octets.len() {
-        return octets[2];
-    }
-    0
+    octets.get(2).copied().unwrap_or(0)
 }
 
 // The line of a file that is not accepted.
-fn put_refused(out: &mut [u8], n: usize, verdict: u8, at: usize, octets: &[u8]) -> usize {
-    if verdict == OUTGROWN {
-        return put_word(out, n, b"ROOM");
+fn put_refused(line: &mut Line, verdict: u8, at: usize, octets: &[u8]) {
+    match verdict {
+        OUTGROWN => line.word(b"ROOM"),
+        UNKNOWN => put_named(line, b"VERSION", u64::from(version_of(octets))),
+        _ => put_named(line, b"REFUSED", at as u64),
     }
-    if verdict == UNKNOWN {
-        return put_named(out, n, b"VERSION", version_of(octets) as u64);
-    }
-    put_named(out, n, b"REFUSED", at as u64)
 }
 
-pub fn ask_read_file(case: &[u8], at: usize, out: &mut [u8], n: usize) -> usize {
-    let part = take_file(case, at);
-    if part.next != case.len() {
-        return put_broken(out, n);
-    }
-    let octets = octets_of(case, part.from, part.end);
+pub fn ask_read_file(case: &mut Case, line: &mut Line) -> Option<()> {
+    let octets = case.long_octets()?;
+    case.end()?;
     let mut rows = [0u16; LENT];
     let file = read_file(octets, &mut rows);
     if file.verdict != ACCEPTED {
-        return put_refused(out, n, file.verdict, file.at, octets);
+        put_refused(line, file.verdict, file.at, octets);
+        return Some(());
     }
     let set = file.set;
-    put_accepted(out, n, set.portcount, set.tablecount)
+    put_accepted(line, set.portcount, set.tablecount);
+    Some(())
 }
 
 // The line of a file that is accepted.
-fn put_accepted(out: &mut [u8], n: usize, ports: usize, tables: usize) -> usize {
-    let k = put_named(out, n, b"ACCEPTED", ports as u64);
-    put_next(out, k, tables as u64)
+fn put_accepted(line: &mut Line, ports: usize, tables: usize) {
+    put_named(line, b"ACCEPTED", ports as u64);
+    line.next(tables as u64);
 }
 
 // The set with its rows is written into an output of `room` octets: number, count, output.
-fn put_written(out: &mut [u8], n: usize, set: Set, rows: &[u16], room: u16, fill: u8) -> usize {
+fn put_written(line: &mut Line, set: Set, rows: &[u16], room: u16, fill: u8) {
     let mut space = [fill; ROOM];
     let size = room as usize;
     let w = write_file(set, rows, &mut space[0..size]);
-    let k = put_number(out, n, w);
-    put_space(out, k, &space, size)
-}
-
-// The number of the writer, or NAMED where it refuses by name, and the count.
-fn put_number(out: &mut [u8], n: usize, w: Written) -> usize {
-    match w {
-        Written::Done(count) => put_two(out, n, 0, count as u64),
-        Written::Short => put_two(out, n, 1, 0),
-        Written::Unsound => put_two(out, n, 2, 0),
-        Written::Long => put_named(out, n, b"NAMED", 0),
-    }
+    put_number(line, w);
+    put_space(line, &space, size);
 }
 
 // An output of `size` octets.
-fn put_space(out: &mut [u8], n: usize, space: &[u8; ROOM], size: usize) -> usize {
-    put_part(out, n, space, size)
+fn put_space(line: &mut Line, space: &[u8; ROOM], size: usize) {
+    put_part(line, space, size);
 }
 
-pub fn ask_read_write(case: &[u8], at: usize, out: &mut [u8], n: usize) -> usize {
-    let part = take_file(case, at);
-    let room = take_short(case, part.next);
-    let fill = take_octet(case, room.next);
-    if fill.next != case.len() {
-        return put_broken(out, n);
+// The number of the writer, or NAMED where it refuses by name, and the count.
+fn put_number(line: &mut Line, w: Result<usize, WriteError>) {
+    match w {
+        Ok(count) => put_two(line, 0, count as u64),
+        Err(WriteError::Short) => put_two(line, 1, 0),
+        Err(WriteError::Unsound) => put_two(line, 2, 0),
+        Err(WriteError::Long) => put_named(line, b"NAMED", 0),
     }
-    let octets = octets_of(case, part.from, part.end);
+}
+
+pub fn ask_read_write(case: &mut Case, line: &mut Line) -> Option<()> {
+    let octets = case.long_octets()?;
+    let room = case.short()?;
+    let fill = case.octet()?;
+    case.end()?;
     let mut rows = [0u16; LENT];
     let file = read_file(octets, &mut rows);
     if file.verdict != ACCEPTED {
-        return put_refused(out, n, file.verdict, file.at, octets);
+        put_refused(line, file.verdict, file.at, octets);
+        return Some(());
     }
-    let set = file.set;
-    put_written(
-        out,
-        n,
-        set,
-        used_rows(&rows, file.used),
-        room.value,
-        fill.value,
-    )
+    let used = file.used.min(LENT);
+    put_written(line, file.set, &rows[..used], room, fill);
+    Some(())
 }
 
-// The rows that were read: the first numbers of a list.
-fn used_rows(rows: &[u16], used: usize) -> &[u16] {
-    if rows.len() < used {
-        return rows;
-    }
-    &rows[0..used]
-}
-
-// A set, how many rows its tables lend together, whether each lends as many as it counts, and the place after it.
-#[derive(Clone, Copy)]
-struct TakenSet {
-    set: Set,
-    rows: usize,
-    fits: bool,
-    next: usize,
-}
-
-// Port count, and the ports that are stored; those from there on are all zero.
-fn take_ports(case: &[u8], at: usize) -> TakenSet {
-    let count = take_octet(case, at);
-    let stored = take_stored(case, count.next, 16);
+// The ports of a set: the count, and those that are stored; those from there on are all zero.
+fn take_set_ports(case: &mut Case) -> Option<Set> {
+    let count = case.octet()?;
+    let stored = case.stored(STORED_PORTS)?;
     let mut set = empty_set();
-    set.portcount = count.value as usize;
-    let m = stored.value as usize;
-    let mut next = stored.next;
-    let mut i: usize = 0;
-    while i < m {
-        let taken = take_wide_port(case, next);
-        let port = taken.port;
-        set.ports[i] = port;
-        next = taken.next;
-        i += 1;
-    }
-    TakenSet {
-        set: set,
-        rows: 0,
-        fits: true,
-        next: next,
-    }
+    set.portcount = usize::from(count);
+    take_ports(case, &mut set.ports[..stored])?;
+    Some(set)
 }
 
-// Table count, and the tables that are stored; their rows go into one list.
-fn add_tables(case: &[u8], taken: TakenSet, rows: &mut [u16]) -> TakenSet {
-    let count = take_octet(case, taken.next);
-    let stored = take_tables(case, count.next, rows);
-    let tables = stored.tables;
-    let items = tables.items;
-    let mut set = taken.set;
-    set.tablecount = count.value as usize;
-    set.tables = items;
-    TakenSet {
-        set: set,
-        rows: stored.rows,
-        fits: stored.fits,
-        next: stored.next,
-    }
-}
-
-pub fn ask_write(case: &[u8], at: usize, out: &mut [u8], n: usize) -> usize {
-    let ports = take_ports(case, at);
+pub fn ask_write(case: &mut Case, line: &mut Line) -> Option<()> {
+    let mut set = take_set_ports(case)?;
+    let count = case.octet()?;
     let mut rows = [0u16; NUMBERS];
-    let taken = add_tables(case, ports, &mut rows);
-    let room = take_short(case, taken.next);
-    let fill = take_octet(case, room.next);
-    if fill.next != case.len() {
-        return put_broken(out, n);
-    }
-    let set = taken.set;
-    let lent = lent_rows(&rows, taken.rows, taken.fits);
-    put_written(out, n, set, lent, room.value, fill.value)
+    let stored = take_tables(case, &mut rows)?;
+    set.tablecount = usize::from(count);
+    let tables = stored.tables.items;
+    set.tables = tables;
+    let room = case.short()?;
+    let fill = case.octet()?;
+    case.end()?;
+    let lent = lent_rows(&rows, stored.rows, stored.fits);
+    put_written(line, set, lent, room, fill);
+    Some(())
 }

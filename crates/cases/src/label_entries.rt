@@ -1,70 +1,60 @@
 // Entries 1 to 3 and 19: labels asked alone, and renumbered.
-use crate::field::take_short;
+use crate::field::Case;
 use crate::record::{
-    TABLE_NUMBERS, TakenTable, first_rows, levels_at, take_label, take_table, take_wide_table,
+    TABLE_NUMBERS, TakenTable, first_rows, take_label, take_table, take_wide_table,
 };
-use case_lines::{put_answer, put_broken, put_label};
+use case_lines::Words;
 use label::Label;
 use renumber::renumber;
-use text::put_decimal;
+use text::Line;
 
-pub fn ask_contains(case: &[u8], at: usize, out: &mut [u8], n: usize) -> usize {
-    let a = take_label(case, at);
-    let category = take_short(case, a.next);
-    if category.next != case.len() {
-        return put_broken(out, n);
-    }
-    let label = a.label;
-    let yes = label.contains(category.value);
-    put_answer(out, n, yes)
+pub fn ask_contains(case: &mut Case, line: &mut Line) -> Option<()> {
+    let label = take_label(case)?;
+    let category = case.short()?;
+    case.end()?;
+    label.contains(category).put(line);
+    Some(())
 }
 
-pub fn ask_within(case: &[u8], at: usize, out: &mut [u8], n: usize) -> usize {
-    let a = take_label(case, at);
-    let b = take_label(case, a.next);
-    if b.next != case.len() {
-        return put_broken(out, n);
-    }
-    let label = a.label;
-    let other = b.label;
-    let yes = label.within(other);
-    put_answer(out, n, yes)
+pub fn ask_within(case: &mut Case, line: &mut Line) -> Option<()> {
+    let label = take_label(case)?;
+    let other = take_label(case)?;
+    case.end()?;
+    label.within(other).put(line);
+    Some(())
 }
 
 // Entry 3.
-pub fn ask_renumber(case: &[u8], at: usize, out: &mut [u8], n: usize) -> usize {
+pub fn ask_renumber(case: &mut Case, line: &mut Line) -> Option<()> {
     let mut rows = [0u16; TABLE_NUMBERS];
-    let a = take_label(case, at);
-    let label = a.label;
-    let t = take_table(case, a.next, &mut rows);
-    put_renumbered(case, label, t, &rows, out, n)
+    let label = take_label(case)?;
+    let taken = take_table(case, &mut rows)?;
+    put_renumbered(case, label, taken, &rows, line)
 }
 
 // Entry 19: with a wide table.
-pub fn ask_wide_renumber(case: &[u8], at: usize, out: &mut [u8], n: usize) -> usize {
+pub fn ask_wide_renumber(case: &mut Case, line: &mut Line) -> Option<()> {
     let mut rows = [0u16; TABLE_NUMBERS];
-    let a = take_label(case, at);
-    let label = a.label;
-    let t = take_wide_table(case, a.next, &mut rows, 0);
-    put_renumbered(case, label, t, &rows, out, n)
+    let label = take_label(case)?;
+    let taken = take_wide_table(case, &mut rows, 0)?;
+    put_renumbered(case, label, taken, &rows, line)
 }
 
 // The label renumbered: number and label.
 fn put_renumbered(
-    case: &[u8],
+    case: &Case,
     label: Label,
-    t: TakenTable,
+    taken: TakenTable,
     rows: &[u16],
-    out: &mut [u8],
-    n: usize,
-) -> usize {
-    if t.next != case.len() {
-        return put_broken(out, n);
-    }
-    let table = t.table;
-    let levels = levels_at(case, t.levels, t.stored);
-    let r = renumber(label, table, first_rows(rows, t.end), levels);
-    let far = r.label;
-    let numbered = put_decimal(out, n, r.number as u64);
-    put_label(out, numbered, far)
+    line: &mut Line,
+) -> Option<()> {
+    case.end()?;
+    let used = first_rows(rows, taken.end);
+    let (number, label) = match renumber(label, taken.table, used, taken.levels) {
+        Ok(far) => (0, far),
+        Err(error) => (u8::from(error), Label::empty(0, 0)),
+    };
+    line.decimal(u64::from(number));
+    label.put(line);
+    Some(())
 }

@@ -19,11 +19,11 @@ mod record;
 mod routing_entries;
 mod table_entries;
 
-use case_lines::put_broken;
 use entry::answer;
 use std::io::{Stdin, Stdout};
-use stream::{Place, begin, feed, flush, go_on, spare, stop};
-use text::put_octet;
+use std::ops::ControlFlow;
+use stream::{Place, begin, feed, finish, go_on, spare};
+use text::Line;
 
 // Two octets of length and the longest case that they can lead, and as much again, so that what is moved to the front is less than what is read.
 const INPUT: usize = 131072;
@@ -33,41 +33,47 @@ const OUTPUT: usize = 524288;
 const LINE: usize = 263168;
 
 // The line of a case of `size` octets in the window, or BROKEN where it is cut off. What waits is written where a line might not fit.
-fn answer_case(stdout: Stdout, input: &[u8], out: &mut [u8], place: Place, size: usize) -> Place
+fn answer_case(
+    stdout: Stdout,
+    input: &[u8],
+    out: &mut [u8],
+    place: Place,
+    size: usize,
+) -> ControlFlow<usize, Place>
     requires { (place.window.at ≤ place.window.end) × (place.window.end ≤ length input.now) × (2 ≤ size) }
 {
-    let ready = spare(stdout, out, place, LINE);
-    if !ready.more {
-        return ready;
-    }
-    let n = ready.waiting;
+    let ready = spare(stdout, out, place, LINE)?;
+    let mut line = Line {
+        octets: out,
+        end: ready.waiting,
+    };
     let whole = place.window;
     let at = whole.at;
     let end = whole.end;
     if end - at < size {
-        return stop(put_cut(out, n));
+        line.put_broken();
+        return ControlFlow::Break(line.end);
     }
     let next = at + size;
-    let from = at + 2;
-    let answered = answer(&input[from..next], out, n);
-    let waiting = put_octet(out, answered, b'\n');
-    go_on(next, end, waiting)
+    answer(&input[at + 2..next], &mut line);
+    line.octet(b'\n');
+    go_on(next, end, line.end)
 }
 
 // One case; nothing where the input ends. What waits is written before the input is read, and a write that fails ends the program.
-fn turn(stdin: Stdin, stdout: Stdout, input: &mut [u8], out: &mut [u8], place: Place) -> Place {
-    let led = feed(stdin, stdout, input, out, place, 2);
-    if !led.more {
-        return led;
-    }
+fn turn(
+    stdin: Stdin,
+    stdout: Stdout,
+    input: &mut [u8],
+    out: &mut [u8],
+    place: Place,
+) -> ControlFlow<usize, Place> {
+    let led = feed(stdin, stdout, input, out, place, 2)?;
     let size = size_at(input, led);
     if size < 2 {
-        return stop(led.waiting);
+        return ControlFlow::Break(led.waiting);
     }
-    let fed = feed(stdin, stdout, input, out, led, size);
-    if !fed.more {
-        return fed;
-    }
+    let fed = feed(stdin, stdout, input, out, led, size)?;
     answer_case(stdout, input, out, fed, size)
 }
 
@@ -88,17 +94,11 @@ fn size_at(input: &[u8], place: Place) -> usize
     case_size(input[first], input[second])
 }
 
-// The line of a case that is cut off.
-fn put_cut(out: &mut [u8], n: usize) -> usize {
-    let broken = put_broken(out, n);
-    put_octet(out, broken, b'\n')
-}
-
 // How many octets a case has, with the two that lead it.
 fn case_size(high: u8, low: u8) -> usize
     ensures { (2 ≤ result) × (result ≤ 65537) }
 {
-    high as usize * 256 + low as usize + 2
+    usize::from(u16::from_be_bytes([high, low])) + 2
 }
 
 fn main(rt: HostRuntime) {
@@ -106,12 +106,13 @@ fn main(rt: HostRuntime) {
     let stdout = rt.stdout();
     let mut input = [0u8; INPUT];
     let mut out = [0u8; OUTPUT];
-    let mut place = begin();
+    let mut last = ControlFlow::Continue(begin());
     // a proved loop has to end, and nothing says that the input does: no run has so many cases
-    let mut turns = u64::MAX;
-    while turns > 0 && place.more {
-        place = turn(stdin, stdout, &mut input, &mut out, place);
-        turns -= 1;
+    for _ in 0..u64::MAX {
+        let ControlFlow::Continue(place) = last else {
+            break;
+        };
+        last = turn(stdin, stdout, &mut input, &mut out, place);
     }
-    flush(stdout, &out, place);
+    finish(stdout, &out, last);
 }

@@ -1,93 +1,100 @@
 // Entries 4, 5, 13, 14, 17 and 24 of the program `cases`: one option spelled and read, option 130 read and written, and a bitmap read by the table of octets.
-use crate::field::{octets_of, take_octet, take_octets, take_output, take_short};
-use crate::record::{TakenLabel, take_label, take_spellings};
-use basic::{read_basic, write_basic};
-use case_lines::{LONGEST, put_broken, put_counted, put_keys, put_label, put_two};
+use crate::field::Case;
+use crate::record::{take_label, take_spellings};
+use basic::{BAD_BASIC, read_basic, write_basic};
+use case_lines::{LONGEST, Words, put_counted, put_first, put_two};
 use label::Label;
 use option::Spellings;
 use option_read::read_option;
-use option_read_bitmap::read_bitmap;
+use option_read_bitmap::{BitmapError, read_bitmap};
 use option_spell::spell_label;
-use text::put_next;
+use text::Line;
 
 // Entry 4: as document 01 permits it.
-pub fn ask_spell(case: &[u8], at: usize, out: &mut [u8], n: usize) -> usize {
-    let a = take_label(case, at);
-    put_spelled(case, a.next, a, Spellings::usual(), out, n)
+pub fn ask_spell(case: &mut Case, line: &mut Line) -> Option<()> {
+    let label = take_label(case)?;
+    put_spelled(case, label, Spellings::usual(), line)
 }
 
 // Entry 17: under a set of permitted spellings.
-pub fn ask_spell_permitted(case: &[u8], at: usize, out: &mut [u8], n: usize) -> usize {
-    let a = take_label(case, at);
-    let permitted = take_spellings(case, a.next);
-    let spellings = permitted.spellings;
-    put_spelled(case, permitted.next, a, spellings, out, n)
+pub fn ask_spell_permitted(case: &mut Case, line: &mut Line) -> Option<()> {
+    let label = take_label(case)?;
+    let permitted = take_spellings(case)?;
+    put_spelled(case, label, permitted, line)
 }
 
 // The output, and the label spelled.
-fn put_spelled(
-    case: &[u8],
-    at: usize,
-    a: TakenLabel,
-    permitted: Spellings,
-    out: &mut [u8],
-    n: usize,
-) -> usize {
-    let lent = take_output(case, at);
-    if lent.next != case.len() {
-        return put_broken(out, n);
-    }
-    let label = a.label;
+fn put_spelled(case: &mut Case, label: Label, permitted: Spellings, line: &mut Line) -> Option<()> {
+    let lent = case.output()?;
+    case.end()?;
     let room = lent.room;
     let mut space = [lent.fill; LONGEST];
-    let s = spell_label(label, permitted, &mut space[0..room]);
-    put_counted(out, n, s.number, s.count, &space, room)
+    let (number, count) = match spell_label(label, permitted, &mut space[..room]) {
+        Ok(count) => (0, count),
+        Err(error) => (error.number(), 0),
+    };
+    put_counted(line, number, count, &space, room);
+    Some(())
 }
 
-pub fn ask_read(case: &[u8], at: usize, out: &mut [u8], n: usize) -> usize {
-    let octets = take_octets(case, at);
-    if octets.next != case.len() {
-        return put_broken(out, n);
+pub fn ask_read(case: &mut Case, line: &mut Line) -> Option<()> {
+    let octets = case.octets()?;
+    case.end()?;
+    match read_option(octets) {
+        Ok(label) => {
+            put_two(line, 0, 0);
+            label.put(line);
+        }
+        Err(fault) => {
+            put_two(line, u64::from(fault.number), fault.at as u64);
+            Label::empty(0, 0).put(line);
+        }
     }
-    let r = read_option(octets_of(case, octets.from, octets.end));
-    let label = r.label;
-    let pointed = put_two(out, n, r.number as u64, r.pointer as u64);
-    put_label(out, pointed, label)
+    Some(())
 }
 
 // Entry 13: option 130 read alone.
-pub fn ask_read_basic(case: &[u8], at: usize, out: &mut [u8], n: usize) -> usize {
-    let octets = take_octets(case, at);
-    if octets.next != case.len() {
-        return put_broken(out, n);
+pub fn ask_read_basic(case: &mut Case, line: &mut Line) -> Option<()> {
+    let octets = case.octets()?;
+    case.end()?;
+    match read_basic(octets) {
+        Some(r) => put_marks(line, 0, r.level, r.flags),
+        None => put_marks(line, BAD_BASIC, 0, 0),
     }
-    let r = read_basic(octets_of(case, octets.from, octets.end));
-    let levelled = put_two(out, n, r.number as u64, r.level as u64);
-    put_next(out, levelled, r.flags as u64)
+    Some(())
+}
+
+fn put_marks(line: &mut Line, number: u8, level: u8, flags: u16) {
+    put_two(line, u64::from(number), u64::from(level));
+    line.next(u64::from(flags));
 }
 
 // Entry 14: option 130 written.
-pub fn ask_write_basic(case: &[u8], at: usize, out: &mut [u8], n: usize) -> usize {
-    let level = take_octet(case, at);
-    let flags = take_short(case, level.next);
-    let lent = take_output(case, flags.next);
-    if lent.next != case.len() {
-        return put_broken(out, n);
-    }
+pub fn ask_write_basic(case: &mut Case, line: &mut Line) -> Option<()> {
+    let level = case.octet()?;
+    let flags = case.short()?;
+    let lent = case.output()?;
+    case.end()?;
     let room = lent.room;
     let mut space = [lent.fill; LONGEST];
-    let w = write_basic(level.value, flags.value, &mut space[0..room]);
-    put_counted(out, n, w.number, w.count, &space, room)
+    match write_basic(level, flags, &mut space[..room]) {
+        Ok(count) => put_counted(line, 0, count, &space, room),
+        Err(error) => put_counted(line, error.number(), 0, &space, room),
+    }
+    Some(())
 }
 
 // Entry 24. Number, count, low and high of each run.
-pub fn ask_bitmap(case: &[u8], at: usize, out: &mut [u8], n: usize) -> usize {
-    let octets = take_octets(case, at);
-    if octets.next != case.len() {
-        return put_broken(out, n);
-    }
+pub fn ask_bitmap(case: &mut Case, line: &mut Line) -> Option<()> {
+    let octets = case.octets()?;
+    case.end()?;
     let mut keys = [0u32; Label::MAX_RUNS];
-    let found = read_bitmap(octets_of(case, octets.from, octets.end), &mut keys);
-    let counted = put_two(out, n, found.number as u64, found.count as u64);
-    put_keys(out, counted, &keys, found.count)
+    let (number, count) = match read_bitmap(octets, &mut keys) {
+        Ok(count) => (0, count),
+        Err(BitmapError::Short) => (1, 0),
+        Err(BitmapError::Long) => (10, 0),
+    };
+    put_two(line, number, count as u64);
+    put_first(line, &keys, count);
+    Some(())
 }

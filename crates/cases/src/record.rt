@@ -1,26 +1,28 @@
 // The records of a case: labels, ports, a host, the table with its level pairs, and the facts of a datagram.
-use crate::field::{
-    Flag, Octet, take_flag, take_limited, take_octet, take_part, take_short, take_stored, take_word,
-};
-use basic::{Basic, Way};
+ghost use Rattle.std.specs.Prelude.{◌≤◌};
+
+use crate::field::Case;
+use basic::{Basic, MAX_FIELDS, Way};
 use decision::Facts;
 use label::{Label, Run};
-use lists::lesser;
 use option::Spellings;
 use port::{Host, Port};
 use table::{MAX_ROWS, Table};
 use table_levels::{Levels, MAX_PAIRS};
 
 // The groups of a port's later fields: option 130, permitted spellings, the default label of unlabelled hosts, strict.
-const BASIC_GROUP: u8 = 1;
+const BASIC_GROUP: usize = 1;
 
-const SPELLINGS_GROUP: u8 = 2;
+const SPELLINGS_GROUP: usize = 2;
 
-const DEFAULT_GROUP: u8 = 4;
+const DEFAULT_GROUP: usize = 4;
 
-const STRICT_GROUP: u8 = 8;
+const STRICT_GROUP: usize = 8;
 
 const ALL_GROUPS: usize = 15;
+
+// The sum of all permitted spellings.
+const ALL_SPELLINGS: usize = 15;
 
 // The most level pairs and rows that are stored of a table of the entries 3, 6 and 8.
 const OLD_PAIRS: usize = 16;
@@ -30,435 +32,234 @@ const OLD_ROWS: usize = 64;
 // How many numbers the rows of one table have at most.
 pub const TABLE_NUMBERS: usize = MAX_ROWS * 3;
 
-#[derive(Clone, Copy)]
-pub struct TakenLabel {
-    pub label: Label,
-    pub next: usize,
-}
-
-#[derive(Clone, Copy)]
-pub struct TakenPort {
-    pub port: Port,
-    pub next: usize,
-}
-
-#[derive(Clone, Copy)]
-pub struct TakenSpellings {
-    pub spellings: Spellings,
-    pub next: usize,
-}
-
-#[derive(Clone, Copy)]
-struct TakenDefault {
-    unlabelled: bool,
-    label: Label,
-    next: usize,
-}
-
-#[derive(Clone, Copy)]
-struct TakenBasic {
-    basic: Basic,
-    next: usize,
-}
-
-#[derive(Clone, Copy)]
-struct TakenWay {
-    way: Way,
-    next: usize,
-}
-
-#[derive(Clone, Copy)]
-pub struct TakenHost {
-    pub host: Host,
-    pub next: usize,
-}
-
-#[derive(Clone, Copy)]
-pub struct TakenFacts {
-    pub facts: Facts,
-    pub next: usize,
-}
-
-// The table without its level pairs, which begin at an octet of the case, and how many of these are stored; and the place of the row behind its last, in
-// the list that they were put into.
+// A table, its level pairs, and the place of the row behind its last, in the list that they were put into.
 #[derive(Clone, Copy)]
 pub struct TakenTable {
     pub table: Table,
-    pub levels: usize,
-    pub stored: usize,
+    pub levels: Levels,
     pub end: usize,
-    pub next: usize,
-}
-
-// The place of the row behind the last that was put into a list, and the place of the case after it.
-#[derive(Clone, Copy)]
-struct TakenRows {
-    end: usize,
-    next: usize,
 }
 
 // Domain, level, count, and the runs that are stored.
-pub fn take_label(case: &[u8], at: usize) -> TakenLabel {
-    let domain = take_word(case, at);
-    let level = take_octet(case, domain.next);
-    let count = take_octet(case, level.next);
-    let stored = take_stored(case, count.next, Label::MAX_RUNS);
-    let mut label = Label::empty(0, 0);
-    label.domain = domain.value;
-    label.level = level.value;
-    label.count = count.value as usize;
-    let n = stored.value as usize;
-    let mut next = stored.next;
-    let mut i: usize = 0;
-    while i < n {
-        let low = take_short(case, next);
-        let high = take_short(case, low.next);
-        label.runs[i] = Run {
-            low: low.value,
-            high: high.value,
-        };
-        next = high.next;
-        i += 1;
+pub fn take_label(case: &mut Case) -> Option<Label> {
+    let domain = case.word()?;
+    let level = case.octet()?;
+    let count = case.octet()?;
+    let stored = case.stored(Label::MAX_RUNS)?;
+    let mut runs = [Run { low: 0, high: 0 }; Label::MAX_RUNS];
+    for run in runs[..stored].iter_mut() {
+        let low = case.short()?;
+        let high = case.short()?;
+        *run = Run { low, high };
     }
-    TakenLabel {
-        label: label,
-        next: next,
-    }
+    Some(Label {
+        domain,
+        level,
+        count: usize::from(count),
+        runs,
+    })
 }
 
 // Domain, lowest and highest label, whether a label is required, and the assigned label.
-pub fn take_port(case: &[u8], at: usize) -> TakenPort {
-    let domain = take_word(case, at);
-    let lowest = take_label(case, domain.next);
-    let highest = take_label(case, lowest.next);
-    let required = take_flag(case, highest.next);
-    let assigned = take_label(case, required.next);
-    let a = lowest.label;
-    let b = highest.label;
-    let c = assigned.label;
-    let port = Port::plain(domain.value, a, b, required.value, c);
-    TakenPort {
-        port: port,
-        next: assigned.next,
-    }
+pub fn take_port(case: &mut Case) -> Option<Port> {
+    let domain = case.word()?;
+    let lowest = take_label(case)?;
+    let highest = take_label(case)?;
+    let required = case.flag()?;
+    let assigned = take_label(case)?;
+    Some(Port::plain(domain, lowest, highest, required, assigned))
 }
 
 // A port and the groups of its later fields: which there are, and those in their order. One that is not there has the values of document 01.
-pub fn take_wide_port(case: &[u8], at: usize) -> TakenPort {
-    let taken = take_port(case, at);
-    let groups = take_groups(case, taken.next);
-    let basic = take_basic(case, groups.next, has_part(groups.value, BASIC_GROUP));
-    let spellings = take_spellings_group(case, basic.next, has_part(groups.value, SPELLINGS_GROUP));
-    let default = take_default(case, spellings.next, has_part(groups.value, DEFAULT_GROUP));
-    let strict = take_strict(case, default.next, has_part(groups.value, STRICT_GROUP));
-    let plain = taken.port;
-    let lowest = plain.lowest;
-    let highest = plain.highest;
-    let assigned = plain.assigned;
-    let settings = basic.basic;
-    let permitted = spellings.spellings;
-    let given = default.label;
-    let port = Port {
-        domain: plain.domain,
-        lowest: lowest,
-        highest: highest,
-        required: plain.required,
-        assigned: assigned,
-        basic: settings,
-        spellings: permitted,
-        unlabelled: default.unlabelled,
-        default: given,
-        strict: strict.value,
-    };
-    TakenPort {
-        port: port,
-        next: strict.next,
+pub fn take_wide_port(case: &mut Case) -> Option<Port> {
+    let mut port = take_port(case)?;
+    let groups = case.stored(ALL_GROUPS)?;
+    if has_part(groups, BASIC_GROUP) {
+        port.basic = take_basic(case)?;
     }
+    if has_part(groups, SPELLINGS_GROUP) {
+        port.spellings = take_spellings(case)?;
+    }
+    if has_part(groups, DEFAULT_GROUP) {
+        port.unlabelled = case.flag()?;
+        port.default = take_label(case)?;
+    }
+    if has_part(groups, STRICT_GROUP) {
+        port.strict = case.flag()?;
+    }
+    Some(port)
 }
 
-// Whether the port is strict; not where the group is not there.
-fn take_strict(case: &[u8], at: usize, there: bool) -> Flag {
-    if !there {
-        return Flag {
-            value: false,
-            next: at,
-        };
+// A port into each place of a list.
+pub fn take_ports(case: &mut Case, ports: &mut [Port]) -> Option<()> {
+    for port in ports.iter_mut() {
+        *port = take_wide_port(case)?;
     }
-    take_flag(case, at)
-}
-
-// One octet, the sum of the groups that are there.
-fn take_groups(case: &[u8], at: usize) -> Octet {
-    take_stored(case, at, ALL_GROUPS)
+    Some(())
 }
 
 // Whether a power of 2 is a part of the sum.
-fn has_part(sum: u8, part: u8) -> bool {
-    if part == 0 {
-        return false;
-    }
-    sum / part % 2 == 1
-}
-
-// Whether the hosts are unlabelled, and their default label; labelled ones where the group is not there.
-fn take_default(case: &[u8], at: usize, there: bool) -> TakenDefault {
-    if !there {
-        return TakenDefault {
-            unlabelled: false,
-            label: Label::empty(0, 0),
-            next: at,
-        };
-    }
-    let unlabelled = take_flag(case, at);
-    let taken = take_label(case, unlabelled.next);
-    let label = taken.label;
-    TakenDefault {
-        unlabelled: unlabelled.value,
-        label: label,
-        next: taken.next,
-    }
-}
-
-// Permitted spellings; document 01's where the group is not there.
-fn take_spellings_group(case: &[u8], at: usize, there: bool) -> TakenSpellings {
-    if !there {
-        return TakenSpellings {
-            spellings: Spellings::usual(),
-            next: at,
-        };
-    }
-    take_spellings(case, at)
+fn has_part(sum: usize, part: usize) -> bool {
+    sum & part != 0
 }
 
 // One octet, the sum of permitted spellings: 1 tag 1 shortest, 2 tag 1 with ten bitmap octets, 4 tag 2, 8 tag 5.
-pub fn take_spellings(case: &[u8], at: usize) -> TakenSpellings {
-    let sum = take_stored(case, at, 15);
-    let spellings = Spellings {
-        shortest: has_part(sum.value, 1),
-        ten: has_part(sum.value, 2),
-        numbers: has_part(sum.value, 4),
-        pairs: has_part(sum.value, 8),
-    };
-    TakenSpellings {
-        spellings: spellings,
-        next: sum.next,
-    }
+pub fn take_spellings(case: &mut Case) -> Option<Spellings> {
+    let sum = case.stored(ALL_SPELLINGS)?;
+    Some(Spellings {
+        shortest: has_part(sum, 1),
+        ten: has_part(sum, 2),
+        numbers: has_part(sum, 4),
+        pairs: has_part(sum, 8),
+    })
 }
 
 // Whether the Basic Security Option is switched on, and what passes of it, receiving and sending.
-fn take_basic(case: &[u8], at: usize, there: bool) -> TakenBasic {
-    if !there {
-        return TakenBasic {
-            basic: Basic::off(),
-            next: at,
-        };
-    }
-    let on = take_flag(case, at);
-    let receiving = take_way(case, on.next);
-    let sending = take_way(case, receiving.next);
-    let a = receiving.way;
-    let b = sending.way;
-    let basic = Basic {
-        on: on.value,
-        receiving: a,
-        sending: b,
-    };
-    TakenBasic {
-        basic: basic,
-        next: sending.next,
-    }
+fn take_basic(case: &mut Case) -> Option<Basic> {
+    let on = case.flag()?;
+    let receiving = take_way(case)?;
+    let sending = take_way(case)?;
+    Some(Basic {
+        on,
+        receiving,
+        sending,
+    })
 }
 
 // Lowest and highest level, count, and the flag fields that are stored.
-fn take_way(case: &[u8], at: usize) -> TakenWay {
-    let lowest = take_octet(case, at);
-    let highest = take_octet(case, lowest.next);
-    let count = take_short(case, highest.next);
-    let stored = take_limited(case, count.next, 256);
-    let off = Basic::off();
-    let mut way = off.receiving;
-    way.lowest = lowest.value;
-    way.highest = highest.value;
-    way.count = count.value as usize;
-    let n = stored.value as usize;
-    let mut next = stored.next;
-    let mut i: usize = 0;
-    while i < n {
-        let field = take_short(case, next);
-        way.flags[i] = field.value;
-        next = field.next;
-        i += 1;
+fn take_way(case: &mut Case) -> Option<Way> {
+    let lowest = case.octet()?;
+    let highest = case.octet()?;
+    let count = case.short()?;
+    let stored = case.limited(MAX_FIELDS)?;
+    let mut flags = [0u16; MAX_FIELDS];
+    for field in flags[..stored].iter_mut() {
+        *field = case.short()?;
     }
-    TakenWay {
-        way: way,
-        next: next,
-    }
+    Some(Way {
+        lowest,
+        highest,
+        count: usize::from(count),
+        flags,
+    })
 }
 
 // Five flags: the facts that the caller states.
-pub fn take_facts(case: &[u8], at: usize) -> TakenFacts {
-    let error = take_flag(case, at);
-    let group = take_flag(case, error.next);
-    let link = take_flag(case, group.next);
-    let fragment = take_flag(case, link.next);
-    let source = take_flag(case, fragment.next);
-    let facts = Facts {
-        error: error.value,
-        group: group.value,
-        link: link.value,
-        fragment: fragment.value,
-        source: source.value,
-    };
-    TakenFacts {
-        facts: facts,
-        next: source.next,
-    }
+pub fn take_facts(case: &mut Case) -> Option<Facts> {
+    let error = case.flag()?;
+    let group = case.flag()?;
+    let link = case.flag()?;
+    let fragment = case.flag()?;
+    let source = case.flag()?;
+    Some(Facts {
+        error,
+        group,
+        link,
+        fragment,
+        source,
+    })
 }
 
 // One flag, the mark of entries 6 and 7: it is the first of the facts.
-pub fn take_mark(case: &[u8], at: usize) -> TakenFacts {
-    let mark = take_flag(case, at);
-    let facts = Facts {
-        error: mark.value,
+pub fn take_mark(case: &mut Case) -> Option<Facts> {
+    let error = case.flag()?;
+    Some(Facts {
+        error,
         group: false,
         link: false,
         fragment: false,
         source: false,
-    };
-    TakenFacts {
-        facts: facts,
-        next: mark.next,
-    }
+    })
 }
 
 // Lowest and highest label.
-pub fn take_host(case: &[u8], at: usize) -> TakenHost {
-    let lowest = take_label(case, at);
-    let highest = take_label(case, lowest.next);
-    let a = lowest.label;
-    let b = highest.label;
-    let host = Host {
-        lowest: a,
-        highest: b,
-    };
-    TakenHost {
-        host: host,
-        next: highest.next,
-    }
+pub fn take_host(case: &mut Case) -> Option<Host> {
+    let lowest = take_label(case)?;
+    let highest = take_label(case)?;
+    Some(Host { lowest, highest })
 }
 
 // From and to domain, the level pairs, and the rows, which go into a list of zeros. They are lent as counted, and those past the count that are not zero
 // are lent too.
-pub fn take_table(case: &[u8], at: usize, rows: &mut [u16]) -> TakenTable {
-    let from = take_word(case, at);
-    let to = take_word(case, from.next);
-    let pairs = take_octet(case, to.next);
-    let stored = take_stored(case, pairs.next, OLD_PAIRS);
-    let n = stored.value as usize;
-    let levels = take_part(case, stored.next, n * 2);
-    let count = take_short(case, levels.next);
-    let held = take_stored(case, count.next, OLD_ROWS);
-    let taken = take_rows(case, held.next, held.value as usize, rows, 0);
-    let counted = lesser(count.value as usize, MAX_ROWS);
-    TakenTable {
+pub fn take_table(case: &mut Case, rows: &mut [u16]) -> Option<TakenTable> {
+    let from = case.word()?;
+    let to = case.word()?;
+    let pairs = case.octet()?;
+    let stored = case.stored(OLD_PAIRS)?;
+    let levels = take_levels(case, stored)?;
+    let count = case.short()?;
+    let held = case.stored(OLD_ROWS)?;
+    take_rows(case, held, rows, 0)?;
+    let counted = usize::from(count).min(MAX_ROWS);
+    Some(TakenTable {
         table: Table {
-            from: from.value,
-            to: to.value,
-            pairs: pairs.value as usize,
-            count: count.value as usize,
+            from,
+            to,
+            pairs: usize::from(pairs),
+            count: usize::from(count),
         },
-        levels: levels.from,
-        stored: n,
-        end: greater(rows_needed(rows), counted),
-        next: taken.next,
-    }
+        levels,
+        end: rows_needed(rows).max(counted),
+    })
 }
 
 // A wide table: two octets for each count and for each number of what is stored, and the rows that are lent go into a list from the place of a row on.
-pub fn take_wide_table(case: &[u8], at: usize, rows: &mut [u16], place: usize) -> TakenTable {
-    let from = take_word(case, at);
-    let to = take_word(case, from.next);
-    let pairs = take_short(case, to.next);
-    let stored = take_limited(case, pairs.next, MAX_PAIRS);
-    let n = stored.value as usize;
-    let levels = take_part(case, stored.next, n * 2);
-    let count = take_short(case, levels.next);
-    let lent = take_limited(case, count.next, MAX_ROWS);
-    let taken = take_rows(case, lent.next, lent.value as usize, rows, place);
-    TakenTable {
+pub fn take_wide_table(case: &mut Case, rows: &mut [u16], place: usize) -> Option<TakenTable> {
+    let from = case.word()?;
+    let to = case.word()?;
+    let pairs = case.short()?;
+    let stored = case.limited(MAX_PAIRS)?;
+    let levels = take_levels(case, stored)?;
+    let count = case.short()?;
+    let lent = case.limited(MAX_ROWS)?;
+    let end = take_rows(case, lent, rows, place)?;
+    Some(TakenTable {
         table: Table {
-            from: from.value,
-            to: to.value,
-            pairs: pairs.value as usize,
-            count: count.value as usize,
+            from,
+            to,
+            pairs: usize::from(pairs),
+            count: usize::from(count),
         },
-        levels: levels.from,
-        stored: n,
-        end: taken.end,
-        next: taken.next,
-    }
+        levels,
+        end,
+    })
 }
 
-// The next `n` rows go into a list, three numbers each, from the place of a row on; those for which it has no room are left out.
-fn take_rows(case: &[u8], at: usize, n: usize, rows: &mut [u16], place: usize) -> TakenRows {
-    let mut next = at;
+// The first level pairs of a table.
+fn take_levels(case: &mut Case, stored: usize) -> Option<Levels>
+    requires { stored ≤ 256 }
+{
+    let mut levels = [[0u8; 2]; MAX_PAIRS];
+    for pair in levels[..stored].iter_mut() {
+        let own = case.octet()?;
+        let far = case.octet()?;
+        *pair = [own, far];
+    }
+    Some(levels)
+}
+
+// The next `n` rows go into a list, three numbers each, from the place of a row on; those for which it has no room are left out. Answers the place of the row behind the last.
+fn take_rows(case: &mut Case, n: usize, rows: &mut [u16], place: usize) -> Option<usize> {
     let mut end = place;
-    let mut left = n;
-    while left > 0 {
-        let low = take_short(case, next);
-        let high = take_short(case, low.next);
-        let target = take_short(case, high.next);
-        end = put_row(rows, end, low.value, high.value, target.value);
-        next = target.next;
-        left -= 1;
+    for _ in 0..n {
+        let low = case.short()?;
+        let high = case.short()?;
+        let target = case.short()?;
+        if end < rows.len() / 3 {
+            let at = end * 3;
+            rows[at..at + 3].copy_from_slice(&[low, high, target]);
+            end += 1;
+        }
     }
-    TakenRows {
-        end: end,
-        next: next,
-    }
-}
-
-fn greater(a: usize, b: usize) -> usize {
-    if a < b {
-        return b;
-    }
-    a
-}
-
-// A row into a list at its place, and the place behind it.
-fn put_row(rows: &mut [u16], i: usize, low: u16, high: u16, target: u16) -> usize {
-    if i < rows.len() / 3 {
-        put_number(rows, i * 3, low);
-        put_number(rows, i * 3 + 1, high);
-        put_number(rows, i * 3 + 2, target);
-        return i + 1;
-    }
-    i
-}
-
-fn put_number(rows: &mut [u16], at: usize, number: u16) {
-    if at < rows.len() {
-        rows[at] = number;
-    }
+    Some(end)
 }
 
 // How many rows a list has up to the last that is not zero.
 fn rows_needed(rows: &[u16]) -> usize {
-    let mut needed: usize = 0;
-    let mut i: usize = 0;
-    while i < rows.len() {
-        needed = with_number(needed, i, rows[i]);
-        i += 1;
+    match rows.iter().rposition(|number| *number != 0) {
+        Some(last) => last / 3 + 1,
+        None => 0,
     }
-    needed
-}
-
-// With one number more.
-fn with_number(needed: usize, i: usize, number: u16) -> usize {
-    if number == 0 {
-        return needed;
-    }
-    i / 3 + 1
 }
 
 // The first rows of a list; none where it has fewer.
@@ -468,22 +269,4 @@ pub fn first_rows(rows: &[u16], count: usize) -> &[u16] {
     }
     let end = count * 3;
     &rows[0..end]
-}
-
-// The level pairs of a table: the first `stored` from a place of the case on.
-pub fn levels_at(case: &[u8], from: usize, stored: usize) -> Levels {
-    let mut levels = [[0u8; 2]; MAX_PAIRS];
-    let mut at = from;
-    let mut i: usize = 0;
-    while i < stored {
-        if MAX_PAIRS <= i {
-            return levels;
-        }
-        let a = take_octet(case, at);
-        let b = take_octet(case, a.next);
-        levels[i] = [a.value, b.value];
-        at = b.next;
-        i += 1;
-    }
-    levels
 }

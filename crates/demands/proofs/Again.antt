@@ -16,10 +16,8 @@ use Rattle.option.proofs.Meaning.{parts}
 use Rattle.option_slack.proofs.Theorems.{slackness}
 use Rattle.option.proofs.OneSpelling.{one_spelling}
 use Rattle.area.specs.declared.Kind.TheVariants.{Cipso}
-use Rattle.area.specs.declared.Place.{Place}
-use Rattle.area.specs.declared.Place.TheVariants.{Nowhere, At}
-use Rattle.area.specs.declared.Walk.{Walk}
-use Rattle.area.specs.declared.Walk.TheVariants.{Sound}
+use Rattle.std.specs.Prelude.{Ok, Some, None}
+use Rattle.area.specs.Kinds.{Place, Walk, places}
 use Rattle.area.specs.Kinds.{kind_of}
 use Rattle.area.specs.Area.{met_of, walk_of, octets_at}
 use Rattle.area_leaving.specs.Kept.{kept_of, round_up, leaving_of}
@@ -79,10 +77,10 @@ module _ (on : Bool) (s kept : List ℕ) (c : Option (List ℕ)) (l : Label) (h 
       let g : get_or (laid s kept) 1 0 ≡ length s = get_or-append s _ 0 1 (omega (arith, p.long)) ∙ p.size in
       rw g (take_at s _ (length s) refl)
 
-  walked : (b : Place) × (walk_of on (laid s kept) ≡ Sound (At 0) b)
+  walked : (b : Place) × (walk_of on (laid s kept) ≡ Ok (places (Some 0) b))
   walked = front_walk on s kept c (padding s kept) starts (parts s sp.permitted.means.good).kind a
 
-  walked_at : (p : Port) → p.basic.on ≡ on → walk_at p (laid s kept) ≡ Sound (At 0) walked.0
+  walked_at : (p : Port) → p.basic.on ≡ on → walk_at p (laid s kept) ≡ Ok (places (Some 0) walked.0)
   walked_at p e = ap (λ (t : Bool). walk_of t (laid s kept)) e ∙ walked.1
 
   kept_is : kept_of (laid s kept) ≡ kept
@@ -90,7 +88,7 @@ module _ (on : Bool) (s kept : List ℕ) (c : Option (List ℕ)) (l : Label) (h 
 
   basic_is : (p : Port) → p.basic.on ≡ on → arriving_basic p (laid s kept) ≡ c
   basic_is p e =
-      basic_kept p (laid s kept) (At 0) walked.0 (walked_at p e)
+      basic_kept p (laid s kept) (Some 0) walked.0 (walked_at p e)
       ∙ ap (λ (ks : List ℕ). basic_from ks 0) kept_is
       ∙ a.found kept 0 0 (sym (append-nil kept))
 
@@ -123,7 +121,7 @@ read_bare on kept c h a =
     let n = laid_length [] kept l in
     record {
       area = record { few = omega (arith, k.fits); fourfold = ap (λ (i : ℕ). i % 4) n ∙ k.fourfold };
-      walk = a.walk (padding [] kept) 0 Nowhere Nowhere (free_nowhere c);
+      walk = a.walk (padding [] kept) 0 None None (free_nowhere c);
       kept = a.kept (kept ++ replicate (padding [] kept) 0) (padding [] kept) 0 refl;
       counted = rw n k;
     }

@@ -7,24 +7,25 @@ use native.Mathlib.Omega.{arith}
 use lib.Dec.{leb, ltb, eqb}
 use lib.ListN.{length, take}
 use borrow.Author.Tests.{ne_eqb}
+use Rattle.std.specs.Prelude.{None, Some, Err}
+use Rattle.std.specs.Option.{ok_or}
 use Rattle.label.specs.declared.Run.{Run}
 use Rattle.label.specs.declared.Label.{Label}
 use Rattle.label.specs.Label.{used, label_of, zero_label, empty_of, well_formed, member, at_most, leq}
 use Rattle.option.specs.Option.{domain_of}
 use Rattle.option.specs.declared.Spellings.{Spellings}
 use Rattle.option.specs.Spelling.{spelled_of}
-use Rattle.option_read.specs.declared.Reading.{Reading}
+use Rattle.option_read.specs.Reading.{Reading}
 use Rattle.option_read.specs.Reading.{Check, check, not_read, checked_reading, framed, tag_checks, label_in, reading_by, reading_of}
 use Rattle.option_form.specs.Spelled.{lacking}
 use Rattle.option_spell.specs.Spelling.{spelling_number, spelling_answer, spelling_out}
 use Rattle.option_spell.proofs.Answers.{answer_refused, out_refused}
-use Rattle.table_levels.specs.declared.Partner.{Partner}
-use Rattle.table_levels.specs.declared.Partner.TheVariants.{Level, Missing}
 use Rattle.table.specs.Table.{Lent, used_rows, table_sound}
-use Rattle.table_levels.specs.Levels.{partner_of, known}
+use Rattle.table_levels.specs.Levels.{Partner, partner_of, known}
 use Rattle.table.specs.Numbers.{numbered}
-use Rattle.renumber.specs.Renumber as renumbers
-use Rattle.renumber.specs.Renumber.{image_runs, when_numbered, renumbered_of}
+use Rattle.renumber.specs.declared.RenumberError.{RenumberError}
+use Rattle.renumber.specs.declared.RenumberError.TheVariants.{Unsound, NoNumber, TooMany}
+use Rattle.renumber.specs.Renumber.{Renumbered, image_runs, number_of, when_numbered, renumbered_of}
 use Rattle.demands.specs.First.{NoneOf}
 use Rattle.demands.specs.Alone.{read_checks, spell_checks, renumber_checks, FirstCheck, AskedAlone}
 use Rattle.demands.proofs.Renumbering.{renumber_alone}
@@ -76,17 +77,20 @@ spells p l out c f =
     (answer_refused p l (length out) c.number r e, out_refused p l out c.number r e)
 
 -- Renumbering.
+abbrev Refuses : Renumbered → ℕ → Type 0
+Refuses r n = (e : RenumberError) × (r ≡ Err e) × (number_of e ≡ n)
+
 renumbered_by_lem : (s d : Bool) (q : Partner) (b k : Bool) (to : ℕ) (img : List Run) (n : ℕ) → (n ≡ 0 → ⊥)
     → (checked_reading (check (not s) 2 0 ∷ check (not (d && (known q && b))) 16 0 ∷ check (not k) 18 0 ∷ []) zero_label).number ≡ n
-    → cond s (cond d (when_numbered q b (λ v. cond k (renumbers.renumbered_as (label_of to v img)) (renumbers.not_renumbered 18))) (renumbers.not_renumbered 16)) (renumbers.not_renumbered 2) ≡ renumbers.not_renumbered n
-renumbered_by_lem false d q b k to img n z e = ap renumbers.not_renumbered e
-renumbered_by_lem true false q b k to img n z e = ap renumbers.not_renumbered e
-renumbered_by_lem true true Missing b k to img n z e = ap renumbers.not_renumbered e
-renumbered_by_lem true true (Level v) false k to img n z e = ap renumbers.not_renumbered e
-renumbered_by_lem true true (Level v) true false to img n z e = ap renumbers.not_renumbered e
-renumbered_by_lem true true (Level v) true true to img n z e = absurd (z (sym e))
+    → Refuses (cond s (cond d (when_numbered NoNumber q b (λ v. ok_or (cond k (Some (label_of to v img)) None) TooMany)) (Err NoNumber)) (Err Unsound)) n
+renumbered_by_lem false d q b k to img n z e = (Unsound, refl, e)
+renumbered_by_lem true false q b k to img n z e = (NoNumber, refl, e)
+renumbered_by_lem true true None b k to img n z e = (NoNumber, refl, e)
+renumbered_by_lem true true (Some v) false k to img n z e = (NoNumber, refl, e)
+renumbered_by_lem true true (Some v) true false to img n z e = (TooMany, refl, e)
+renumbered_by_lem true true (Some v) true true to img n z e = absurd (z (sym e))
 
-renumber : (l : Label) (t : Lent) (ls : List (List ℕ)) (c : Check) → FirstCheck (renumber_checks l t ls) c → renumbered_of l t ls ≡ renumbers.not_renumbered c.number
+renumber : (l : Label) (t : Lent) (ls : List (List ℕ)) (c : Check) → FirstCheck (renumber_checks l t ls) c → Refuses (renumbered_of l t ls) c.number
 unfolding renumbered_of
 renumber l t ls c f =
     renumbered_by_lem (table_sound t ls && well_formed l) (eqb l.domain t.from) (partner_of (take t.pairs ls) l.level) (numbered (used_rows t) (used l))

@@ -5,24 +5,20 @@ use mathlib.Core.List.{List, [], ◌∷◌}
 use mathlib.Core.Option.{Option, none, some}
 use Prim.Native.Nat.{ℕ, zero, suc, ◌+◌, ◌<◌}
 use native.Mathlib.Omega.{arith}
-use lib.Dec.{eqb}
 use lib.ListN.{get_or}
-use borrow.Author.Tests.{eqb-true}
 use Rattle.label.proofs.Bools.{never, and_right}
 use Rattle.option.specs.Option.{Octets}
 use Rattle.basic.specs.declared.BasicReading.{BasicReading}
 use Rattle.basic.specs.declared.Way.{Way}
 use Rattle.basic.specs.Option.{BasicMeans}
-use Rattle.basic.specs.Alone.{basic_reading}
-use Rattle.basic.specs.Settings.{way_sound, passes_way}
+use Rattle.basic.specs.Alone.{BasicRead, basic_reading}
+use Rattle.basic.specs.Settings.{way_sound, passes_read}
 use Rattle.basic.specs.Theorems.{BasicPermitted}
 use Rattle.basic.proofs.Settings.{on_ways}
 use Rattle.basic.proofs.OptionTheorems.{reads_basic_lem}
 use Rattle.basic.proofs.Theorems.{passes_exactly}
-use Rattle.area.specs.declared.Place.{Place}
-use Rattle.area.specs.declared.Place.TheVariants.{Nowhere, At}
-use Rattle.area.specs.declared.Walk.{Walk}
-use Rattle.area.specs.declared.Walk.TheVariants.{Sound, Refused}
+use Rattle.std.specs.Prelude.{Ok, Err, Some, None, is_none}
+use Rattle.area.specs.Kinds.{Place, Walk, places}
 use Rattle.area.specs.Area.{walk_of, octets_at}
 use Rattle.area.proofs.Laws.{off_nowhere}
 use Rattle.area_leaving.specs.Kept.{kept_of}
@@ -43,12 +39,12 @@ octets_at_lem [] o i = omega arith
 octets_at_lem (x ∷ xs) o zero = o.0
 octets_at_lem (x ∷ xs) o (suc i) = octets_at_lem xs o.1 i
 
-pub walk_sound : (w : Walk) → walk_refusal w ≡ none → (l : Place) × (b : Place) × (w ≡ Sound l b)
-walk_sound (Sound l b) e = (l, b, refl)
-walk_sound (Refused n at) e = let z : ◌≡◌ {A = ℕ} 0 1 = cc in absurd (omega arith)
+pub walk_sound : (w : Walk) → walk_refusal w ≡ none → (l : Place) × (b : Place) × (w ≡ Ok (places l b))
+walk_sound (Ok m) e = (m.label, m.basic, refl)
+walk_sound (Err r) e = let z : ◌≡◌ {A = ℕ} 0 1 = cc in absurd (omega arith)
 
 -- An area past 3 to 5: its option 130 is among its kept options.
-pub basic_kept : (p : Port) (area : List ℕ) (l b : Place) → walk_at p area ≡ Sound l b → arriving_basic p area ≡ basic_from (kept_of area) 0
+pub basic_kept : (p : Port) (area : List ℕ) (l b : Place) → walk_at p area ≡ Ok (places l b) → arriving_basic p area ≡ basic_from (kept_of area) 0
 unfolding arriving_basic
 basic_kept p area l b w = ap (λ (x : Walk). octets_at (basic_in x) area) w ∙ basic_of_kept p.basic.on area l b w
 
@@ -67,7 +63,7 @@ module _ (p : Port) (area : List ℕ) (code : ℕ) (passed : first_of (arrival_c
   n : NoneApplies (arrival_checks p area code)
   n = first_none (arrival_checks p area code) passed
 
-  pub passed_walk : (l : Place) × (b : Place) × (walk_at p area ≡ Sound l b)
+  pub passed_walk : (l : Place) × (b : Place) × (walk_at p area ≡ Ok (places l b))
   unfolding walk_check
   passed_walk = walk_sound (walk_at p area) n.0
 
@@ -78,37 +74,44 @@ module _ (p : Port) (area : List ℕ) (code : ℕ) (passed : first_of (arrival_c
   pub passed_switch : p.basic.on ≡ there (arriving_basic p area)
   passed_switch = passes_there p.basic.on p.basic.receiving (arriving_basic p area) passed_range
 
+  -- what an option that is not bad was read to
+  read_to : (r : BasicRead) → is_none r ≡ false → (x : BasicReading) × (r ≡ Some x)
+  read_to (Some x) e = (x, refl)
+  read_to None e = absurd (never e)
+
   -- the option that was read
   pub record Received : Type 0 where
     pub label : Place
     pub at : ℕ
-    pub walk : walk_at p area ≡ Sound label (At at)
+    pub walk : walk_at p area ≡ Ok (places label (Some at))
     pub octets : arriving_basic p area ≡ some (option_at at area)
-    pub number : (basic_reading (option_at at area)).number ≡ 0
+    pub reading : BasicReading
+    pub is : basic_reading (option_at at area) ≡ Some reading
 
   pub received : p.basic.on ≡ true → Received
   unfolding bad_basic_check arriving_basic
   received on = go passed_walk.0 passed_walk.1 passed_walk.2
     where
-      go : (l b : Place) → walk_at p area ≡ Sound l b → Received
-      go l Nowhere w =
+      go : (l b : Place) → walk_at p area ≡ Ok (places l b) → Received
+      go l None w =
           let o : octets_at (basic_in (walk_at p area)) area ≡ none = rw w in
           absurd (never (sym on ∙ passed_switch ∙ ap there o))
-      go l (At i) w =
+      go l (Some i) w =
           let o : octets_at (basic_in (walk_at p area)) area ≡ some (option_at i area) = rw w in
-          let z : when (not (eqb (basic_reading (option_at i area)).number 0)) (faulty 19 i) ≡ none = rw w at n.1.1.1.0 in
-          record { label = l; at = i; walk = w; octets = o; number = eqb-true _ _ (not_false_yes _ (when_none _ _ z)) }
+          let z : when (is_none (basic_reading (option_at i area))) (faulty 19 i) ≡ none = rw w at n.1.1.1.0 in
+          let r = read_to (basic_reading (option_at i area)) (when_none _ _ z) in
+          record { label = l; at = i; walk = w; octets = o; reading = r.0; is = r.1 }
 
 -- what it means, and that it is permitted
-module _ (area : List ℕ) (oct : Octets area) (at : ℕ) (number : (basic_reading (option_at at area)).number ≡ 0) where
-  pub means_it : BasicMeans (option_at at area) (basic_reading (option_at at area)).level (basic_reading (option_at at area)).flags
-  means_it = reads_basic_lem.means (option_at at area) (octets_part (get_or area (at + 1) 0) at area (octets_at_lem area oct)) number
+module _ (area : List ℕ) (oct : Octets area) (at : ℕ) (x : BasicReading) (is : basic_reading (option_at at area) ≡ Some x) where
+  pub means_it : BasicMeans (option_at at area) x.level x.flags
+  means_it = reads_basic_lem.means (option_at at area) x (octets_part (get_or area (at + 1) 0) at area (octets_at_lem area oct)) is
 
   pub permits_it : (on : Bool) (way : Way) (o : Option (List ℕ)) → o ≡ some (option_at at area) → way_sound way ≡ true → basic_passes on way o ≡ true
-      → BasicPermitted way (basic_reading (option_at at area)).level (basic_reading (option_at at area)).flags
+      → BasicPermitted way x.level x.flags
   permits_it on way o e s g =
-      (passes_exactly way (basic_reading (option_at at area)).level (basic_reading (option_at at area)).flags s).0
-      (and_right on _ (ap (basic_passes on way) (sym e) ∙ g))
+      (passes_exactly way x.level x.flags s).0
+      (ap (passes_read way) (sym is) ∙ and_right on _ (ap (basic_passes on way) (sym e) ∙ g))
 
 -- Demand 2 of the option 130, from the checks.
 pub basic_arrives : (p : Port) (area : List ℕ) (code : ℕ) → Octets area → port_sound p ≡ true → first_of (arrival_checks p area code) ≡ none → BasicArrives p area
@@ -118,9 +121,9 @@ basic_arrives p area code oct s e = go p.basic.on refl
     go false f = unread f
     go true f =
         let r = received p area code e f in
-        let m = means_it area oct r.at r.number in
+        let m = means_it area oct r.at r.reading r.is in
         read r.label r.at _ _ f r.walk m
-        (permits_it area oct r.at r.number p.basic.on p.basic.receiving (arriving_basic p area) r.octets (on_ways p.basic f (sound p s).basic).0 (passed_range p area code e))
+        (permits_it area oct r.at r.reading r.is p.basic.on p.basic.receiving (arriving_basic p area) r.octets (on_ways p.basic f (sound p s).basic).0 (passed_range p area code e))
 
 module _ (f : Forwarding) (p : Passed f) (oct : Octets f.area) (sa : port_sound f.arriving ≡ true) (sl : port_sound f.leaving ≡ true) where
   sent_passes : basic_passes f.leaving.basic.on f.leaving.basic.sending (arriving_basic f.arriving f.area) ≡ true
@@ -140,12 +143,12 @@ module _ (f : Forwarding) (p : Passed f) (oct : Octets f.area) (sa : port_sound 
       go false e = neither e (sym same ∙ e)
       go true e =
           let r = received f.arriving f.area 9 p.arrived e in
-          let m = means_it f.area oct r.at r.number in
+          let m = means_it f.area oct r.at r.reading r.is in
           let l : f.leaving.basic.on ≡ true = sym same ∙ e in
           both r.label r.at _ _ e l r.walk m
-          (permits_it f.area oct r.at r.number f.arriving.basic.on f.arriving.basic.receiving (arriving_basic f.arriving f.area) r.octets
+          (permits_it f.area oct r.at r.reading r.is f.arriving.basic.on f.arriving.basic.receiving (arriving_basic f.arriving f.area) r.octets
           (on_ways f.arriving.basic e (sound f.arriving sa).basic).0 (passed_range f.arriving f.area 9 p.arrived))
-          (permits_it f.area oct r.at r.number f.leaving.basic.on f.leaving.basic.sending (arriving_basic f.arriving f.area) r.octets
+          (permits_it f.area oct r.at r.reading r.is f.leaving.basic.on f.leaving.basic.sending (arriving_basic f.arriving f.area) r.octets
           (on_ways f.leaving.basic l (sound f.leaving sl).basic).1 sent_passes)
 
 -- both ports of a forwarding that passes read option 130, or neither does
@@ -163,10 +166,10 @@ pub record Unbarred (p : Port) (area : List ℕ) (code : ℕ) : Type 0 where
 
 module _ (p : Port) (area : List ℕ) where
   -- the port has it switched off
-  pub off_unbarred : (code : ℕ) (l b : Place) → walk_at p area ≡ Sound l b → p.basic.on ≡ false → Unbarred p area code
+  pub off_unbarred : (code : ℕ) (l b : Place) → walk_at p area ≡ Ok (places l b) → p.basic.on ≡ false → Unbarred p area code
   unfolding bad_basic_check missing_basic_check basic_range_check
   off_unbarred code l b w e =
-      let q : b ≡ Nowhere = off_nowhere area l b (ap (λ (t : Bool). walk_of t area) (sym e) ∙ w) in
+      let q : b ≡ None = off_nowhere area l b (ap (λ (t : Bool). walk_of t area) (sym e) ∙ w) in
       let c = off_none p area e in
       record {
         bad = ap (λ (x : Walk). bad_basic_by (basic_in x) area) w ∙ ap (λ (x : Place). bad_basic_by x area) q;
@@ -175,7 +178,7 @@ module _ (p : Port) (area : List ℕ) where
       }
 
   -- or on
-  module _ (label : Place) (at v f : ℕ) (w : walk_at p area ≡ Sound label (At at)) (m : BasicMeans (option_at at area) v f) where
+  module _ (label : Place) (at v f : ℕ) (w : walk_at p area ≡ Ok (places label (Some at))) (m : BasicMeans (option_at at area) v f) where
     octets_is : arriving_basic p area ≡ some (option_at at area)
     unfolding arriving_basic
     octets_is = ap (λ (x : Walk). octets_at (basic_in x) area) w
@@ -183,23 +186,23 @@ module _ (p : Port) (area : List ℕ) where
     pub way_passes : (on : Bool) (way : Way) → on ≡ true → way_sound way ≡ true → BasicPermitted way v f → basic_passes on way (arriving_basic p area) ≡ true
     way_passes on way e s h =
         let r = reads_basic_lem.back (option_at at area) v f m in
-        (λ i. basic_passes (e i) way (octets_is i)) ∙ ap (λ (x : BasicReading). passes_way way x.level x.flags) r ∙ (passes_exactly way v f s).1 h
+        (λ i. basic_passes (e i) way (octets_is i)) ∙ ap (passes_read way) r ∙ (passes_exactly way v f s).1 h
 
     pub on_unbarred : (code : ℕ) → p.basic.on ≡ true → port_sound p ≡ true → BasicPermitted p.basic.receiving v f → Unbarred p area code
     unfolding bad_basic_check missing_basic_check basic_range_check
     on_unbarred code e s h =
         let r = reads_basic_lem.back (option_at at area) v f m in
         record {
-          bad = ap (λ (x : Walk). bad_basic_by (basic_in x) area) w ∙ ap (λ (x : BasicReading). when (not (eqb x.number 0)) (faulty 19 at)) r;
+          bad = ap (λ (x : Walk). bad_basic_by (basic_in x) area) w ∙ ap (λ (x : BasicRead). when (is_none x) (faulty 19 at)) r;
           missing = ap (λ (x : Option (List ℕ)). missing_basic_by x p.basic.on) octets_is;
           range = ap (λ (t : Bool). when (not t) (barred 21 code)) (way_passes p.basic.on p.basic.receiving e (on_ways p.basic e (sound p s).basic).0 h);
         }
 
-pub arrives_unbarred : (p : Port) (area : List ℕ) (code : ℕ) (l b : Place) → walk_at p area ≡ Sound l b → port_sound p ≡ true → BasicArrives p area → Unbarred p area code
+pub arrives_unbarred : (p : Port) (area : List ℕ) (code : ℕ) (l b : Place) → walk_at p area ≡ Ok (places l b) → port_sound p ≡ true → BasicArrives p area → Unbarred p area code
 arrives_unbarred p area code l b w s (unread e) = off_unbarred p area code l b w e
 arrives_unbarred p area code l b w s (read label at v f e k m h) = on_unbarred p area label at v f k m code e s h
 
-pub passes_unbarred : (p q : Port) (area : List ℕ) (l b : Place) → walk_at p area ≡ Sound l b → port_sound p ≡ true → BasicPasses p q area → Unbarred p area 9
+pub passes_unbarred : (p q : Port) (area : List ℕ) (l b : Place) → walk_at p area ≡ Ok (places l b) → port_sound p ≡ true → BasicPasses p q area → Unbarred p area 9
 passes_unbarred p q area l b w s (neither e g) = off_unbarred p area 9 l b w e
 passes_unbarred p q area l b w s (both label at v f e g k m h i) = on_unbarred p area label at v f k m 9 e s h
 

@@ -9,6 +9,7 @@ use native.Mathlib.Omega.{arith}
 use lib.Dec.{eqb, ltb}
 use lib.ListN.{length}
 use borrow.Author.Tests.{eqb-true, eq-eqb, ne_eqb, lt-ltb}
+use Rattle.std.specs.Prelude.{None, Some}
 use Rattle.label.specs.Label.{used, well_formed}
 use Rattle.label.proofs.Bools.{never, and_left, and_right}
 use Rattle.label_keys.specs.Range.{set_in_range}
@@ -16,9 +17,7 @@ use Rattle.port.specs.Port.{lowest_out, highest_out}
 use Rattle.port.proofs.Laws.{range_formed}
 use Rattle.table.specs.Table.{used_rows}
 use Rattle.table.specs.Numbers.{numbered}
-use Rattle.table_levels.specs.declared.Partner.{Partner}
-use Rattle.table_levels.specs.declared.Partner.TheVariants.{Level, Missing}
-use Rattle.table_levels.specs.Levels.{known}
+use Rattle.table_levels.specs.Levels.{Partner, known}
 use Rattle.renumber.specs.Renumber.{image_runs}
 use Rattle.area_leaving.specs.Kept.{kept_of}
 use Rattle.decision.specs.declared.Decision.{Decision}
@@ -55,8 +54,8 @@ module _ (f : Forwarding) (n : NoneApplies (before_numbers f)) where
       go (partner x) refl (and_left (known (partner x)) _ r2) (and_right (known (partner x)) _ r2) (eqb-true _ _ (and_left (eqb f.table.from f.arriving.domain) _ h)) (eqb-true _ _ (and_left (eqb f.table.to f.leaving.domain) _ r1))
     where
       go : (q : Partner) → partner x ≡ q → known q ≡ true → numbered (used_rows f.table) (used (label_at f)) ≡ true → f.table.from ≡ f.arriving.domain → f.table.to ≡ f.leaving.domain → (v : ℕ) × HasNumbers f v
-      go Missing p k c a b = absurd (never (sym k))
-      go (Level v) p k c a b = (v, record { from = a; to = b; level = p; categories = whole_says (label_at f) f.table formed c })
+      go None p k c a b = absurd (never (sym k))
+      go (Some v) p k c a b = (v, record { from = a; to = b; level = p; categories = whole_says (label_at f) f.table formed c })
 
   has_said : (v : ℕ) → HasNumbers f v → has_numbers x ≡ true
   has_said v h = rw (eq-eqb _ _ h.from, eq-eqb _ _ h.to, h.level, whole_said (label_at f) f.table formed h.categories)

@@ -18,10 +18,8 @@ use Rattle.option_read.specs.Reading as reading
 use Rattle.option_slack.specs.Slack.{slack}
 use Rattle.option_slack.specs.Strict.{strict_checks, strict_reading}
 use Rattle.option_slack.proofs.Pairs.{slack_long}
-use Rattle.area.specs.declared.Place.{Place}
-use Rattle.area.specs.declared.Place.TheVariants.{Nowhere, At}
-use Rattle.area.specs.declared.Walk.{Walk}
-use Rattle.area.specs.declared.Walk.TheVariants.{Sound, Refused}
+use Rattle.std.specs.Prelude.{Ok, Err, Some, None, is_none}
+use Rattle.area.specs.Kinds.{Place, Walk, places}
 use Rattle.area.specs.Area.{bad_area, walk_of}
 use Rattle.area.specs.declared.Kind.TheVariants.{Basic}
 use Rattle.area.proofs.Laws.{area_refused, sound_placed, whole_inside}
@@ -107,29 +105,35 @@ barred_points : (area : List ℕ) (b : Bool) (n code : ℕ) → Points area (whe
 barred_points area b n code = points_when area b (barred n code) (λ k c. absurd (omega arith))
 
 walk_points : (on : Bool) (area : List ℕ) (w : Walk) → walk_of on area ≡ w → Points area (walk_refusal w)
-walk_points on area (Sound l b) e = tt
-walk_points on area (Refused n at) e = λ k c. (let q = area_refused on area n at e in omega (arith, q.2))
+walk_points on area (Ok m) e = tt
+walk_points on area (Err r) e = λ k c. (let q = area_refused on area r.number r.at e in omega (arith, q.2))
 
 required_points : (area : List ℕ) (q : Place) (p : Port) → Points area (required_by q p)
-required_points area Nowhere p = points_when area p.required _ (λ k c. absurd (omega arith))
-required_points area (At i) p = tt
+required_points area None p = points_when area p.required _ (λ k c. absurd (omega arith))
+required_points area (Some i) p = tt
 
 option_points : (on : Bool) (p : Port) (area : List ℕ) (w : Walk) → walk_of on area ≡ w → Points area (option_by (place_in w) p area)
-option_points on p area (Refused n at) e = tt
-option_points on p area (Sound Nowhere b) e = tt
-option_points on p area (Sound (At i) b) e =
-    let f = placed_framed area i (sound_placed on area (At i) b e).0 in
-    let h : (read_at p (option_at i area)).pointer < length (option_at i area) = reading_inside p.strict p.domain (option_at i area) (omega (arith, f.size, f.least)) in
-    points_when area (not (eqb (read_at p (option_at i area)).number 0))
-    (faulty (read_at p (option_at i area)).number (i + (read_at p (option_at i area)).pointer))
-    (λ k c. omega (arith, f.size, f.inside))
+option_points on p area (Err r) e = tt
+option_points on p area (Ok m) e = placed m.label m.basic e
+  where
+    placed : (l b : Place) → walk_of on area ≡ Ok (places l b) → Points area (option_by l p area)
+    placed None b e = tt
+    placed (Some i) b e =
+        let f = placed_framed area i (sound_placed on area (Some i) b e).0 in
+        let h : (read_at p (option_at i area)).pointer < length (option_at i area) = reading_inside p.strict p.domain (option_at i area) (omega (arith, f.size, f.least)) in
+        points_when area (not (eqb (read_at p (option_at i area)).number 0))
+        (faulty (read_at p (option_at i area)).number (i + (read_at p (option_at i area)).pointer))
+        (λ k c. omega (arith, f.size, f.inside))
 
 bad_points : (on : Bool) (area : List ℕ) (w : Walk) → walk_of on area ≡ w → Points area (bad_basic_by (basic_in w) area)
-bad_points on area (Refused n at) e = tt
-bad_points on area (Sound l Nowhere) e = tt
-bad_points on area (Sound l (At i)) e =
-    let f = whole_inside Basic area i (sound_placed on area l (At i) e).1 in
-    points_when area (not (eqb (basic_reading (option_at i area)).number 0)) (faulty 19 i) (λ k c. omega (arith, f.inside, f.least))
+bad_points on area (Err r) e = tt
+bad_points on area (Ok m) e = placed m.label m.basic e
+  where
+    placed : (l b : Place) → walk_of on area ≡ Ok (places l b) → Points area (bad_basic_by b area)
+    placed l None e = tt
+    placed l (Some i) e =
+        let f = whole_inside Basic area i (sound_placed on area l (Some i) e).1 in
+        points_when area (is_none (basic_reading (option_at i area))) (faulty 19 i) (λ k c. omega (arith, f.inside, f.least))
 
 missing_points : (area : List ℕ) (o : Option (List ℕ)) (on : Bool) → Points area (missing_basic_by o on)
 missing_points area none on = points_when area on _ (λ k c. absurd (omega arith))

@@ -7,19 +7,18 @@ use native.Mathlib.Omega.{arith}
 use lib.Dec.{leb, eqb}
 use lib.ListN.{length, take}
 use borrow.Author.Tests.{eqb-true, eqb-false}
+use Rattle.std.specs.Prelude.{None, Some, Ok, Err}
 use Rattle.label.specs.declared.Label.{Label}
 use Rattle.label.specs.Runs.{covers}
 use Rattle.label.specs.Label.{used, label_of, well_formed, member}
 use Rattle.label.proofs.Bools.{never, and_right, all_below_lem, below_all, implies_yes, yes_implies}
 use Rattle.label.proofs.Runs.{covers_top}
 use Rattle.label.proofs.Labels.{formed}
-use Rattle.table_levels.specs.declared.Partner.{Partner}
-use Rattle.table_levels.specs.declared.Partner.TheVariants.{Level, Missing}
 use Rattle.table.specs.Table.{Lent, used_rows, table_sound}
-use Rattle.table_levels.specs.Levels.{partner_of}
+use Rattle.table_levels.specs.Levels.{Partner, partner_of}
 use Rattle.table.specs.Numbers.{has_number, numbered}
-use Rattle.renumber.specs.declared.Renumbered.{Renumbered}
-use Rattle.renumber.specs.Renumber.{not_renumbered, renumbered_as, image_runs, renumbered_of}
+use Rattle.renumber.specs.declared.RenumberError.TheVariants.{NoNumber, TooMany}
+use Rattle.renumber.specs.Renumber.{Renumbered, renumbered_as, image_runs, number_of, renumbered_of}
 use Rattle.renumber.proofs.Theorems.{renumbering}
 use Rattle.demands.specs.Alone.{Numbered, RenumberAlone}
 
@@ -41,8 +40,8 @@ module _ (l : Label) (t : Lent) (w : well_formed l ≡ true) where
 module _ (l : Label) (t : Lent) (ls : List (List ℕ)) (s : table_sound t ls ≡ true) (w : well_formed l ≡ true) where
   -- the three ways it goes
   data Way : Type 0 where
-    missing : (Numbered l t ls → ⊥) → renumbered_of l t ls ≡ not_renumbered 16 → Way
-    large : Numbered l t ls → renumbered_of l t ls ≡ not_renumbered 18 → Way
+    missing : (Numbered l t ls → ⊥) → renumbered_of l t ls ≡ Err NoNumber → Way
+    large : Numbered l t ls → renumbered_of l t ls ≡ Err TooMany → Way
     given : Numbered l t ls → (m : Label) → renumbered_of l t ls ≡ renumbered_as m → Way
 
   way : Way
@@ -51,43 +50,45 @@ module _ (l : Label) (t : Lent) (ls : List (List ℕ)) (s : table_sound t ls ≡
       go (eqb l.domain t.from) refl (partner_of (take t.pairs ls) l.level) refl (numbered (used_rows t) (used l)) refl
       (leb (length (image_runs l t)) 120) refl
     where
-      all : (v : ℕ) → eqb l.domain t.from ≡ true → partner_of (take t.pairs ls) l.level ≡ Level v → numbered (used_rows t) (used l) ≡ true → Numbered l t ls
+      all : (v : ℕ) → eqb l.domain t.from ≡ true → partner_of (take t.pairs ls) l.level ≡ Some v → numbered (used_rows t) (used l) ≡ true → Numbered l t ls
       all v d q b = record { domain = eqb-true _ _ d; level = (v, q); whole = whole_says l t w b }
 
       go : (d : Bool) → eqb l.domain t.from ≡ d → (q : Partner) → partner_of (take t.pairs ls) l.level ≡ q
           → (b : Bool) → numbered (used_rows t) (used l) ≡ b → (k : Bool) → leb (length (image_runs l t)) 120 ≡ k → Way
       go false pd q pq b pb k pk = missing (λ n. eqb-false _ _ pd n.domain) (rw (s, w, pd))
-      go true pd Missing pq b pb k pk =
+      go true pd None pq b pb k pk =
           missing (λ n. (let y = n.level.1 in let z : ◌≡◌ {A = ℕ} 0 1 = cc in omega arith)) (rw (s, w, pd, pq))
-      go true pd (Level v) pq false pb k pk = missing (λ n. never (sym (whole_said l t w n.whole) ∙ pb)) (rw (s, w, pd, pq, pb))
-      go true pd (Level v) pq true pb false pk = large (all v pd pq pb) (rw (s, w, pd, pq, pb, pk))
-      go true pd (Level v) pq true pb true pk = given (all v pd pq pb) (label_of t.to v (image_runs l t)) (rw (s, w, pd, pq, pb, pk))
+      go true pd (Some v) pq false pb k pk = missing (λ n. never (sym (whole_said l t w n.whole) ∙ pb)) (rw (s, w, pd, pq, pb))
+      go true pd (Some v) pq true pb false pk = large (all v pd pq pb) (rw (s, w, pd, pq, pb, pk))
+      go true pd (Some v) pq true pb true pk = given (all v pd pq pb) (label_of t.to v (image_runs l t)) (rw (s, w, pd, pq, pb, pk))
 
-  number_of : {r : Renumbered} → renumbered_of l t ls ≡ r → (renumbered_of l t ls).number ≡ r.number
-  number_of e = ap (λ (x : Renumbered). x.number) e
+  -- an answer is one of them
+  abbrev says : Renumbered → ℕ
+  says (Ok m) = 0
+  says (Err e) = number_of e
+
+  said : {r q : Renumbered} → r ≡ q → says r ≡ says q
+  said e = ap says e
 
   pub renumber_alone : RenumberAlone l t ls
   renumber_alone = by way
     where
       by : Way → RenumberAlone l t ls
       by (missing n e) =
-          let z = number_of e in
-          record { sixteen = (λ h. n, λ h. z); eighteen = (λ h. absurd (omega arith), λ h. absurd (n h.0)) }
+          record { sixteen = (λ h. n, λ h. e); eighteen = (λ h. (let y = said (sym e ∙ h) in absurd (omega arith)), λ h. absurd (n h.0)) }
       by (large n e) =
-          let z = number_of e in
           record {
-            sixteen = (λ h. absurd (omega arith), λ h. absurd (h n));
+            sixteen = (λ h. (let y = said (sym e ∙ h) in absurd (omega arith)), λ h. absurd (h n));
             eighteen = (
               λ h. (
                 n,
-                λ m f. (let y = number_of (renumbering.found l t ls m s w n.domain f) in omega arith),
+                λ m f. (let y = said (sym e ∙ renumbering.found l t ls m s w n.domain f) in omega arith),
               ),
-              λ h. z,
+              λ h. e,
             );
           }
       by (given n m e) =
-          let z = number_of e in
           record {
-            sixteen = (λ h. absurd (omega arith), λ h. absurd (h n));
-            eighteen = (λ h. absurd (omega arith), λ h. absurd (h.1 m (renumbering.right l t ls m e)));
+            sixteen = (λ h. (let y = said (sym e ∙ h) in absurd (omega arith)), λ h. absurd (h n));
+            eighteen = (λ h. (let y = said (sym e ∙ h) in absurd (omega arith)), λ h. absurd (h.1 m (renumbering.right l t ls m e)));
           }

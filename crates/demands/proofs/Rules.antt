@@ -15,20 +15,18 @@ use Rattle.option.specs.Option.{is_even}
 use Rattle.option.specs.Index.{first_true, pairs_of}
 use Rattle.option_read.specs.Reading.{Check, not_read, bad_in, count_in, bad_place, label_in}
 use Rattle.option_read.specs.Reading as reading
-use Rattle.option_read.specs.declared.Reading.{Reading}
+use Rattle.option_read.specs.Reading.{Reading}
 use Rattle.option_slack.specs.Strict.{strict_checks, strict_reading}
 use Rattle.area.specs.declared.Kind.{Kind}
 use Rattle.area.specs.declared.Kind.TheVariants.{End, NoOperation, Basic, Extended, Cipso, Other}
-use Rattle.area.specs.declared.Size.{Size}
-use Rattle.area.specs.declared.Size.TheVariants.{Whole, Bad}
-use Rattle.area.specs.declared.Place.{Place}
-use Rattle.area.specs.declared.Place.TheVariants.{Nowhere, At}
+use Rattle.std.specs.Prelude.{Some, None, is_some}
+use Rattle.area.specs.Kinds.{Place, Size}
 use Rattle.area.specs.Kinds.{kind_of}
 use Rattle.area.specs.Area.{Met, met_of, judged, walk_of, octets_at, WholeAt}
 use Rattle.area.proofs.KindLaws.{cipso_octet, basic_octet}
 use Rattle.area.proofs.Laws.{sound_placed, whole_inside}
 use Rattle.basic.specs.Option.{basic_level, basic_flags, basic_valid}
-use Rattle.basic.specs.Alone.{basic_found, basic_bad, basic_reading}
+use Rattle.basic.specs.Alone.{basic_found, basic_reading}
 use Rattle.area_leaving.specs.Kept.{kept_of}
 use Rattle.port.specs.declared.Port.{Port}
 use Rattle.decision.specs.Decision.{Refusal, silenced, decided}
@@ -76,27 +74,27 @@ three_to_five = 3 ∷ 4 ∷ 5 ∷ []
 none_before : (on : Bool) (ms : List Met) (label basic : Place)
     → ((l b : Place) → first_of (checks (by_option three_to_five on (is_at l) (is_at b) ms)) ≡ walk_refusal (judged on false ms l b))
     → first_of (checks (by_option three_to_five on (is_at label || false) (is_at basic || false) ms)) ≡ walk_refusal (judged on false ms label basic)
-none_before on ms Nowhere Nowhere g = g Nowhere Nowhere
-none_before on ms Nowhere (At q) g = g Nowhere (At q)
-none_before on ms (At p) Nowhere g = g (At p) Nowhere
-none_before on ms (At p) (At q) g = g (At p) (At q)
+none_before on ms None None g = g None None
+none_before on ms None (Some q) g = g None (Some q)
+none_before on ms (Some p) None g = g (Some p) None
+none_before on ms (Some p) (Some q) g = g (Some p) (Some q)
 
 walk_by : (on : Bool) (k : Kind) (z : Size) (at : ℕ) (ms : List Met) (label basic : Place)
     → ((l b : Place) → first_of (checks (by_option three_to_five on (is_at l) (is_at b) ms)) ≡ walk_refusal (judged on false ms l b))
     → first_of (checks (by_option three_to_five on (is_at label) (is_at basic) (record { kind = k; at = at; size = z } ∷ ms)))
     ≡ walk_refusal (judged on false (record { kind = k; at = at; size = z } ∷ ms) label basic)
-walk_by on k Bad at ms label basic g = refl
-walk_by on End (Whole n) at ms label basic g = none_before on ms label basic g
-walk_by on NoOperation (Whole n) at ms label basic g = none_before on ms label basic g
-walk_by false Basic (Whole n) at ms label basic g = refl
-walk_by true Basic (Whole n) at ms Nowhere Nowhere g = g Nowhere (At at)
-walk_by true Basic (Whole n) at ms (At p) Nowhere g = g (At p) (At at)
-walk_by true Basic (Whole n) at ms label (At q) g = refl
-walk_by on Extended (Whole n) at ms label basic g = refl
-walk_by on Cipso (Whole n) at ms Nowhere Nowhere g = g (At at) Nowhere
-walk_by on Cipso (Whole n) at ms Nowhere (At q) g = g (At at) (At q)
-walk_by on Cipso (Whole n) at ms (At p) basic g = refl
-walk_by on Other (Whole n) at ms label basic g = none_before on ms label basic g
+walk_by on k None at ms label basic g = refl
+walk_by on End (Some n) at ms label basic g = none_before on ms label basic g
+walk_by on NoOperation (Some n) at ms label basic g = none_before on ms label basic g
+walk_by false Basic (Some n) at ms label basic g = refl
+walk_by true Basic (Some n) at ms None None g = g None (Some at)
+walk_by true Basic (Some n) at ms (Some p) None g = g (Some p) (Some at)
+walk_by true Basic (Some n) at ms label (Some q) g = refl
+walk_by on Extended (Some n) at ms label basic g = refl
+walk_by on Cipso (Some n) at ms None None g = g (Some at) None
+walk_by on Cipso (Some n) at ms None (Some q) g = g (Some at) (Some q)
+walk_by on Cipso (Some n) at ms (Some p) basic g = refl
+walk_by on Other (Some n) at ms label basic g = none_before on ms label basic g
 
 walk_rules : (on : Bool) (ms : List Met) (label basic : Place) → first_of (checks (by_option three_to_five on (is_at label) (is_at basic) ms)) ≡ walk_refusal (judged on false ms label basic)
 walk_rules on [] label basic = refl
@@ -104,7 +102,7 @@ walk_rules on (m ∷ ms) label basic = walk_by on m.kind m.size m.at ms label ba
 
 area_rules : (port : Port) (area : List ℕ) → first_of (checks (by_option three_to_five port.basic.on false false (met_of area))) ≡ walk_check port area
 unfolding walk_check walk_of
-area_rules port area = walk_rules port.basic.on (met_of area) Nowhere Nowhere
+area_rules port area = walk_rules port.basic.on (met_of area) None None
 
 -- 7 to 12, 23 and 13.
 abbrev rule_at : ℕ → Check → Rule
@@ -135,27 +133,27 @@ label_rules_lem o p port =
 shared_rules : (q : Place) (port : Port) (area : List ℕ) (rest : List Rule) (ds : List (Option Refusal)) → first_of (checks rest) ≡ first_of ds
     → first_of (checks (rule 6 (not (is_at q) && port.required) 12 1 134 ∷ (label_rules (is_at q) (option_at (octet_at q) area) (octet_at q) port ++ rest)))
     ≡ first_of (required_by q port ∷ option_by q port area ∷ ds)
-shared_rules Nowhere port area rest ds e =
-    first_alike (required_by Nowhere port) (required_by Nowhere port) (checks (label_rules false (option_at (octet_at Nowhere) area) (octet_at Nowhere) port ++ rest)) (none ∷ ds) refl e
-shared_rules (At p) port area rest ds e =
-    first_stretch (label_rules true (option_at p area) p port) rest (option_by (At p) port area) ds (label_rules_lem (option_at p area) p port) e
+shared_rules None port area rest ds e =
+    first_alike (required_by None port) (required_by None port) (checks (label_rules false (option_at (octet_at None) area) (octet_at None) port ++ rest)) (none ∷ ds) refl e
+shared_rules (Some p) port area rest ds e =
+    first_stretch (label_rules true (option_at p area) p port) rest (option_by (Some p) port area) ds (label_rules_lem (option_at p area) p port) e
 
 -- 19 and 20, and what follows
-valid_number : (o : List ℕ) → eqb (basic_reading o).number 0 ≡ basic_valid o
+read_valid : (o : List ℕ) → is_some (basic_reading o) ≡ basic_valid o
 unfolding basic_reading
-valid_number o = go (basic_valid o)
+read_valid o = go (basic_valid o)
   where
-    go : (b : Bool) → eqb (cond b (basic_found (basic_level o) (basic_flags o)) basic_bad).number 0 ≡ b
+    go : (b : Bool) → is_some (cond b (basic_found (basic_level o) (basic_flags o)) None) ≡ b
     go true = refl
     go false = refl
 
 basic_rules_lem : (q : Place) (on : Bool) (area : List ℕ) (rest : List Rule) (ds : List (Option Refusal)) → first_of (checks rest) ≡ first_of ds
     → first_of (checks (rule 19 (is_at q && not (basic_valid (option_at (octet_at q) area))) 12 0 (20 + octet_at q) ∷ rule 20 (not (is_at q) && on) 12 1 130 ∷ rest))
     ≡ first_of (bad_basic_by q area ∷ missing_basic_by (octets_at q area) on ∷ ds)
-basic_rules_lem Nowhere on area rest ds e = first_alike (missing_basic_by none on) (missing_basic_by none on) (checks rest) ds refl e
-basic_rules_lem (At p) on area rest ds e =
-    first_alike (when (not (basic_valid (option_at p area))) (faulty 19 p)) (bad_basic_by (At p) area) (none ∷ checks rest) (none ∷ ds)
-    (ap (λ (b : Bool). when (not b) (faulty 19 p)) (sym (valid_number (option_at p area)))) e
+basic_rules_lem None on area rest ds e = first_alike (missing_basic_by none on) (missing_basic_by none on) (checks rest) ds refl e
+basic_rules_lem (Some p) on area rest ds e =
+    first_alike (when (not (basic_valid (option_at p area))) (faulty 19 p)) (bad_basic_by (Some p) area) (none ∷ checks rest) (none ∷ ds)
+    (ap (λ (b : Bool). when (not b) (faulty 19 p)) (sym (read_valid (option_at p area)))) e
 
 -- every line that is tested, after the first two
 pub all_rules : (ts : List Rule) (area : List ℕ) (port : Port) (rest : List Rule) (ds : List (Option Refusal)) → first_of (checks rest) ≡ first_of ds
@@ -308,7 +306,7 @@ order_of_checks =
       deliver = deliver_follows;
       forwarded = forward_none;
       delivered = deliver_none;
-      stands = λ on area p b e. stands_at 134 Cipso area p cipso_octet (sound_placed on area (At p) b e).0;
-      basic = λ on area l p e. stands_at 130 Basic area p basic_octet (sound_placed on area l (At p) e).1;
+      stands = λ on area p b e. stands_at 134 Cipso area p cipso_octet (sound_placed on area (Some p) b e).0;
+      basic = λ on area l p e. stands_at 130 Basic area p basic_octet (sound_placed on area l (Some p) e).1;
       bad_ones = bad_at;
     }

@@ -24,7 +24,7 @@ use Rattle.option_read.proofs.Theorems.{reads}
 use Rattle.area.specs.Area.{met_from, met_of, walk_of}
 use Rattle.area_leaving.specs.Kept.{kept_of}
 use Rattle.basic.specs.Settings.{way_zero, basic_sound}
-use Rattle.area.specs.declared.Place.TheVariants.{Nowhere}
+use Rattle.std.specs.Prelude.{None}
 use Rattle.port.specs.Port.{range_sound, assigned_sound, default_sound, port_sound}
 use Rattle.table.specs.Table as tables
 use Rattle.table.specs.Table.{used_rows, rows_sound, table_sound}
@@ -115,7 +115,7 @@ conditions =
       arriving = refl;
       leaving = refl;
       table = λ d. refl;
-      label = own 0 Nowhere refl means refl (λ e. absurd (true≢false (sym e)));
+      label = own 0 None refl means refl (λ e. absurd (true≢false (sym e)));
       basic = neither refl refl;
       arrives = refl;
       stays = λ e. absurd (apart e);

@@ -16,23 +16,20 @@ use Rattle.label_keys.specs.Range.{set_in_range}
 use Rattle.option.specs.Option.{Octets}
 use Rattle.option.specs.Spelling.{spelled_of}
 use Rattle.option.proofs.OneSpelling.{one_spelling}
-use Rattle.option_read.specs.declared.Reading.{Reading}
+use Rattle.option_read.specs.Reading.{Reading}
 use Rattle.option_read.specs.Reading.{found, reading_for}
 use Rattle.option_read.proofs.Theorems.{reads}
 use Rattle.option_slack.specs.Slack.{slack}
 use Rattle.option_slack.proofs.Strict.{strict_reads, strictly_reads}
-use Rattle.area.specs.declared.Place.{Place}
-use Rattle.area.specs.declared.Place.TheVariants.{Nowhere, At}
-use Rattle.area.specs.declared.Walk.{Walk}
-use Rattle.area.specs.declared.Walk.TheVariants.{Sound, Refused}
+use Rattle.std.specs.Prelude.{Ok, Err, Some, None}
+use Rattle.area.specs.Kinds.{Place, Walk, places}
 use Rattle.area.proofs.Laws.{sound_placed}
 use Rattle.area_leaving.specs.Kept.{kept_of, round_up, leaving_of}
 use Rattle.port.specs.declared.Port.{Port}
 use Rattle.port.specs.Port.{port_sound, host_sound, lowest_out, highest_out}
 use Rattle.port.proofs.Laws.{sound, range_formed, default_in}
 use Rattle.table.specs.Table.{table_sound}
-use Rattle.renumber.specs.declared.Renumbered.{Renumbered}
-use Rattle.renumber.specs.Renumber.{renumbered_as, carried_of}
+use Rattle.renumber.specs.Renumber.{carried_of}
 use Rattle.renumber.specs.Theorems.{Far}
 use Rattle.renumber.proofs.Theorems.{renumbering, agrees}
 use Rattle.decision.specs.declared.Decision.{Decision}
@@ -75,23 +72,23 @@ passed_label p area code oct s e = go (walk_at p area) refl
     n : NoneApplies (arrival_checks p area code)
     n = first_none (arrival_checks p area code) e
 
-    at_place : (q b : Place) → walk_at p area ≡ Sound q b → required_by q p ≡ none → option_by q p area ≡ none → label_by q p area ≡ arriving_label p area → LabelOf p area (arriving_label p area)
-    at_place Nowhere b w r o l = assigned b w (when_none p.required _ r) l
-    at_place (At i) b w r o l =
-        let f = placed_framed area i (sound_placed p.basic.on area (At i) b w).0 in
+    at_place : (q b : Place) → walk_at p area ≡ Ok (places q b) → required_by q p ≡ none → option_by q p area ≡ none → label_by q p area ≡ arriving_label p area → LabelOf p area (arriving_label p area)
+    at_place None b w r o l = assigned b w (when_none p.required _ r) l
+    at_place (Some i) b w r o l =
+        let f = placed_framed area i (sound_placed p.basic.on area (Some i) b w).0 in
         let z : (read_at p (option_at i area)).number ≡ 0 = eqb-true _ _ (not_false_yes _ (when_none _ _ o)) in
         let q = (strictly_reads.exactly p.strict p.domain (option_at i area)).0 z in
         let m = (reads.for p.domain).means (option_at i area) (octets_part (get_or area (i + 1) 0) i area (octets_at_lem area oct)) f.framed (sound p s).owned q.0 in
         own i b w (rw l at m) (arrival_held p area code s e).domain (λ t. ap (λ (x : Bool). x && slack (option_at i area)) (sym t) ∙ q.1)
 
     go : (w : Walk) → walk_at p area ≡ w → LabelOf p area (arriving_label p area)
-    go (Sound q b) w = at_place q b w (rw w at n.1.0) (rw w at n.1.1.0) (rw w)
-    go (Refused k at) w = let c : some _ ≡ none = rw w at n.0 in let z : ◌≡◌ {A = ℕ} 0 1 = cc in absurd (omega arith)
+    go (Ok m) w = at_place m.label m.basic w (rw w at n.1.0) (rw w at n.1.1.0) (rw w)
+    go (Err r) w = let c : some _ ≡ none = rw w at n.0 in let z : ◌≡◌ {A = ℕ} 0 1 = cc in absurd (omega arith)
 
 -- and back: an area with this label passes them.
 pub record Reads (p : Port) (area : List ℕ) (l : Label) : Type 0 where
   pub label : arriving_label p area ≡ l
-  pub sound : (q : Place) × (b : Place) × (walk_at p area ≡ Sound q b)
+  pub sound : (q : Place) × (b : Place) × (walk_at p area ≡ Ok (places q b))
   pub walk : walk_check p area ≡ none
   pub required : required_check p area ≡ none
   pub option : option_check p area ≡ none
@@ -107,8 +104,8 @@ label_reads p area l (own i b w m d t) =
     let r : reading_for p.domain (option_at i area) ≡ found l = (reads.for p.domain).back (option_at i area) l m d in
     let q : read_at p (option_at i area) ≡ found l =
     strict_reads p.strict p.domain (option_at i area) (ap (λ (x : Reading). x.number) r) (not_stopped p.strict (slack (option_at i area)) t) ∙ r in
-    record { label = rw w (ap (λ (x : Reading). x.label) r); sound = (At i, b, w); walk = rw w; required = rw w; option = rw w (rw q) }
-label_reads p area l (assigned b w r e) = record { label = rw w e; sound = (Nowhere, b, w); walk = rw w; required = rw w (rw r); option = rw w }
+    record { label = rw w (ap (λ (x : Reading). x.label) r); sound = (Some i, b, w); walk = rw w; required = rw w; option = rw w (rw q) }
+label_reads p area l (assigned b w r e) = record { label = rw w e; sound = (None, b, w); walk = rw w; required = rw w (rw r); option = rw w }
 
 label_within : (p : Port) (area : List ℕ) (code : ℕ) (l : Label) → Reads p area l → in_range p.lowest p.highest l ≡ true → range_check p area code ≡ none
 unfolding range_check
@@ -205,13 +202,13 @@ module _ (f : Forwarding) (p : Passed f) where
 module _ (f : Forwarding) (formed : well_formed (crossing f).label ≡ true) (own : (crossing f).label.domain ≡ (crossing f).domain) (leaving : port_sound f.leaving ≡ true) (ts : table_sound f.table f.levels ≡ true)
     (d : f.arriving.domain ≡ f.leaving.domain → ⊥) (from : f.table.from ≡ f.arriving.domain) (to : f.table.to ≡ f.leaving.domain) (m : Label) (out : in_range (lowest_out f.leaving) (highest_out f.leaving) m ≡ true)
     (far : Far (crossing f).label f.table f.levels m) where
-  far_passes : (first_of (crossing_checks (crossing f)) ≡ none) × (renumbered_as m ≡ renumbered_as (leaving_label (crossing f)))
+  far_passes : (first_of (crossing_checks (crossing f)) ≡ none) × (m ≡ leaving_label (crossing f))
   far_passes =
       let g = (sound f.leaving leaving).out in
       let n = renumbering.found (crossing f).label f.table f.levels m ts formed (own ∙ sym from) far in
       let a = agrees (crossing f).label f.table f.levels (lowest_out f.leaving) (highest_out f.leaving) m g.low_formed g.high_formed (g.low_domain ∙ sym to) (g.high_domain ∙ sym to) n in
-      let c : renumbered_as m ≡ carried_of (crossing f).label f.table f.levels (lowest_out f.leaving) (highest_out f.leaving) = sym (a ∙ rw out) in
-      crosses_passed (crossing f) d from to (renumbered_as m) c refl
+      let c : Ok m ≡ carried_of (crossing f).label f.table f.levels (lowest_out f.leaving) (highest_out f.leaving) = sym (a ∙ rw out) in
+      crosses_passed (crossing f) d from to m c
 
   far_inside : first_of (crossing_checks (crossing f)) ≡ none
   far_inside = far_passes.0
@@ -266,7 +263,7 @@ module _ (f : Forwarding) (l m : Label) (s : List ℕ) (h : Forwards f l m s) wh
       by false e =
           let d : (f.arriving.domain ≡ f.leaving.domain → ⊥) = eqb-false _ _ e in
           let q = far_passes f y_formed y_domain h.leaving (h.table d) d (h.from d) (h.to d) m out_of (rw r.label (h.numbered d)) in
-          record { none = q.0; label = sym (ap (λ (z : Renumbered). z.label) q.1) }
+          record { none = q.0; label = sym q.1 }
 
   m_formed : well_formed m ≡ true
   m_formed = range_formed (lowest_out f.leaving) (highest_out f.leaving) m out_of

@@ -29,9 +29,9 @@ use Rattle.option.proofs.Meaning.{Tagged, one, two, five, tagged, parts, numbers
 use Rattle.option.proofs.Only.{octet_same, same_numbers}
 use Rattle.option_slack.specs.Slack.{slack}
 use Rattle.option_slack.proofs.Theorems.{slackness}
-use Rattle.area.specs.declared.Place.{Place}
-use Rattle.area.specs.declared.Place.TheVariants.{At}
-use Rattle.area.specs.declared.Walk.TheVariants.{Sound}
+use Rattle.std.specs.Prelude.{Ok, Some, None}
+use Rattle.area.proofs.KindLaws.{same_places}
+use Rattle.area.specs.Kinds.{Place, places}
 use Rattle.port.specs.declared.Port.{Port}
 use Rattle.arrive.specs.Checks.{walk_at, option_at}
 use Rattle.demands.specs.Demands.{LabelOf, own, assigned}
@@ -258,8 +258,8 @@ module _ (o : List ℕ) (l : Label) (m : Means o l) where
       (or_cases (is_shortest o) _ q)
 
 -- the option of an area is the one that its walk meets
-same_place : (p : Port) (area : List ℕ) (at i : ℕ) (a b : Place) → walk_at p area ≡ Sound (At at) a → walk_at p area ≡ Sound (At i) b → at ≡ i
-same_place p area at i a b e f = let z : Sound (At at) a ≡ Sound (At i) b = sym e ∙ f in cc
+same_place : (p : Port) (area : List ℕ) (at i : ℕ) (a b : Place) → walk_at p area ≡ Ok (places (Some at) a) → walk_at p area ≡ Ok (places (Some i) b) → at ≡ i
+same_place p area at i a b e f = let z : Some at ≡ Some i = (same_places (Some at) a (Some i) b (sym e ∙ f)).0 in cc
 
 pub strict_accepts : StrictAccepts
 strict_accepts =
@@ -269,6 +269,6 @@ strict_accepts =
       accepted = accepted_of;
     }
   where
-    accepted_of : (p : Port) (area : List ℕ) (l : Label) (at : ℕ) (basic : Place) → p.strict ≡ true → walk_at p area ≡ Sound (At at) basic → LabelOf p area l → Writable (option_at at area) l
+    accepted_of : (p : Port) (area : List ℕ) (l : Label) (at : ℕ) (basic : Place) → p.strict ≡ true → walk_at p area ≡ Ok (places (Some at) basic) → LabelOf p area l → Writable (option_at at area) l
     accepted_of p area l at basic s w (own i b v m d t) = rw (same_place p area at i basic b w v) (writable (option_at i area) l m (t s))
-    accepted_of p area l at basic s w (assigned b v r e) = let z : ◌≡◌ {A = ℕ} 0 1 = cc in absurd (omega arith)
+    accepted_of p area l at basic s w (assigned b v r e) = let q : Some at ≡ None = (same_places (Some at) basic None b (sym w ∙ v)).0 in absurd cc

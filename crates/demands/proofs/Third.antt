@@ -23,10 +23,10 @@ use Rattle.option.proofs.Meaning.{Bounds, by1, by2, by5, bounds}
 use Rattle.option.proofs.Theorems.{Held, held1, held5, held_shortest}
 use Rattle.option_read.proofs.Theorems.{reads}
 use Rattle.option_form.specs.Spelled.{lacking, length_of}
-use Rattle.option_spell.specs.declared.Spelling.{Spelling}
+use Rattle.option_spell.specs.Spelling.{Spelling}
 use Rattle.option_spell.specs.Spelling.{spelling_number, spelling_answer, spelling_out}
 use Rattle.option_spell.proofs.Theorems.{spelling_alone}
-use Rattle.area.specs.declared.Place.TheVariants.{At}
+use Rattle.std.specs.Prelude.{Some}
 use Rattle.area_leaving.specs.Kept.{kept_of, round_up, leaving_of}
 use Rattle.port.specs.declared.Port.{Port}
 use Rattle.port.specs.declared.Host.{Host}
@@ -191,7 +191,7 @@ module _ (f : Forwarding) (l : Label) (s : sizes f ≡ none) (r : records f ≡ 
 -- kept options alike have the option 130 alike
 pub basic_alike : (p q : Port) (a b : List ℕ) (l m : Label) → MeansAt p a l → MeansAt q b m → kept_of a ≡ kept_of b → arriving_basic p a ≡ arriving_basic q b
 basic_alike p q a b l m x y k =
-    basic_kept p a (At x.0) x.1 x.2 ∙ ap (λ (ks : List ℕ). basic_from ks 0) k ∙ sym (basic_kept q b (At y.0) y.1 y.2)
+    basic_kept p a (Some x.0) x.1 x.2 ∙ ap (λ (ks : List ℕ). basic_from ks 0) k ∙ sym (basic_kept q b (Some y.0) y.1 y.2)
 
 module _ (f g : Forwarding) (l : Label) (a : Alike f g l) where
   domain_g : l.domain ≡ g.arriving.domain

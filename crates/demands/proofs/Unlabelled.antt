@@ -7,9 +7,8 @@ use Prim.Native.Nat.{ℕ, ◌+◌}
 use lib.ListN.{length}
 use Rattle.label.specs.Label.{in_range}
 use Rattle.option_form.specs.Spelled.{length_of}
-use Rattle.area.specs.declared.Place.TheVariants.{Nowhere}
-use Rattle.area.specs.declared.Place.{Place}
-use Rattle.area.specs.declared.Walk.TheVariants.{Sound}
+use Rattle.std.specs.Prelude.{Ok, None}
+use Rattle.area.specs.Kinds.{Place, places}
 use Rattle.area_leaving.proofs.Again.{basic_from}
 use Rattle.area_leaving.specs.Kept.{kept_of, round_up}
 use Rattle.port.specs.declared.Port.{Port}
@@ -26,15 +25,15 @@ use Rattle.demands.proofs.Second.{same_some}
 use Rattle.demands.proofs.Again.{p, laid, area_is}
 
 -- what an area without an option 134 leaves of checks 3 to 14
-module _ (port : Port) (area : List ℕ) (u : (b : Place) × (walk_at port area ≡ Sound Nowhere b)) where
-  w : walk_at port area ≡ Sound Nowhere u.0
+module _ (port : Port) (area : List ℕ) (u : (b : Place) × (walk_at port area ≡ Ok (places None b))) where
+  w : walk_at port area ≡ Ok (places None u.0)
   w = u.1
 
   no_walk : walk_check port area ≡ none
   unfolding walk_check
   no_walk = rw w
 
-  no_label : required_check port area ≡ required_by Nowhere port
+  no_label : required_check port area ≡ required_by None port
   unfolding required_check
   no_label = rw w
 
@@ -59,7 +58,7 @@ bare_checks p q o r x kept =
     none
     ∷ r
     ∷ none
-    ∷ required_by Nowhere p
+    ∷ required_by None p
     ∷ none
     ∷ none
     ∷ missing_basic_by o p.basic.on
@@ -75,11 +74,11 @@ abbrev bare_decision : Bool → Port → Port → Option (List ℕ) → Option R
 bare_decision quiet p q o r x kept = decided quiet (first_of (bare_checks p q o r x kept)) (leaving_label x) (round_up (length_of (leaving_option x) + length kept))
 
 -- kept options alike have the option 130 alike
-bare_basic : (p q : Port) (a b : List ℕ) → (x : Place) × (walk_at p a ≡ Sound Nowhere x) → (x : Place) × (walk_at q b ≡ Sound Nowhere x) → kept_of a ≡ kept_of b
+bare_basic : (p q : Port) (a b : List ℕ) → (x : Place) × (walk_at p a ≡ Ok (places None x)) → (x : Place) × (walk_at q b ≡ Ok (places None x)) → kept_of a ≡ kept_of b
     → arriving_basic p a ≡ arriving_basic q b
-bare_basic p q a b x y k = basic_kept p a Nowhere x.0 x.1 ∙ ap (λ (ks : List ℕ). basic_from ks 0) k ∙ sym (basic_kept q b Nowhere y.0 y.1)
+bare_basic p q a b x y k = basic_kept p a None x.0 x.1 ∙ ap (λ (ks : List ℕ). basic_from ks 0) k ∙ sym (basic_kept q b None y.0 y.1)
 
-module _ (f : Forwarding) (s : sizes f ≡ none) (w : (b : Place) × (walk_at f.arriving f.area ≡ Sound Nowhere b)) (good : bad_basic_check f.arriving f.area ≡ none) where
+module _ (f : Forwarding) (s : sizes f ≡ none) (w : (b : Place) × (walk_at f.arriving f.area ≡ Ok (places None b))) (good : bad_basic_check f.arriving f.area ≡ none) where
   crossing_is : crossing f ≡ bare_crossing f
   crossing_is i = record { label = given f.arriving f.area w i; domain = f.arriving.domain; leaving = f.leaving; table = f.table; levels = f.levels }
 
@@ -135,7 +134,7 @@ bare_delivery quiet p h o r =
     (none
     ∷ r
     ∷ none
-    ∷ required_by Nowhere p
+    ∷ required_by None p
     ∷ none
     ∷ none
     ∷ missing_basic_by o p.basic.on
@@ -145,7 +144,7 @@ bare_delivery quiet p h o r =
     ∷ []))
     p.assigned 0
 
-delivery_is : (d : Delivery) → delivery_sizes d ≡ none → (b : Place) × (walk_at d.port d.area ≡ Sound Nowhere b) → bad_basic_check d.port d.area ≡ none
+delivery_is : (d : Delivery) → delivery_sizes d ≡ none → (b : Place) × (walk_at d.port d.area ≡ Ok (places None b)) → bad_basic_check d.port d.area ≡ none
     → deliver_of d ≡ bare_delivery (silenced d.facts) d.port d.host (arriving_basic d.port d.area) (delivery_records d)
 unfolding deliver_of missing_basic_check basic_range_check host_check
 delivery_is d s w good i =

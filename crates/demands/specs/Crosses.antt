@@ -1,5 +1,5 @@
 -- Document 01, rows 16 to 18 of the table and "An over-large renumbered set is 18 unless 17 applies; it must never be cut", over the decision.
-use Rattle.std.specs.Prelude.{◌≡◌, Bool, true, false, List, [], ◌∷◌, ◌++◌, ◌⊎◌, ◌↔◌, ℕ, ◌<◌, length, take}
+use Rattle.std.specs.Prelude.{◌≡◌, Bool, true, false, List, [], ◌∷◌, ◌++◌, ◌⊎◌, ◌↔◌, ℕ, ◌<◌, length, take, Some}
 use Rattle.std.proofs.Math.Option.{Option}
 use Rattle.label.specs.declared.Label.{Label}
 use Rattle.label.specs.Label.{member}
@@ -7,7 +7,6 @@ use Rattle.label_keys.specs.Range.{set_in_range}
 use Rattle.port.specs.Port.{lowest_out, highest_out}
 use Rattle.table.specs.Table.{used_rows}
 use Rattle.table.specs.Numbers.{has_number}
-use Rattle.table_levels.specs.declared.Partner.TheVariants.{Level}
 use Rattle.table_levels.specs.Levels.{partner_of}
 use Rattle.renumber.specs.Renumber.{image_runs}
 use Rattle.decision.specs.Decision.{Refusal}
@@ -26,7 +25,7 @@ label_at f = arriving_label f.arriving f.area
 pub record HasNumbers (f : Forwarding) (v : ℕ) : Type 0 where
   pub from : f.table.from ≡ f.arriving.domain
   pub to : f.table.to ≡ f.leaving.domain
-  pub level : partner_of (take f.table.pairs f.levels) (label_at f).level ≡ Level v
+  pub level : partner_of (take f.table.pairs f.levels) (label_at f).level ≡ Some v
   pub categories : (c : ℕ) → member (label_at f) c ≡ true → has_number (used_rows f.table) c ≡ true
 
 -- the whole renumbered set lies in the leaving port's range, at level v

@@ -13,9 +13,8 @@ use Rattle.option.specs.Theorems.{Spells, Shortest}
 use Rattle.option_read.specs.Reading.{found, reading_of}
 use Rattle.option_slack.specs.Slack.{slack}
 use Rattle.option_spell.specs.Spelling.{spelling_answer, spelling_out}
-use Rattle.area.specs.declared.Place.{Place}
-use Rattle.area.specs.declared.Place.TheVariants.{Nowhere, At}
-use Rattle.area.specs.declared.Walk.TheVariants.{Sound}
+use Rattle.std.specs.Prelude.{Ok, Some, None}
+use Rattle.area.specs.Kinds.{Place, places}
 use Rattle.basic.specs.Option.{BasicMeans}
 use Rattle.basic.specs.Theorems.{BasicPermitted}
 use Rattle.area_leaving.specs.Kept.{kept_of, round_up, leaving_of}
@@ -62,12 +61,12 @@ PassesStrict p o = p.strict ≡ true → slack o ≡ false
 -- 23, or meets none where none is required and the label is the port's
 pub data LabelOf (p : Port) (area : List ℕ) (l : Label) : Type 0 where
   own : (at : ℕ) (basic : Place)
-      → walk_at p area ≡ Sound (At at) basic
+      → walk_at p area ≡ Ok (places (Some at) basic)
       → Means (option_at at area) l
       → l.domain ≡ p.domain
       → PassesStrict p (option_at at area)
       → LabelOf p area l
-  assigned : (basic : Place) → walk_at p area ≡ Sound Nowhere basic → p.required ≡ false → p.assigned ≡ l → LabelOf p area l
+  assigned : (basic : Place) → walk_at p area ≡ Ok (places None basic) → p.required ≡ false → p.assigned ≡ l → LabelOf p area l
 
 -- Wish 3, "the 130 option passes too". At the port where it arrives: the port has it switched off, so that the walk above meets none; or on, and the
 -- walk meets a valid option 130 that means a level and flags which the port permits that way
@@ -75,7 +74,7 @@ pub data BasicArrives (p : Port) (area : List ℕ) : Type 0 where
   unread : p.basic.on ≡ false → BasicArrives p area
   read : (label : Place) (at v f : ℕ)
       → p.basic.on ≡ true
-      → walk_at p area ≡ Sound label (At at)
+      → walk_at p area ≡ Ok (places label (Some at))
       → BasicMeans (option_at at area) v f
       → BasicPermitted p.basic.receiving v f
       → BasicArrives p area
@@ -86,7 +85,7 @@ pub data BasicPasses (p q : Port) (area : List ℕ) : Type 0 where
   both : (label : Place) (at v f : ℕ)
       → p.basic.on ≡ true
       → q.basic.on ≡ true
-      → walk_at p area ≡ Sound label (At at)
+      → walk_at p area ≡ Ok (places label (Some at))
       → BasicMeans (option_at at area) v f
       → BasicPermitted p.basic.receiving v f
       → BasicPermitted q.basic.sending v f
@@ -166,7 +165,7 @@ pub record Demand2 : Type 0 where
 -- options that pass 23"
 abbrev pub MeansAt : Port → List ℕ → Label → Type 0
 MeansAt p area l =
-    (at : ℕ) × (basic : Place) × (walk_at p area ≡ Sound (At at) basic) × Means (option_at at area) l × PassesStrict p (option_at at area)
+    (at : ℕ) × (basic : Place) × (walk_at p area ≡ Ok (places (Some at) basic)) × Means (option_at at area) l × PassesStrict p (option_at at area)
 
 -- two forwardings of areas past checks 1 to 5 and 19 (Wish 3), and 23 at a strict port, whose options 134 are valid and mean one label of the arriving port's domain, with kept
 -- options in order, records and facts alike; the outputs may differ

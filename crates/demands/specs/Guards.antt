@@ -7,9 +7,8 @@ use Rattle.label.specs.Label.{leq}
 use Rattle.option.specs.Option.{Octets}
 use Rattle.option.specs.declared.Spellings.{Spellings}
 use Rattle.option.specs.Theorems.{Spells}
-use Rattle.area.specs.declared.Place.{Place}
-use Rattle.area.specs.declared.Place.TheVariants.{Nowhere, At}
-use Rattle.area.specs.declared.Walk.TheVariants.{Sound}
+use Rattle.std.specs.Prelude.{Ok, Some, None}
+use Rattle.area.specs.Kinds.{Place, places}
 use Rattle.area.specs.Area.{walk_of}
 use Rattle.area_leaving.specs.Kept.{kept_of}
 use Rattle.port.specs.declared.Port.{Port}
@@ -32,7 +31,7 @@ pub record Counts (n s k : ℕ) : Type 0 where
 -- option 130 and kept options are these
 pub record Reads (a : List ℕ) (on : Bool) (domain : ℕ) (permitted : Spellings) (l : Label) (c : Option (List ℕ)) (ks : List ℕ) : Type 0 where
   pub area : AreaSound a
-  pub walk : (basic : Place) × (walk_of on a ≡ Sound (At 0) basic)
+  pub walk : (basic : Place) × (walk_of on a ≡ Ok (places (Some 0) basic))
   pub spelled : Spells permitted (option_at 0 a) l
   pub required : (p : Port) → p.basic.on ≡ on → p.domain ≡ domain → required_check p a ≡ none
   pub option : (p : Port) → p.basic.on ≡ on → p.domain ≡ domain → option_check p a ≡ none
@@ -45,7 +44,7 @@ pub record Reads (a : List ℕ) (on : Bool) (domain : ℕ) (permitted : Spelling
 -- does not (`on`), 3 to 5; it has no option 134, and its kept options are these
 pub record ReadsBare (a : List ℕ) (on : Bool) (ks : List ℕ) : Type 0 where
   pub area : AreaSound a
-  pub walk : (basic : Place) × (walk_of on a ≡ Sound Nowhere basic)
+  pub walk : (basic : Place) × (walk_of on a ≡ Ok (places None basic))
   pub kept : kept_of a ≡ ks
   pub counted : Counts (length a) 0 (length ks)
 
@@ -62,8 +61,8 @@ pub record Unlabelled (f g : Forwarding) : Type 0 where
   pub facts : f.facts ≡ g.facts
   pub kept : kept_of f.area ≡ kept_of g.area
   pub sized : (sizes f ≡ none) × (sizes g ≡ none)
-  pub first : (basic : Place) × (walk_at f.arriving f.area ≡ Sound Nowhere basic)
-  pub second : (basic : Place) × (walk_at g.arriving g.area ≡ Sound Nowhere basic)
+  pub first : (basic : Place) × (walk_at f.arriving f.area ≡ Ok (places None basic))
+  pub second : (basic : Place) × (walk_at g.arriving g.area ≡ Ok (places None basic))
   pub good : (bad_basic_check f.arriving f.area ≡ none) × (bad_basic_check g.arriving g.area ≡ none)
 
 pub record UnlabelledDelivered (d e : Delivery) : Type 0 where
@@ -72,8 +71,8 @@ pub record UnlabelledDelivered (d e : Delivery) : Type 0 where
   pub facts : d.facts ≡ e.facts
   pub kept : kept_of d.area ≡ kept_of e.area
   pub sized : (delivery_sizes d ≡ none) × (delivery_sizes e ≡ none)
-  pub first : (basic : Place) × (walk_at d.port d.area ≡ Sound Nowhere basic)
-  pub second : (basic : Place) × (walk_at e.port e.area ≡ Sound Nowhere basic)
+  pub first : (basic : Place) × (walk_at d.port d.area ≡ Ok (places None basic))
+  pub second : (basic : Place) × (walk_at e.port e.area ≡ Ok (places None basic))
   pub good : (bad_basic_check d.port d.area ≡ none) × (bad_basic_check e.port e.area ≡ none)
 
 -- a 12/0 report points into the area; pointers count from the header's start

@@ -8,11 +8,8 @@ use Rattle.option_read.specs.Reading.{known_tag, good_length, categories_in, bad
 use Rattle.option_slack.specs.Slack.{slack}
 use Rattle.area.specs.declared.Kind.{Kind}
 use Rattle.area.specs.declared.Kind.TheVariants.{End, NoOperation, Basic, Extended, Cipso, Other}
-use Rattle.area.specs.declared.Size.{Size}
-use Rattle.area.specs.declared.Size.TheVariants.{Whole, Bad}
-use Rattle.area.specs.declared.Place.{Place}
-use Rattle.area.specs.declared.Place.TheVariants.{Nowhere, At}
-use Rattle.area.specs.declared.Walk.TheVariants.{Sound}
+use Rattle.std.specs.Prelude.{Ok, Some, None}
+use Rattle.area.specs.Kinds.{Place, Size, places}
 use Rattle.area.specs.Area.{bad_area, Met, met_of, walk_of}
 use Rattle.basic.specs.Option.{basic_valid}
 use Rattle.area_leaving.specs.Kept.{kept_of}
@@ -70,8 +67,8 @@ after_tag o p = p + (tag_length_of o + 6)
 
 -- 3, 4 and 5, of an option that the walk meets
 abbrev pub is_bad : Size → Bool
-is_bad Bad = true
-is_bad (Whole n) = false
+is_bad None = true
+is_bad (Some n) = false
 
 abbrev pub is_basic : Kind → Bool
 is_basic End = false
@@ -110,12 +107,12 @@ option_rules on label basic m =
 
 -- 6 to 14, 19 to 21 and 23, which both jobs share; the area's options 134 and 130 are those its walk meets
 abbrev pub is_at : Place → Bool
-is_at Nowhere = false
-is_at (At p) = true
+is_at None = false
+is_at (Some p) = true
 
 abbrev pub octet_at : Place → ℕ
-octet_at Nowhere = 0
-octet_at (At p) = p
+octet_at None = 0
+octet_at (Some p) = p
 
 -- the lines that speak of the option 134, where there is one: o is the option, p its place
 abbrev pub label_rules : Bool → List ℕ → ℕ → Port → List Rule
@@ -282,6 +279,6 @@ pub record OrderOfChecks : Type 0 where
   pub forwarded : (f : Forwarding) → ((forward_of f).number ≡ 0) ↔ NoRule (forward_tests f)
   pub delivered : (d : Delivery) → ((deliver_of d).number ≡ 0) ↔ NoRule (deliver_tests d)
   -- the octets that are blamed
-  pub stands : (on : Bool) (area : List ℕ) (p : ℕ) (basic : Place) → walk_of on area ≡ Sound (At p) basic → StandsAt 134 area p
-  pub basic : (on : Bool) (area : List ℕ) (label : Place) (p : ℕ) → walk_of on area ≡ Sound label (At p) → StandsAt 130 area p
+  pub stands : (on : Bool) (area : List ℕ) (p : ℕ) (basic : Place) → walk_of on area ≡ Ok (places (Some p) basic) → StandsAt 134 area p
+  pub basic : (on : Bool) (area : List ℕ) (label : Place) (p : ℕ) → walk_of on area ≡ Ok (places label (Some p)) → StandsAt 130 area p
   pub bad_ones : (t : ℕ) (b : List ℕ) → is_even (length b) ≡ true → bad_place t b < length b → BadAt t b

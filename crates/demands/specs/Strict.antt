@@ -6,9 +6,8 @@ use Rattle.option.specs.declared.Spellings.{Spellings}
 use Rattle.option.specs.Option.{Means}
 use Rattle.option.specs.Theorems.{Spells}
 use Rattle.option_slack.specs.Slack.{slack}
-use Rattle.area.specs.declared.Place.{Place}
-use Rattle.area.specs.declared.Place.TheVariants.{At}
-use Rattle.area.specs.declared.Walk.TheVariants.{Sound}
+use Rattle.std.specs.Prelude.{Ok, Some}
+use Rattle.area.specs.Kinds.{Place, places}
 use Rattle.port.specs.declared.Port.{Port}
 use Rattle.arrive.specs.Checks.{walk_at, option_at}
 use Rattle.demands.specs.Demands.{LabelOf}
@@ -24,6 +23,6 @@ pub record StrictAccepts : Type 0 where
   -- so the option of a datagram whose label a strict port takes from it
   pub accepted : (p : Port) (area : List ℕ) (l : Label) (at : ℕ) (basic : Place)
       → p.strict ≡ true
-      → walk_at p area ≡ Sound (At at) basic
+      → walk_at p area ≡ Ok (places (Some at) basic)
       → LabelOf p area l
       → Writable (option_at at area) l

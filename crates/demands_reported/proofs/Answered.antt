@@ -14,10 +14,8 @@ use Rattle.decision.specs.Decision.{Refusal, decided}
 use Rattle.option.specs.Option.{Octets}
 use Rattle.option_read.proofs.Theorems.{reads}
 use Rattle.option_slack.proofs.Strict.{strictly_reads}
-use Rattle.area.specs.declared.Place.{Place}
-use Rattle.area.specs.declared.Place.TheVariants.{Nowhere, At}
-use Rattle.area.specs.declared.Walk.{Walk}
-use Rattle.area.specs.declared.Walk.TheVariants.{Sound, Refused}
+use Rattle.std.specs.Prelude.{Ok, Err, Some, None}
+use Rattle.area.specs.Kinds.{Place, Walk, places}
 use Rattle.port.specs.declared.Port.{Port}
 use Rattle.area.proofs.Laws.{area_refused, sound_placed}
 use Rattle.arrive.specs.Checks.{silent as silent_as, faulty, option_at, read_at, when, first_of, walk_at, walk_refusal, walk_check, place_in, required_by, required_check, option_by, option_check}
@@ -57,19 +55,22 @@ module _ (port : Port) (area : List ℕ) where
   unfolding walk_check option_check
   past_both oct w o n = go (walk_at port area) refl w o
     where
-      by : (p : ℕ) (b : Place) (t : Bool) → eqb (read_at port (option_at p area)).number 0 ≡ t → walk_at port area ≡ Sound (At p) b
+      by : (p : ℕ) (b : Place) (t : Bool) → eqb (read_at port (option_at p area)).number 0 ≡ t → walk_at port area ≡ Ok (places (Some p) b)
           → when (not t) (faulty (read_at port (option_at p area)).number (p + (read_at port (option_at p area)).pointer)) ≡ none → ⊥
       by p b false q e o = let z : ◌≡◌ {A = ℕ} 0 1 = cc in omega arith
       by p b true q e o =
-          let f = placed_framed area p (sound_placed port.basic.on area (At p) b e).0 in
+          let f = placed_framed area p (sound_placed port.basic.on area (Some p) b e).0 in
           let z = (strictly_reads.exactly port.strict port.domain (option_at p area)).0 (eqb-true _ _ q) in
           let v = ((reads.for port.domain).exactly (option_at p area) (octets_take (get_or area (p + 1) 0) (drop p area) (octets_drop p area oct)) f.framed).0 z.0 in
-          never (padded (option_at p area)) (reply_area area) (replies.copied area p b (sound_open port.basic.on area (At p) b e) v.0) n
+          never (padded (option_at p area)) (reply_area area) (replies.copied area p b (sound_open port.basic.on area (Some p) b e) v.0) n
 
       go : (x : Walk) → walk_at port area ≡ x → walk_refusal (walk_at port area) ≡ none → option_by (place_in (walk_at port area)) port area ≡ none → ⊥
-      go (Refused m at) e w o = let k : some (faulty m at) ≡ none = sym (ap walk_refusal e) ∙ w in let z : ◌≡◌ {A = ℕ} 0 1 = cc in omega arith
-      go (Sound Nowhere b) e w o = never [] (reply_area area) (replies.bare area b (sound_open port.basic.on area Nowhere b e)) n
-      go (Sound (At p) b) e w o = by p b (eqb (read_at port (option_at p area)).number 0) refl e (sym (ap (λ (x : Walk). option_by (place_in x) port area) e) ∙ o)
+      go (Err m) e w o = let k : some (faulty m.number m.at) ≡ none = sym (ap walk_refusal e) ∙ w in let z : ◌≡◌ {A = ℕ} 0 1 = cc in omega arith
+      go (Ok m) e w o = placed m.label m.basic e o
+        where
+          placed : (l b : Place) → walk_at port area ≡ Ok (places l b) → option_by (place_in (walk_at port area)) port area ≡ none → ⊥
+          placed None b e o = never [] (reply_area area) (replies.bare area b (sound_open port.basic.on area None b e)) n
+          placed (Some p) b e o = by p b (eqb (read_at port (option_at p area)).number 0) refl e (sym (ap (λ (x : Walk). option_by (place_in x) port area) e) ∙ o)
 
   -- a walk's refusal, and an option's, is one that is not answered
   walk_quiet : (r : Refusal) → walk_check port area ≡ some r → unanswered r.number ≡ true
@@ -77,11 +78,11 @@ module _ (port : Port) (area : List ℕ) where
   walk_quiet r w = go (walk_at port area) refl w
     where
       go : (x : Walk) → walk_at port area ≡ x → walk_refusal (walk_at port area) ≡ some r → unanswered r.number ≡ true
-      go (Sound l b) e w = absurd (let k : none ≡ some r = sym (ap walk_refusal e) ∙ w in let z : ◌≡◌ {A = ℕ} 0 1 = cc in omega arith)
-      go (Refused m at) e w =
-          let q = area_refused port.basic.on area m at e in
-          let k : some (faulty m at) ≡ some r = sym (ap walk_refusal e) ∙ w in
-          let i : m ≡ r.number = cc in
+      go (Ok m) e w = absurd (let k : none ≡ some r = sym (ap walk_refusal e) ∙ w in let z : ◌≡◌ {A = ℕ} 0 1 = cc in omega arith)
+      go (Err m) e w =
+          let q = area_refused port.basic.on area m.number m.at e in
+          let k : some (faulty m.number m.at) ≡ some r = sym (ap walk_refusal e) ∙ w in
+          let i : m.number ≡ r.number = cc in
           quiet_walk r.number (omega (arith, q.0)) (omega (arith, q.1))
 
   option_quiet : (r : Refusal) → option_check port area ≡ some r → unanswered r.number ≡ true
@@ -97,8 +98,8 @@ module _ (port : Port) (area : List ℕ) where
           (strict_number port.strict port.domain (option_at p area) (eqb-false _ _ q))
 
       go : (x : Place) → option_by x port area ≡ some r → unanswered r.number ≡ true
-      go Nowhere o = absurd (let z : ◌≡◌ {A = ℕ} 0 1 = cc in omega arith)
-      go (At p) o = by p (eqb (read_at port (option_at p area)).number 0) refl o
+      go None o = absurd (let z : ◌≡◌ {A = ℕ} 0 1 = cc in omega arith)
+      go (Some p) o = by p (eqb (read_at port (option_at p area)).number 0) refl o
 
   -- where a label is required and none is there, there is no option to be checked
   required_none : (r : Refusal) → required_check port area ≡ some r → option_check port area ≡ none
@@ -106,8 +107,8 @@ module _ (port : Port) (area : List ℕ) where
   required_none r e = go (place_in (walk_at port area)) e
     where
       go : (x : Place) → required_by x port ≡ some r → option_by x port area ≡ none
-      go Nowhere e = refl
-      go (At p) e = absurd (let z : ◌≡◌ {A = ℕ} 0 1 = cc in omega arith)
+      go None e = refl
+      go (Some p) e = absurd (let z : ◌≡◌ {A = ℕ} 0 1 = cc in omega arith)
 
   -- the checks of either job: two that are silent, these three, and the rest
   pub past_first : Octets area → (s t : Option Refusal) (rest : List (Option Refusal)) (r : Refusal)

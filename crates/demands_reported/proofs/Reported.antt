@@ -13,10 +13,8 @@ use Rattle.label.specs.declared.Label.{Label}
 use Rattle.label.specs.Label.{in_range}
 use Rattle.option.specs.Option.{Octets}
 use Rattle.basic.specs.Alone.{basic_reading}
-use Rattle.area.specs.declared.Place.{Place}
-use Rattle.area.specs.declared.Place.TheVariants.{Nowhere, At}
-use Rattle.area.specs.declared.Walk.{Walk}
-use Rattle.area.specs.declared.Walk.TheVariants.{Sound, Refused}
+use Rattle.std.specs.Prelude.{Ok, Err, Some, None, is_none}
+use Rattle.area.specs.Kinds.{Place, Walk}
 use Rattle.area.specs.Area.{bad_area}
 use Rattle.area.proofs.Laws.{area_refused}
 use Rattle.area_leaving.specs.Kept.{kept_of}
@@ -30,8 +28,8 @@ use Rattle.forward_rules.specs.Crossing.{Forwarding, sizes, records, leaving_bas
 use Rattle.forward_rules.specs.Forward.{forward_checks, leaving_count, forward_of}
 use Rattle.forward_rules.proofs.Forwards.{records_test}
 use Rattle.deliver.specs.Delivery.{Delivery, delivery_sizes, delivery_records, host_check, deliver_checks, deliver_of}
-use Rattle.route.specs.declared.Chosen.{Chosen}
-use Rattle.route.specs.declared.Chosen.TheVariants.{NoRoute, By}
+use Rattle.route.specs.Route.{Chosen}
+use Rattle.std.specs.Prelude.{None, Some}
 use Rattle.route_decide.specs.Routing.{Routing, box_sound, chosen, arriving_port, chosen_pair, set_check, leaving_basic_by, is_unrouted, no_route, route_check, routing_checks, routing_of}
 use Rattle.message.specs.Message.{reports, whole_header}
 use Rattle.message_reply.specs.Reply.{reply_area}
@@ -85,26 +83,26 @@ module _ (port : Port) (area : List ℕ) where
   walk_fine = go (walk_at port area) refl
     where
       go : (w : Walk) → walk_at port area ≡ w → Fine (walk_refusal w)
-      go (Sound label basic) e = tt
-      go (Refused n at) e =
-          let q = area_refused port.basic.on area n at e in
-          faulty_fine n at (omega (arith, q.0)) (λ z. omega (arith, q.1))
+      go (Ok m) e = tt
+      go (Err r) e =
+          let q = area_refused port.basic.on area r.number r.at e in
+          faulty_fine r.number r.at (omega (arith, q.0)) (λ z. omega (arith, q.1))
 
   required_fine : Fine (required_check port area)
   unfolding required_check
   required_fine = go (place_in (walk_at port area))
     where
       go : (p : Place) → Fine (required_by p port)
-      go Nowhere = when_fine port.required (record { number = 6; kind = 12; code = 1; pointer = 134 }) (missing_fine 6 134 (omega arith) (omega arith))
-      go (At p) = tt
+      go None = when_fine port.required (record { number = 6; kind = 12; code = 1; pointer = 134 }) (missing_fine 6 134 (omega arith) (omega arith))
+      go (Some p) = tt
 
   option_fine : Fine (option_check port area)
   unfolding option_check
   option_fine = go (place_in (walk_at port area))
     where
       go : (p : Place) → Fine (option_by p port area)
-      go Nowhere = tt
-      go (At p) = by (eqb (read_at port (option_at p area)).number 0) refl
+      go None = tt
+      go (Some p) = by (eqb (read_at port (option_at p area)).number 0) refl
         where
           by : (t : Bool) → eqb (read_at port (option_at p area)).number 0 ≡ t
               → Fine (when (not t) (faulty (read_at port (option_at p area)).number (p + (read_at port (option_at p area)).pointer)))
@@ -119,8 +117,8 @@ module _ (port : Port) (area : List ℕ) where
   bad_basic_fine = go (basic_in (walk_at port area))
     where
       go : (p : Place) → Fine (bad_basic_by p area)
-      go Nowhere = tt
-      go (At p) = when_fine (not (eqb (basic_reading (option_at p area)).number 0)) (faulty 19 p) (faulty_fine 19 p (omega arith) (λ z. omega arith))
+      go None = tt
+      go (Some p) = when_fine (is_none (basic_reading (option_at p area))) (faulty 19 p) (faulty_fine 19 p (omega arith) (λ z. omega arith))
 
   missing_basic_fine : Fine (missing_basic_check port area)
   unfolding missing_basic_check
@@ -205,8 +203,8 @@ module _ (b : Routing) where
   set_fine = when_fine (not (box_sound b)) (silent_as 2) (silent_fine 2 (omega arith) (omega arith))
 
   leaving_by_fine : (c : Chosen) → Fine (leaving_basic_by c (chosen_pair b))
-  leaving_by_fine NoRoute = tt
-  leaving_by_fine (By r) = leaving_basic_fine (chosen_pair b)
+  leaving_by_fine None = tt
+  leaving_by_fine (Some r) = leaving_basic_fine (chosen_pair b)
 
   route_fine : Fine (route_check b)
   unfolding route_check

@@ -14,8 +14,8 @@ use Rattle.arrive.specs.Checks.{barred, when, first_of, NoneApplies, bad_basic_c
 use Rattle.arrive.proofs.First.{or_else, first_append, none_first}
 use Rattle.forward_rules.specs.Crossing.{sizes}
 use Rattle.route.specs.declared.Route.{Route}
-use Rattle.route.specs.declared.Chosen.{Chosen}
-use Rattle.route.specs.declared.Chosen.TheVariants.{NoRoute, By}
+use Rattle.route.specs.Route.{Chosen}
+use Rattle.std.specs.Prelude.{None, Some}
 use Rattle.route.specs.Route.{routes_of, matches, longest}
 use Rattle.route.specs.Theorems.{Listed, Decides}
 use Rattle.route.proofs.Longest.{longest_match}
@@ -56,7 +56,7 @@ reach_is p area l o good d =
     rw (q.walk, q.required, q.option, good) (ap (λ (z : Label). reach_of p (arriving_basic p area) z) q.label)
 
 -- without a route: 22 after the arriving port's checks
-unrouted_is : (b : Routing) (l : Label) → sizes (chosen_pair b) ≡ none → box_sound b ≡ true → chosen b ≡ NoRoute
+unrouted_is : (b : Routing) (l : Label) → sizes (chosen_pair b) ≡ none → box_sound b ≡ true → chosen b ≡ None
     → MeansAt (arriving_port b) b.area l → bad_basic_check (arriving_port b) b.area ≡ none → l.domain ≡ (arriving_port b).domain
     → routing_of b ≡ decided (silenced b.facts) (or_else (reach_of (arriving_port b) (arriving_basic (arriving_port b) b.area) l) (some no_route)) zero_label 0
 unrouted_is b l s e c o good d =
@@ -82,7 +82,7 @@ module _ (b c : Routing) (l : Label) (a : RoutedAlike b c l) where
   unfolding sizes
   pair_sized d r e = e
 
-  pair_alike : (r : Route) → chosen b ≡ By r → Alike (pair_by b r) (pair_by c r) l
+  pair_alike : (r : Route) → chosen b ≡ Some r → Alike (pair_by b r) (pair_by c r) l
   pair_alike r m =
       record {
         arriving = port_alike;
@@ -100,9 +100,9 @@ module _ (b c : Routing) (l : Label) (a : RoutedAlike b c l) where
       }
 
   decided_by : (x : Chosen) → chosen b ≡ x → routing_of b ≡ routing_of c
-  decided_by (By r) m =
+  decided_by (Some r) m =
       routed_of b a.sound.0 r m ∙ demand3.decided (pair_by b r) (pair_by c r) l (pair_alike r m) ∙ sym (routed_of c a.sound.1 r (sym chosen_alike ∙ m))
-  decided_by NoRoute m =
+  decided_by None m =
       let o = basic_alike (arriving_port b) (arriving_port c) b.area c.area l l a.first a.second a.kept in
       unrouted_is b l a.sized.0 a.sound.0 m a.first a.good.0 a.domain
       ∙ (λ i. decided (silenced (a.facts i)) (or_else (reach_of (port_alike i) (o i) l) (some no_route)) zero_label 0)
@@ -117,17 +117,17 @@ module _ (b c : Routing) (l : Label) (a : RoutedAlike b c l) where
 
 -- of a sound set, the route that decides is the one chosen
 module _ (b : Routing) (e : box_sound b ≡ true) where
-  decides_chosen : (r : Route) → Decides b.destination (routes_of b.routes) r → chosen b ≡ By r
+  decides_chosen : (r : Route) → Decides b.destination (routes_of b.routes) r → chosen b ≡ Some r
   unfolding chosen
   decides_chosen r d = go (longest b.destination (routes_of b.routes)) refl
     where
-      go : (c : Chosen) → longest b.destination (routes_of b.routes) ≡ c → longest b.destination (routes_of b.routes) ≡ By r
-      go NoRoute p = absurd (never (sym d.hits ∙ longest_match.unmatched b.destination (routes_of b.routes) p r d.listed))
-      go (By s) p =
+      go : (c : Chosen) → longest b.destination (routes_of b.routes) ≡ c → longest b.destination (routes_of b.routes) ≡ Some r
+      go None p = absurd (never (sym d.hits ∙ longest_match.unmatched b.destination (routes_of b.routes) p r d.listed))
+      go (Some s) p =
           p
-          ∙ ap By (longest_match.only b.destination (domains_of b.ports) b.routes s r (routes_of_lem b e) (longest_match.chosen b.destination (routes_of b.routes) s p) d)
+          ∙ ap Some (longest_match.only b.destination (domains_of b.ports) b.routes s r (routes_of_lem b e) (longest_match.chosen b.destination (routes_of b.routes) s p) d)
 
-  chosen_decides : (r : Route) → chosen b ≡ By r → Decides b.destination (routes_of b.routes) r
+  chosen_decides : (r : Route) → chosen b ≡ Some r → Decides b.destination (routes_of b.routes) r
   unfolding chosen
   chosen_decides r c = longest_match.chosen b.destination (routes_of b.routes) r c
 

@@ -17,8 +17,8 @@ use Rattle.arrive.proofs.Arrival.{arrival_real}
 use Rattle.forward_rules.specs.Crossing.{sizes}
 use Rattle.forward_rules.specs.Forward.{forward_of}
 use Rattle.route.specs.declared.Route.{Route}
-use Rattle.route.specs.declared.Chosen.{Chosen}
-use Rattle.route.specs.declared.Chosen.TheVariants.{NoRoute, By}
+use Rattle.route.specs.Route.{Chosen}
+use Rattle.std.specs.Prelude.{None, Some}
 use Rattle.route_decide.specs.Routing.{Routing, box_sound, chosen, arriving_port, pair_by, chosen_pair, no_route, routing_of}
 use Rattle.route_decide.proofs.Decides.{routed_of, unrouted_of_lem, unsound_of}
 
@@ -26,7 +26,7 @@ use Rattle.route_decide.proofs.Decides.{routed_of, unrouted_of_lem, unsound_of}
 pub record Passing (b : Routing) : Type 0 where
   pub route : Route
   pub sound : box_sound b ≡ true
-  pub matched : chosen b ≡ By route
+  pub matched : chosen b ≡ Some route
   pub forwarded : (forward_of (pair_by b route)).number ≡ 0
 
 -- where a check applies, and its number is not 0, the decision's number is not 0
@@ -54,10 +54,10 @@ passes_of b z = by_set (box_sound b) refl
     number p h = sym (ap (λ (d : Decision). d.number) p) ∙ h
 
     by_route : box_sound b ≡ true → (c : Chosen) → chosen b ≡ c → Passing b
-    by_route e NoRoute c =
+    by_route e None c =
         absurd (stops (silenced b.facts) no_route (sizes (chosen_pair b)) (arrival_checks (arriving_port b) b.area 9) zero_label 0 (sizes_real b) (λ h. omega arith) (arrival_real (arriving_port b) b.area 9)
         (number (unrouted_of_lem b e c) z))
-    by_route e (By r) c = record { route = r; sound = e; matched = c; forwarded = number (routed_of b e r c) z }
+    by_route e (Some r) c = record { route = r; sound = e; matched = c; forwarded = number (routed_of b e r c) z }
 
     by_set : (t : Bool) → box_sound b ≡ t → Passing b
     by_set true e = by_route e (chosen b) refl

@@ -10,8 +10,8 @@ use Rattle.decision.specs.Decision.{Refusal, silenced}
 use Rattle.arrive.specs.Checks.{barred, when, first_of, walk_check, required_check, option_check, bad_basic_check, missing_basic_check, basic_range_check, range_check, arriving_basic, basic_passes}
 use Rattle.arrive.proofs.First.{first_append}
 use Rattle.forward_rules.specs.Crossing.{Forwarding, sizes, leaving_basic_check, number_check, leaving_check, spelling_check, crossing}
-use Rattle.route.specs.declared.Chosen.{Chosen}
-use Rattle.route.specs.declared.Chosen.TheVariants.{NoRoute, By}
+use Rattle.route.specs.Route.{Chosen}
+use Rattle.std.specs.Prelude.{None, Some}
 use Rattle.route_decide.specs.Routing.{Routing, box_sound, chosen, is_unrouted, arriving_port, chosen_pair, set_check, leaving_basic_by, route_check, routing_checks, routing_of}
 use Rattle.demands.specs.Rules.{Rule, rule, arriving_basic_rule, range_rule, crossing_rules}
 use Rattle.demands.proofs.Rules.{checks, all_rules, Found, found, follows}
@@ -19,8 +19,8 @@ use Rattle.demands_routed.specs.Rules.{leaving_rule, routed_tests, RoutedOrder}
 
 leaving_by : (c : Chosen) (f : Forwarding) → when (not (is_unrouted c) && not (basic_passes f.leaving.basic.on f.leaving.basic.sending (arriving_basic f.arriving f.area))) (barred 21 9) ≡ leaving_basic_by c f
 unfolding leaving_basic_check
-leaving_by NoRoute f = refl
-leaving_by (By r) f = refl
+leaving_by None f = refl
+leaving_by (Some r) f = refl
 
 routed_rules : (b : Routing) → first_of (checks (routed_tests b)) ≡ first_of (routing_checks b)
 unfolding sizes set_check basic_range_check range_check route_check number_check leaving_check spelling_check

@@ -1,20 +1,23 @@
 -- What a refusal leaves untouched, entry by entry.
-use mathlib.Core.Path.{◌≡◌, refl, ◌∙◌, ap}
-use mathlib.Core.Bool.{Bool, true, false, cond}
+use mathlib.Core.Path.{◌≡◌, refl, sym, ◌∙◌, ap}
+use mathlib.Core.Bool.{Bool, true, false, cond, true≢false}
 use mathlib.Core.List.{List, ◌++◌}
 use mathlib.Core.Option.{Option, none, some}
 use Prim.Native.Nat.{ℕ, ◌/◌, ◌≤◌, ◌<◌}
 use lib.Dec.{leb, ltb, eqb}
 use lib.ListN.{length, take, drop, take-append-drop}
 use borrow.Author.Tests.{eq-eqb, ne_eqb, lt-ltb, le-leb}
+use Rattle.std.specs.Prelude.{Err}
+use Rattle.std.specs.Result.{is_err}
 use Rattle.label.specs.declared.Label.{Label}
 use Rattle.option.specs.declared.Spellings.{Spellings}
-use Rattle.option_read_bitmap.specs.Bitmap.{bitmap_number, bitmap_found, bitmap_keys}
+use Rattle.option_read_bitmap.specs.Bitmap.{number_of, bitmap_found, bitmap_keys}
 use Rattle.option_read.specs.Reading.{reading_for}
 use Rattle.option_read.specs.Keys.{key_reading_for, keys_after}
 use Rattle.option_spell.specs.Spelling.{spelling_number, spelling_answer, spelling_out}
 use Rattle.basic.proofs.OptionTheorems.{writes_basic}
 use Rattle.table.specs.Table.{Lent, table_sound}
+use Rattle.renumber_reverse.specs.declared.ReverseError.{ReverseError}
 use Rattle.renumber_reverse.specs.Reverse.{reversed_of, with_rows}
 use Rattle.decision.specs.Decision.{Refusal, silenced, decided}
 use Rattle.arrive.specs.Checks.{first_of}
@@ -32,9 +35,14 @@ spell_untouched : (p : Spellings) (l : Label) (out : List ℕ) → ((spelling_an
 unfolding spelling_answer spelling_out
 spell_untouched p l out h = kept_by (spelling_number p l (length out)) _ out (λ e. h (rw (eq-eqb (spelling_number p l (length out)) 0 e)))
 
-bitmap_untouched : (b keys : List ℕ) → ((bitmap_found b (length keys)).number ≡ 0 → ⊥) → bitmap_keys b keys ≡ keys
+bitmap_untouched : (b keys : List ℕ) → (number_of (bitmap_found b (length keys)) ≡ 0 → ⊥) → bitmap_keys b keys ≡ keys
 unfolding bitmap_found bitmap_keys
-bitmap_untouched b keys h = kept_by (bitmap_number b (length keys)) _ keys (λ e. h (rw (eq-eqb (bitmap_number b (length keys)) 0 e)))
+bitmap_untouched b keys = go (ltb (length keys) 120) refl (ltb 30 (length b)) refl
+  where
+    go : (s : Bool) → ltb (length keys) 120 ≡ s → (l : Bool) → ltb 30 (length b) ≡ l → (number_of (bitmap_found b (length keys)) ≡ 0 → ⊥) → bitmap_keys b keys ≡ keys
+    go true p l q h = rw p
+    go false p true q h = rw (p, q)
+    go false p false q h = absurd (h (rw (p, q)))
 
 keys_untouched : (d : ℕ) (o keys : List ℕ) → length keys < 120 → keys_after d o keys ≡ keys
 unfolding keys_after
@@ -51,14 +59,16 @@ early_untouched d o keys = go (ltb (length keys) 120) refl
         let h' : (reading_for d o).number ≤ 11 = rw e at h in
         rw (e, le-leb 7 (reading_for d o).number l', le-leb (reading_for d o).number 11 h')
 
-reverse_untouched : (t : Lent) (ls : List (List ℕ)) (room : List ℕ) → ((reversed_of t ls (length room / 3)).number ≡ 0 → ⊥) → with_rows t ls room ≡ room
+reverse_untouched : (t : Lent) (ls : List (List ℕ)) (room : List ℕ) (e : ReverseError) → reversed_of t ls (length room / 3) ≡ Err e → with_rows t ls room ≡ room
 unfolding reversed_of with_rows
-reverse_untouched t ls room = go (table_sound t ls) refl (leb t.count (length room / 3)) refl
+reverse_untouched t ls room e = go (table_sound t ls) refl (leb t.count (length room / 3)) refl
   where
-    go : (s : Bool) → table_sound t ls ≡ s → (b : Bool) → leb t.count (length room / 3) ≡ b → ((reversed_of t ls (length room / 3)).number ≡ 0 → ⊥) → with_rows t ls room ≡ room
+    go : (s : Bool) → table_sound t ls ≡ s → (b : Bool) → leb t.count (length room / 3) ≡ b → reversed_of t ls (length room / 3) ≡ Err e → with_rows t ls room ≡ room
     go false p b q h = rw p
     go true p false q h = rw (p, q)
-    go true p true q h = absurd (h (rw (p, q)))
+    go true p true q h =
+        let z : is_err (reversed_of t ls (length room / 3)) ≡ false = rw (p, q) in
+        absurd (true≢false (sym (ap is_err h) ∙ z))
 
 -- a decision whose number is not 0 has a refusal, which writes nothing
 written_by : (quiet : Bool) (r : Option Refusal) (l : Label) (n : ℕ) (s kept out : List ℕ) → ((decided quiet r l n).number ≡ 0 → ⊥) → written r s kept out ≡ out
@@ -83,7 +93,7 @@ pub untouched : Untouched
 untouched =
     record {
       spell = spell_untouched;
-      basic = λ v f out h. (writes_basic.refused v f out h).1;
+      basic = writes_basic.refused;
       bitmap = bitmap_untouched;
       keys = keys_untouched;
       early = early_untouched;

@@ -1,5 +1,5 @@
 -- Where the file is refused, or has no port of a number that is asked, nothing passes.
-use Rattle.std.specs.Prelude.{true, false, ◌&&◌, List, ◌≡◌, ℕ}
+use Rattle.std.specs.Prelude.{false, ◌&&◌, List, ◌≡◌, ℕ}
 use Rattle.port.specs.Port.{port_sound}
 use Rattle.file_set.specs.declared.Set.{Set}
 use Rattle.file_read.specs.File.{file_reading}

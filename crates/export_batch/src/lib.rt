@@ -4,9 +4,10 @@
 
 ghost use Rattle.std.specs.Prelude.{◌≡◌, length};
 ghost use Rattle.forward_batch.specs.Batch.{slot_count, batch_of};
+ghost use Rattle.file_read.specs.File.{file_reading, file_room};
 ghost use Rattle.export_batch.specs.Batch.{between, set_read, rows_read, gateway_of};
 
-use file_read::read_file;
+use file_read::{FileRead, read_file};
 use file_set::MAX_PORTS;
 use forward_batch::forward_batch;
 use port::Port;
@@ -29,8 +30,8 @@ pub fn inglebreek_forward_batch(
     ensures output_after { output.new ≡ batch_of (gateway_of (set_read file.now) (rows_read file.now) arriving leaving) (slot_count (length input.now) (length output.old)) input.now output.old }
 {
     let mut rows = [0u16; ROOM];
-    let read = read_file(file, &mut rows);
-    let set = read.set;
+    let read = read_gateway(file, &mut rows);
+    let set = &read.set;
     let used = read.used;
     let kept = set.tables;
     let tables = Tables {
@@ -44,6 +45,14 @@ pub fn inglebreek_forward_batch(
     }
     let none = no_port();
     forward_between(none, none, tables, &rows[..used], input, output)
+}
+
+// Reads the file. A call of its own, so that the stack of reading is free again when the datagrams are decided.
+#[inline(never)]
+fn read_gateway(file: &[u8], rows: &mut [u16]) -> FileRead
+    ensures { (result ≡ file_reading file.now (length rows.old)) × (rows.new ≡ file_room file.now rows.old) }
+{
+    read_file(file, rows)
 }
 
 // Forwards them from one port to another, by the first table for their two domains.

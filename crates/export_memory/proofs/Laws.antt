@@ -1,13 +1,12 @@
 -- What a call on lent numbers comes to where the list is too short, and where it is not.
 use Prim.Native.Nat.{ℕ, ◌≤◌, ◌<◌}
-use mathlib.Core.Path.{◌≡◌, ap, ◌∙◌}
+use Rattle.std.proofs.Common.{⊎_elim}
+use Rattle.std.proofs.lemmas.Bool.{cases_lt}
+use mathlib.Core.Path.{◌≡◌, refl, ap, ◌∙◌}
 use mathlib.Core.Bool.{Bool, false}
-use mathlib.Core.List.{List, ◌++◌, append-nil}
-use native.Mathlib.Omega.{arith}
-use Rattle.lists.specs.Lists.{copied}
-use Rattle.lists.proofs.Laws.{copied_first}
+use mathlib.Core.List.{List, ◌++◌}
 use borrow.Author.Tests.{le-ltb, lt-ltb}
-use lib.ListN.{length, take, drop, replicate, length-replicate}
+use lib.ListN.{length, drop}
 use Rattle.memory.specs.declared.Memory.{Memory}
 use Rattle.memory.specs.declared.Recall.{Recall}
 use Rattle.export_memory.specs.Export.{memory_in, number_by, known_by, count_by_call, addresses_by}
@@ -39,7 +38,21 @@ called_whole call n xs xs' m r h q e p =
       known = rw f (ap (λ (x : Recall). x.known) g);
     }
 
--- 64 places are filled with the first 64 of a list
-pub copied_64 : (xs : List ℕ) → 64 ≤ length xs → copied (take 64 xs) (replicate 64 0) ≡ take 64 xs
-copied_64 xs h =
-    copied_first 64 xs (replicate 64 0) h (omega (arith, length-replicate {A = ℕ} 64 0)) ∙ append-nil (take 64 xs)
+-- a call that changes the memory, by what is left where the list is too short and where it is not
+pub called : (call : Memory → Recall) (n : ℕ) (xs : List ℕ) (r n' : ℕ) (xs' : List ℕ) (k : Bool)
+    → (length xs < 64 → (r ≡ 1) × (n' ≡ n) × (xs' ≡ xs) × (k ≡ false))
+    → (64 ≤ length xs → (a : Recall) × (a ≡ call (memory_in n xs)) × (r ≡ a.number) × (n' ≡ a.memory.count) × (xs' ≡ a.memory.addresses ++ drop 64 xs) × (k ≡ a.known))
+    → Called call n xs r n' xs' k
+called call n xs r n' xs' k short whole = ⊎_elim few enough (cases_lt (length xs) 64)
+  where
+    few : length xs < 64 → Called call n xs r n' xs' k
+    few h =
+        let s = short h in
+        let a = called_short call n xs h in
+        record { number = s.0 ∙ a.number; count = s.1 ∙ a.count; addresses = s.2 ∙ a.addresses; known = s.3 ∙ a.known }
+
+    enough : 64 ≤ length xs → Called call n xs r n' xs' k
+    enough h =
+        let w = whole h in
+        let a = called_whole call n xs xs' (memory_in n xs) w.0 h refl w.1 w.4 in
+        record { number = w.2 ∙ a.number; count = w.3 ∙ a.count; addresses = a.addresses; known = w.5 ∙ a.known }

@@ -4,9 +4,9 @@
 ghost use Rattle.std.specs.Prelude.{◌≡◌, length};
 ghost use Rattle.message.specs.Message.{parts_of};
 ghost use Rattle.message_build.specs.Build.{outcome, built_of, message_left, options_left};
-ghost use Rattle.export_message.specs.Export.{report_by};
+ghost use Rattle.export_message.specs.Export.{report_by, build_number, counts_in, read_number, parts_in};
 
-use message::read_message;
+use message::{NO_MESSAGE, read_message};
 use message_build::{Report, build_message};
 
 // Builds the message of a refusal (its number, ICMP type, code and pointer) about a datagram with this header and data, and the options area of the datagram that carries it. Answers 0,
@@ -24,9 +24,9 @@ pub fn inglebreek_build_message(
     written: &mut usize,
     carried: &mut usize,
 ) -> u8
-    ensures value { result ≡ (built_of (outcome (report_by number kind code pointer) header.now payload.now (length message.old) (length options.old))).number }
-    ensures written_after { written.new ≡ (built_of (outcome (report_by number kind code pointer) header.now payload.now (length message.old) (length options.old))).message }
-    ensures carried_after { carried.new ≡ (built_of (outcome (report_by number kind code pointer) header.now payload.now (length message.old) (length options.old))).options }
+    ensures value { result ≡ build_number (built_of (outcome (report_by number kind code pointer) header.now payload.now (length message.old) (length options.old))) }
+    ensures written_after { written.new ≡ (counts_in (built_of (outcome (report_by number kind code pointer) header.now payload.now (length message.old) (length options.old)))).message }
+    ensures carried_after { carried.new ≡ (counts_in (built_of (outcome (report_by number kind code pointer) header.now payload.now (length message.old) (length options.old)))).options }
     ensures message_after { message.new ≡ message_left (outcome (report_by number kind code pointer) header.now payload.now (length message.old) (length options.old)) message.old }
     ensures options_after { options.new ≡ options_left (outcome (report_by number kind code pointer) header.now payload.now (length message.old) (length options.old)) options.old }
 {
@@ -36,10 +36,17 @@ pub fn inglebreek_build_message(
         code: code,
         pointer: pointer,
     };
-    let built = build_message(report, header, payload, message, options);
-    *written = built.message;
-    *carried = built.options;
-    built.number
+    *written = 0;
+    *carried = 0;
+    match build_message(report, header, payload, message, options) {
+        Ok(Some(built)) => {
+            *written = built.message;
+            *carried = built.options;
+            0
+        }
+        Ok(None) => 0,
+        Err(error) => error.number(),
+    }
 }
 
 // Reads a message that reports a refusal. Answers 0: `kind`, `code` and `pointer` get its type, code and pointer, `header` how many octets the quoted header has, which stands from
@@ -52,18 +59,29 @@ pub fn inglebreek_read_message(
     header: &mut usize,
     payload: &mut usize,
 ) -> u8
-    ensures value { result ≡ (parts_of octets.now).number }
-    ensures kind_after { kind.new ≡ (parts_of octets.now).kind }
-    ensures code_after { code.new ≡ (parts_of octets.now).code }
-    ensures pointer_after { pointer.new ≡ (parts_of octets.now).pointer }
-    ensures header_after { header.new ≡ (parts_of octets.now).header }
-    ensures payload_after { payload.new ≡ (parts_of octets.now).payload }
+    ensures value { result ≡ read_number (parts_of octets.now) }
+    ensures kind_after { kind.new ≡ (parts_in (parts_of octets.now)).kind }
+    ensures code_after { code.new ≡ (parts_in (parts_of octets.now)).code }
+    ensures pointer_after { pointer.new ≡ (parts_in (parts_of octets.now)).pointer }
+    ensures header_after { header.new ≡ (parts_in (parts_of octets.now)).header }
+    ensures payload_after { payload.new ≡ (parts_in (parts_of octets.now)).payload }
 {
-    let parts = read_message(octets);
-    *kind = parts.kind;
-    *code = parts.code;
-    *pointer = parts.pointer;
-    *header = parts.header;
-    *payload = parts.payload;
-    parts.number
+    match read_message(octets) {
+        Some(parts) => {
+            *kind = parts.kind;
+            *code = parts.code;
+            *pointer = parts.pointer;
+            *header = parts.header;
+            *payload = parts.payload;
+            0
+        }
+        None => {
+            *kind = 0;
+            *code = 0;
+            *pointer = 0;
+            *header = 0;
+            *payload = 0;
+            NO_MESSAGE
+        }
+    }
 }

@@ -9,9 +9,9 @@ ghost use Rattle.label_keys.specs.Keys.{with_keys};
 ghost use Rattle.option_read.specs.Reading.{reading_of};
 ghost use Rattle.option_spell.specs.Spelling.{spelling_answer, spelling_out};
 ghost use Rattle.basic.specs.Alone.{basic_reading, basic_writing, basic_out};
-ghost use Rattle.export_option.specs.Export.{label_by, spellings_by};
+ghost use Rattle.export_option.specs.Export.{label_by, spellings_by, read_number, reading_in, write_number, count_in};
 
-use basic::{read_basic, write_basic};
+use basic::{BAD_BASIC, read_basic, write_basic};
 use label_keys::{label_keys, to_label};
 use option::Spellings;
 use option_read::read_option;
@@ -34,14 +34,23 @@ pub fn inglebreek_read_option(
     ensures count_after { count.new ≡ (reading_of octets.now).label.count }
     ensures runs_after { runs.new ≡ with_keys (reading_of octets.now).label runs.old }
 {
-    let read = read_option(octets);
-    let label = read.label;
-    *pointer = read.pointer;
-    *domain = label.domain;
-    *level = label.level;
-    *count = label.count;
-    label_keys(label, runs);
-    read.number
+    match read_option(octets) {
+        Ok(label) => {
+            *pointer = 0;
+            *domain = label.domain;
+            *level = label.level;
+            *count = label.count;
+            label_keys(label, runs);
+            0
+        }
+        Err(fault) => {
+            *pointer = fault.at;
+            *domain = 0;
+            *level = 0;
+            *count = 0;
+            fault.number
+        }
+    }
 }
 
 // Spells the label of a domain, a level and runs, as many as are lent, in its shortest option 134 among the permitted ones: tag 1 in its shortest form, tag 1 with exactly ten bitmap
@@ -69,31 +78,53 @@ pub fn inglebreek_spell_label(
         pairs: pairs,
     };
     let label = to_label(runs, runs.len(), domain, level);
-    let spelled = spell_label(label, permitted, out);
-    *count = spelled.count;
-    spelled.number
+    match spell_label(label, permitted, out) {
+        Ok(length) => {
+            *count = length;
+            0
+        }
+        Err(error) => {
+            *count = 0;
+            error.number()
+        }
+    }
 }
 
 // Reads one option 130 alone. Answers 0, its level octet and its flag field; or 19, and both get 0.
 pub fn inglebreek_read_basic(octets: &[u8], level: &mut u8, flags: &mut u16) -> u8
-    ensures value { result ≡ (basic_reading octets.now).number }
-    ensures level_after { level.new ≡ (basic_reading octets.now).level }
-    ensures flags_after { flags.new ≡ (basic_reading octets.now).flags }
+    ensures value { result ≡ read_number (basic_reading octets.now) }
+    ensures level_after { level.new ≡ (reading_in (basic_reading octets.now)).level }
+    ensures flags_after { flags.new ≡ (reading_in (basic_reading octets.now)).flags }
 {
-    let read = read_basic(octets);
-    *level = read.level;
-    *flags = read.flags;
-    read.number
+    match read_basic(octets) {
+        Some(read) => {
+            *level = read.level;
+            *flags = read.flags;
+            0
+        }
+        None => {
+            *level = 0;
+            *flags = 0;
+            BAD_BASIC
+        }
+    }
 }
 
 // Writes the shortest option 130 of a level octet and a flag field. Answers 0, and `count` gets the option's length: only so many octets of `out` change. Or answers 1 for an `out` of
 // under 5 octets, 19 for a level that is none of the four or flags over 16383; `count` then gets 0, and `out` stays as it was.
 pub fn inglebreek_write_basic(level: u8, flags: u16, out: &mut [u8], count: &mut usize) -> u8
-    ensures value { result ≡ (basic_writing level flags (length out.old)).number }
+    ensures value { result ≡ write_number (basic_writing level flags (length out.old)) }
     ensures out_after { out.new ≡ basic_out level flags out.old }
-    ensures count_after { count.new ≡ (basic_writing level flags (length out.old)).count }
+    ensures count_after { count.new ≡ count_in (basic_writing level flags (length out.old)) }
 {
-    let written = write_basic(level, flags, out);
-    *count = written.count;
-    written.number
+    match write_basic(level, flags, out) {
+        Ok(n) => {
+            *count = n;
+            0
+        }
+        Err(error) => {
+            *count = 0;
+            error.number()
+        }
+    }
 }

@@ -6,7 +6,7 @@ ghost use Rattle.label_keys.specs.Keys.{with_keys};
 ghost use Rattle.option_read.specs.Reading.{reading_of};
 ghost use Rattle.option_spell.specs.Spelling.{spelling_answer, spelling_out};
 ghost use Rattle.basic.specs.Alone.{basic_reading, basic_writing, basic_out};
-ghost use Rattle.export_option.specs.Export.{label_by, spellings_by};
+ghost use Rattle.export_option.specs.Export.{label_by, spellings_by, read_number, reading_in, write_number, count_in};
 
 #[unsafe(no_mangle)]
 pub extern "C" fn inglebreek_read_option(
@@ -50,9 +50,9 @@ pub extern "C" fn inglebreek_spell_label(
 
 #[unsafe(no_mangle)]
 pub extern "C" fn inglebreek_read_basic(octets: &[u8], level: &mut u8, flags: &mut u16) -> u8
-    ensures value { result ≡ (basic_reading octets.now).number }
-    ensures level_after { level.new ≡ (basic_reading octets.now).level }
-    ensures flags_after { flags.new ≡ (basic_reading octets.now).flags }
+    ensures value { result ≡ read_number (basic_reading octets.now) }
+    ensures level_after { level.new ≡ (reading_in (basic_reading octets.now)).level }
+    ensures flags_after { flags.new ≡ (reading_in (basic_reading octets.now)).flags }
 {
     export_option::inglebreek_read_basic(octets, level, flags)
 }
@@ -64,9 +64,9 @@ pub extern "C" fn inglebreek_write_basic(
     out: &mut [u8],
     count: &mut usize,
 ) -> u8
-    ensures value { result ≡ (basic_writing level flags (length out.old)).number }
+    ensures value { result ≡ write_number (basic_writing level flags (length out.old)) }
     ensures out_after { out.new ≡ basic_out level flags out.old }
-    ensures count_after { count.new ≡ (basic_writing level flags (length out.old)).count }
+    ensures count_after { count.new ≡ count_in (basic_writing level flags (length out.old)) }
 {
     export_option::inglebreek_write_basic(level, flags, out, count)
 }

@@ -7,7 +7,8 @@ use borrow.Author.Tests.{eq-eqb, ne_eqb}
 use lib.ListN.{length, take, replicate}
 use Rattle.file_read.specs.declared.FileRead.{FileRead}
 use Rattle.file_read.specs.File.{file_room}
-use Rattle.file_write.specs.declared.Written.{Written}
+use Rattle.std.specs.Prelude.{Result}
+use Rattle.file_write.specs.declared.WriteError.{WriteError}
 use Rattle.file_write.specs.Written.{written_of, file_output}
 use Rattle.export_file.specs.Export.{checking}
 use Rattle.export_renew.specs.Renew.{accepts, rows_read, number_in, count_in, renew_number, renew_count, renew_out}
@@ -25,7 +26,7 @@ renewed_none o out f e h =
     let g : accepts o ≡ false = ne_eqb _ _ (λ (z : (checking o).verdict ≡ 0). h (v ∙ z)) in
     record { number = rw g v; octets = rw g; count = rw g }
 
-pub renewed_whole : (o out out' rows : List ℕ) (f : FileRead) (w : Written) (r n : ℕ) → f ≡ checking o → rows ≡ file_room o (replicate 24576 0) → f.verdict ≡ 0
+pub renewed_whole : (o out out' rows : List ℕ) (f : FileRead) (w : Result ℕ WriteError) (r n : ℕ) → f ≡ checking o → rows ≡ file_room o (replicate 24576 0) → f.verdict ≡ 0
     → w ≡ written_of f.set (take f.used rows) (length out) → out' ≡ file_output f.set (take f.used rows) out → r ≡ number_in w → n ≡ count_in w
     → Renewed o out r out' n
 unfolding renew_number renew_count renew_out

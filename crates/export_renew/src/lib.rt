@@ -6,7 +6,7 @@ ghost use Rattle.export_renew.specs.Renew.{number_in, count_in, renew_number, re
 
 use export_file::ROOM;
 use file_read::{ACCEPTED, read_file};
-use file_write::{Written, write_file};
+use file_write::{WriteError, write_file};
 
 // What is answered where a file would be longer than its version allows. It is no number of document 01.
 pub const TOO_LONG: u8 = 104;
@@ -31,24 +31,19 @@ pub fn inglebreek_renew_file(file: &[u8], out: &mut [u8], count: &mut usize) -> 
     number_in(written)
 }
 
-fn number_in(written: Written) -> u8
+fn number_in(written: Result<usize, WriteError>) -> u8
     ensures { result ≡ number_in written }
 {
     match written {
-        Written::Done(_) => 0,
-        Written::Short => 1,
-        Written::Unsound => 2,
-        Written::Long => TOO_LONG,
+        Ok(_) => 0,
+        Err(WriteError::Short) => 1,
+        Err(WriteError::Unsound) => 2,
+        Err(WriteError::Long) => TOO_LONG,
     }
 }
 
-fn count_in(written: Written) -> usize
+fn count_in(written: Result<usize, WriteError>) -> usize
     ensures { result ≡ count_in written }
 {
-    match written {
-        Written::Done(count) => count,
-        Written::Short => 0,
-        Written::Unsound => 0,
-        Written::Long => 0,
-    }
+    written.unwrap_or(0)
 }

@@ -2,5 +2,4 @@ pub mod Numbers
 pub mod Formats
 pub mod Loops
 pub mod Writing
-pub mod Told
 pub mod Places

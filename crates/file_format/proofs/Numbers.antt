@@ -1,12 +1,14 @@
 -- Octets that stand at a place, and the law of a number each way.
 use mathlib.Core.Bool.{Bool, true, false, cond, ◌&&◌}
 use mathlib.Core.List.{List, [], ◌∷◌, ◌++◌}
-use mathlib.Core.Path.{◌≡◌, refl, sym, ap}
-use Prim.Native.Nat.{ℕ, zero, suc, ◌+◌, ◌*◌, ◌/◌, ◌%◌, ◌≤◌, ◌<◌}
+use mathlib.Core.Path.{◌≡◌, refl, sym, ap, ◌∙◌}
+use Prim.Native.Nat.{ℕ, zero, suc, ◌+◌, ◌-◌, ◌*◌, ◌/◌, ◌%◌, ◌≤◌, ◌<◌}
 use native.Mathlib.Omega.{arith}
 use native.Mathlib.Nat.{add-zero}
 use lib.Dec.{leb}
-use lib.ListN.{length, get_or, length-append}
+use lib.ListN.{length, get_or, take, drop, length-append, length-drop}
+use lib.Seq.{length-take-le}
+use Rattle.std.proofs.lemmas.List.{get_or-drop, get_or-take}
 use borrow.Author.Tests.{le-leb, lt-leb, leb-true}
 use Rattle.label.proofs.Bools.{and_left, and_right}
 use Rattle.file_format.specs.Format.{Width, one, two, four, size, got, bad, room, digits, value_at, number_at}
@@ -115,6 +117,21 @@ small_room (suc zero) h = omega arith
 small_room (suc (suc zero)) h = omega arith
 small_room (suc (suc (suc zero))) h = omega arith
 small_room (suc (suc (suc (suc i)))) h = absurd (omega arith)
+
+-- the part of a list that the octets of a number are
+pub part_length : (s : List ℕ) (at w : ℕ) (t : Bool) → t ≡ leb (at + w) (length s) → t ≡ true → length (take (at + w - at) (drop at s)) ≡ w
+part_length s at w t q h =
+    let there : at + w ≤ length s = leb-true _ _ (sym q ∙ h) in
+    let e : at + w - at ≡ w = omega arith in
+    rw e (length-take-le w (drop at s) (omega (arith, length-drop at s)))
+
+-- a loop that has passed all of them has read their number
+pub part_value : (s : List ℕ) (at w i value : ℕ) (t : Bool) → t ≡ leb (at + w) (length s) → t ≡ true → value ≡ value_at s at i
+    → length (take (at + w - at) (drop at s)) ≤ i → i ≤ length (take (at + w - at) (drop at s)) → value_at s at w ≡ value
+part_value s at w i value t q h v l m = let e : i ≡ w = omega (arith, part_length s at w t q h) in rw (← e) (sym v)
+
+pub part_octet : (s : List ℕ) (at w i : ℕ) → i < w → get_or (take (at + w - at) (drop at s)) i 0 ≡ get_or s (at + i) 0
+part_octet s at w i h = get_or-take (at + w - at) (drop at s) i 0 (omega arith) ∙ get_or-drop at s i 0
 
 module _ (s : List ℕ) (at w least most : ℕ) where
   pub number_cut : length s < at + w → number_at w least most s at ≡ bad at

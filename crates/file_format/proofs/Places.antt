@@ -1,14 +1,14 @@
 -- Lists in the first places of an array.
-use mathlib.Core.Bool.{Bool, true, false, cond, not, ◌&&◌}
+use mathlib.Core.Bool.{Bool, true, false, cond, ◌&&◌}
 use mathlib.Core.List.{List, [], ◌∷◌, ◌++◌, append_assoc}
 use mathlib.Core.Path.{◌≡◌, refl, sym, ◌∙◌}
 use Prim.Native.Nat.{ℕ, zero, suc, ◌+◌, ◌-◌, ◌≤◌, ◌<◌}
 use native.Mathlib.Omega.{arith}
-use native.Mathlib.Numerals.{add-one}
 use lib.Dec.{leb, ltb}
-use lib.ListN.{length, get_or, set, take, drop, replicate, length-append, length-drop, length-replicate, take-append-drop}
-use lib.Seq.{take-append_seam, set-append_seam, length-take-le, take_all, drop-cons}
-use borrow.Author.Tests.{leb-true, leb-false, ltb-true, ltb-false, not-true, not-false}
+use Rattle.std.specs.List.{list_all, enumerate_from}
+use lib.ListN.{length, set, take, drop, replicate, length-append, length-replicate, take-append-drop}
+use lib.Seq.{take-append_seam, set-append_seam, length-take-le, take_all}
+use borrow.Author.Tests.{leb-true, leb-false, ltb-true, ltb-false}
 use Rattle.label.proofs.Bools.{and_left, and_right}
 use Rattle.file_format.specs.Format.{Each}
 use Rattle.file_format.specs.Places.{padded, places_fit, Filled}
@@ -69,38 +69,27 @@ held_fills {A} {n} {i} {d} {l} {done} h =
     let u : take i l ≡ done = held_used h in
     record { places = rw u (sym h.places); size = rw u h.size; limit = h.limit }
 
--- The test of a loop over all places: the rest that it has still to look at gives the whole.
-module _ {A : Type 0} (used unused : A → Bool) (d : A) (l : List A) (n : ℕ) where
-  abbrev pub fits_from : ℕ → Bool
-  fits_from i = places_fit used unused (n - i) (drop i l)
+-- the test of all places, each with its number, from the place k on
+fits_from : {A : Type 0} (used unused : A → Bool) (test : ℕ × A → Bool) (n : ℕ) → ((p : ℕ × A) → test p ≡ cond (ltb p.0 n) (used p.1) (unused p.1))
+    → (k : ℕ) (l : List A) → list_all test (enumerate_from k l) ≡ places_fit used unused (n - k) l
+fits_from used unused test n h k [] = refl
+fits_from used unused test n h k (a ∷ l) = go (ltb k n) refl (fits_from used unused test n h (k + 1) l)
+  where
+    go : (b : Bool) → ltb k n ≡ b → list_all test (enumerate_from (k + 1) l) ≡ places_fit used unused (n - (k + 1)) l
+        → (test (k, a) && list_all test (enumerate_from (k + 1) l)) ≡ places_fit used unused (n - k) (a ∷ l)
+    go true e r =
+        let b : k < n = ltb-true k n e in
+        let m : n - k ≡ suc (n - (k + 1)) = omega arith in
+        rw (h (k, a), e, r, m) refl
+    go false e r =
+        let b : n ≤ k = ltb-false k n e in
+        let m : n - k ≡ 0 = omega arith in
+        let j : n - (k + 1) ≡ 0 = omega arith in
+        rw (h (k, a), e, r, m, j) refl
 
-  pub fits_begins : places_fit used unused n l ≡ fits_from 0
-  fits_begins = let e : n - 0 ≡ n = omega arith in rw e
-
-  fits_turn : (i : ℕ) (b : Bool) → ltb i n ≡ b → i < length l → fits_from i ≡ (cond (ltb i n) (used (get_or l i d)) (unused (get_or l i d)) && fits_from (i + 1))
-  fits_turn i true e h =
-      let b : i < n = ltb-true i n e in
-      let k : n - i ≡ suc (n - (i + 1)) = omega arith in
-      rw (e, k, drop-cons l i d h, add-one i)
-  fits_turn i false e h =
-      let b : n ≤ i = ltb-false i n e in
-      let k : n - i ≡ 0 = omega arith in
-      let j : n - (i + 1) ≡ 0 = omega arith in
-      rw (e, k, j, drop-cons l i d h, add-one i)
-
-  module _ (i : ℕ) (so_far : places_fit used unused n l ≡ fits_from i) where
-    pub fits_stops : (t : Bool) → i < length l → t ≡ cond (ltb i n) (used (get_or l i d)) (unused (get_or l i d)) → not t ≡ true → false ≡ places_fit used unused n l
-    fits_stops t h q f = sym (so_far ∙ fits_turn i (ltb i n) refl h ∙ rw (← q, not-true t f))
-
-    pub fits_goes : (t : Bool) → i < length l → t ≡ cond (ltb i n) (used (get_or l i d)) (unused (get_or l i d)) → not t ≡ false → places_fit used unused n l ≡ fits_from (i + 1)
-    fits_goes t h q f = so_far ∙ fits_turn i (ltb i n) refl h ∙ rw (← q, not-false t f)
-
-    pub fits_ends : length l ≤ i → true ≡ places_fit used unused n l
-    fits_ends h = sym (so_far ∙ go (n - i) (drop i l) (omega (arith, length-drop i l)))
-      where
-        go : (k : ℕ) (xs : List A) → length xs ≤ 0 → places_fit used unused k xs ≡ true
-        go k [] e = refl
-        go k (x ∷ xs) e = absurd (omega arith)
+pub fits_all : {A : Type 0} (used unused : A → Bool) (test : ℕ × A → Bool) (n : ℕ) → ((p : ℕ × A) → test p ≡ cond (ltb p.0 n) (used p.1) (unused p.1))
+    → (l : List A) → list_all test (enumerate_from 0 l) ≡ places_fit used unused n l
+fits_all used unused test n h l = let e : n - 0 ≡ n = omega arith in rw e at (fits_from used unused test n h 0 l)
 
 -- What the test means.
 module _ {A : Type 0} (used unused : A → Bool) where

@@ -97,13 +97,3 @@ module _ {A : Type 0} (g : A → List ℕ) (d : A) (l : List A) where
   writes_turn {i} h a b =
       let e : flat g (take (i + 1) l) ≡ flat g (take i l) ++ g (get_or l i d) = rw (add-one, take-suc l i d h) (flat_snoc g (take i l) (get_or l i d)) in
       rw e (writes_then a b)
-
--- a turn of a loop that copies a list
-pub copies_turn : {at i : ℕ} {out out₁ : List ℕ} (src : List ℕ) → i < length src → at + i < length out₁ → Wrote at (take i src) out out₁ (at + i)
-    → Wrote at (take (i + 1) src) out (set out₁ (at + i) (get_or src i 0)) (at + (i + 1))
-copies_turn {at} {i} {out} {out₁} src h k w =
-    let x : ℕ = get_or src i 0 in
-    let e : take (i + 1) src ≡ take i src ++ (get_or src i 0 ∷ []) = rw (add-one i) (take-suc src i 0 h) in
-    let p : paint (at + i) (get_or src i 0 ∷ []) out₁ ≡ set out₁ (at + i) (get_or src i 0) = paint_last (at + i) (at + i) [] x out₁ (add-zero (at + i)) k ∙ paint_none (at + i) (set out₁ (at + i) x) in
-    let m : at + (i + 1) ≡ at + i + 1 = omega arith in
-    rw (e, m) (writes_then w (record { wrote = λ q. (sym p, refl) }))

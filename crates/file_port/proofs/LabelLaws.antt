@@ -2,10 +2,10 @@
 use mathlib.Core.Bool.{Bool, true, false, cond, not, ◌&&◌}
 use mathlib.Core.List.{List, [], ◌∷◌, ◌++◌}
 use mathlib.Core.Path.{◌≡◌, refl, sym, ap, ◌∙◌}
-use Prim.Native.Nat.{ℕ, ◌+◌, ◌-◌, ◌*◌, ◌≤◌, ◌<◌}
+use Prim.Native.Nat.{ℕ, ◌+◌, ◌-◌, ◌*◌, ◌<◌}
 use native.Mathlib.Omega.{arith}
 use lib.Dec.{leb, eqb}
-use borrow.Author.Tests.{le-leb, lt-leb}
+use borrow.Author.Tests.{le-leb}
 use lib.ListN.{length, set, take, replicate, length-append}
 use lib.Seq.{take-append_seam}
 use Rattle.label.specs.declared.Run.{Run}
@@ -14,14 +14,13 @@ use Rattle.label.specs.Label.{no_run, used, label_of}
 use Rattle.label.proofs.Labels.{with_run_of}
 use Rattle.basic.specs.declared.Way.{Way}
 use Rattle.basic.specs.Levels.{is_level, rank_of, at_most}
-use Rattle.file_format.specs.Format.{flag, digits, bit, sum_of, octets, many, same, Reads}
+use Rattle.file_format.specs.Format.{digits, bit, sum_of, octets, many, same}
 use Rattle.file_format.specs.Places.{padded}
-use Rattle.file_format.proofs.Told.{then_told, fields_told, zeroed}
 use Rattle.file_format.proofs.Places.{used_is, padded_more, padded_used}
 use Rattle.file_format.specs.Laws.{flat}
 use Rattle.file_format.proofs.Writing.{flat_turn, flat_length}
 use Rattle.port.specs.declared.Port.{Port}
-use Rattle.file_port.specs.PortFormat.{given_format, way_of, way_format, spelling_marks, spellings_format, plain_format, later_format, plain_of, later_of, plain_made, port_made, first_port, second_port, third_port, port_format, no_port}
+use Rattle.file_port.specs.PortFormat.{given_format, way_of, way_format, spelling_marks, spellings_format, plain_format, later_format, plain_of, later_of, third_port, port_format}
 use Rattle.file_port.specs.LabelFormat.{run_format, next_floor, label_format}
 
 -- one run more is stored in the first unused place, and counted
@@ -149,26 +148,3 @@ level_alone true v = go (is_level v)
     go true = le-leb (rank_of v) (rank_of v) (omega arith)
     go false = refl
 level_alone false v = refl
-
--- A port of each version, and zeros where it was refused.
-module _ {s : List ℕ} {ok k k₁ : Bool} {at m n : ℕ} {q : Port} (p : Port) (version : ℕ) (r : Reads plain_format s ok at k (plain_of p) m) where
-  pub port_first : version < 2 → p ≡ plain_made (plain_of p) → k₁ ≡ k → n ≡ m → q ≡ cond k p no_port → Reads (port_format version) s ok at k₁ q n × (q ≡ cond k₁ q no_port)
-  unfolding port_format first_port
-  port_first h e ek en eq = rw (lt-leb 3 version (omega arith), lt-leb 2 version h, ek, en) (zeroed no_port (fields_told r (sym e)) eq)
-
-module _ {s : List ℕ} {ok k k₁ k₂ : Bool} {at m n n₁ : ℕ} {q z : Port} (p : Port) (version : ℕ) (r : Reads plain_format s ok at k (plain_of p) m) where
-  pub port_second : 2 ≤ version → version < 3 → Reads (later_format p.domain p.lowest p.highest) s k m k₁ (later_of q) n → plain_of q ≡ plain_of p
-      → q.strict ≡ false → k₂ ≡ k₁ → n₁ ≡ n → z ≡ cond k₁ q no_port → Reads (port_format version) s ok at k₂ z n₁ × (z ≡ cond k₂ z no_port)
-  unfolding port_format second_port
-  port_second h v l e u ek en ez =
-      rw (lt-leb 3 version v, le-leb 2 version h, ek, en)
-      (zeroed no_port (fields_told (then_told r l) (λ i. port_made (sym e i) (later_of q) (sym u i))) ez)
-
-module _ {s : List ℕ} {ok k k₁ k₂ k₃ : Bool} {at m n n₁ n₂ : ℕ} {z : Port} (p q t : Port) (version : ℕ) (r : Reads plain_format s ok at k (plain_of p) m) where
-  pub port_third : 3 ≤ version → Reads (later_format p.domain p.lowest p.highest) s k m k₁ (later_of q) n → plain_of q ≡ plain_of p
-      → Reads flag s k₁ n k₂ t.strict n₁ → plain_of t ≡ plain_of q → later_of t ≡ later_of q → k₃ ≡ k₂ → n₂ ≡ n₁ → z ≡ cond k₂ t no_port
-      → Reads (port_format version) s ok at k₃ z n₂ × (z ≡ cond k₃ z no_port)
-  unfolding port_format third_port
-  port_third h l e f et ft ek en ez =
-      rw (le-leb 3 version h, ek, en)
-      (zeroed no_port (fields_told (then_told r (then_told l f)) (λ i. port_made (sym (et ∙ e) i) (sym ft i) t.strict)) ez)

@@ -1,39 +1,21 @@
 // Records of the house file: each is read at a place and written at a place.
 #![tactic(auto)]
 
-ghost use Rattle.std.specs.Prelude.{◌≡◌, true, false, cond, leb, eqb, length, take, ◌+◌, ◌*◌, ◌≤◌, ◌<◌};
-ghost use Rattle.label.specs.Runs.{run};
+ghost use Rattle.std.specs.Prelude.{◌≡◌, true, false, cond, leb, eqb, length, take, IfOk, ◌+◌, ◌*◌, ◌≤◌, ◌<◌};
 ghost use Rattle.label.specs.Label.{used, label_of, zero_label, in_range};
 ghost use Rattle.basic.specs.Levels.{at_most};
-ghost use Rattle.file_format.specs.Format.{Reads, many, number, two, flag, alike, same, bit, sum_of, marks_of, digits, octets, Writes, Wrote};
+ghost use Rattle.file_format.specs.Format.{ReadsAs, Reads, many, number, two, flag, alike, same, bit, sum_of, marks_of, digits, octets, Writes, Wrote};
 ghost use Rattle.file_format.specs.Laws.{flat};
 ghost use Rattle.file_port.specs.LabelFormat.{run_format, next_floor, unless0, label_format};
 ghost use Rattle.file_port.specs.PortFormat.{given_format, way_of, way_format, spellings_made, spelling_marks, spellings_format, plain_format, plain_of, plain_made, later_format, later_of, port_format, no_port};
 
 use basic::{Basic, Way, at_most};
 use file_format::{
-    count_used, has_room, judge, read_four, read_octet, read_two, write_four, write_octet,
-    write_two,
+    count_used, has_room, read_four, read_octet, read_two, write_four, write_octet, write_two,
 };
 use label::{Label, Run};
 use option::Spellings;
 use port::Port;
-
-#[derive(Clone, Copy)]
-struct RunRead {
-    ok: bool,
-    at: usize,
-    low: u16,
-    high: u16,
-}
-
-// What reading a label finds: the label and the place after it, or the place to blame and the all-zero label.
-#[derive(Clone, Copy)]
-pub struct LabelRead {
-    pub ok: bool,
-    pub at: usize,
-    pub label: Label,
-}
 
 fn unless_zero(domain: u32, most: u32) -> u32
     ensures { (result ≡ unless0 domain most) × (result ≤ most) }
@@ -45,23 +27,31 @@ fn unless_zero(domain: u32, most: u32) -> u32
 }
 
 // A run, from `floor` on.
-fn read_run(octets: &[u8], ok: bool, at: usize, floor: u32) -> RunRead
-    ensures { (Reads (run_format floor) octets.now ok at result.ok (run result.low result.high) result.at) × (result.high ≤ 65534) }
+#[tactic(auto, unfolding(file_format::specs::Format::read_at, crate::specs::LabelFormat::run_format))]
+fn read_run(octets: &[u8], at: usize, floor: u32) -> Result<(Run, usize), usize>
+    ensures read { Reads (run_format floor) octets.now at result }
+    ensures bound { IfOk result (λ p. p.0.high ≤ 65534) }
 {
-    let low = read_two(octets, ok, at, floor, 65535);
-    let high = read_two(octets, low.ok, low.at, low.value, 65534);
-    RunRead {
-        ok: high.ok,
-        at: high.at,
-        low: low.value as u16,
-        high: high.value as u16,
-    }
+    let (low, at) = read_two(octets, at, floor, 65535)?;
+    let (high, at) = read_two(octets, at, low, 65534)?;
+    let run = Run {
+        low: low as u16,
+        high: high as u16,
+    };
+    Ok((run, at))
 }
 
 // The runs of a label of the domain and level; they are put in their places as they are read.
-fn read_runs(octets: &[u8], ok: bool, at: usize, count: usize, domain: u32, level: u8) -> LabelRead
+fn read_runs(
+    octets: &[u8],
+    at: usize,
+    count: usize,
+    domain: u32,
+    level: u8,
+) -> Result<(Label, usize), usize>
     requires { count ≤ 120 }
-    ensures { (Reads (many run_format next_floor count 0) octets.now ok at result.ok (used result.label) result.at) × (label_of domain level (used result.label) ≡ result.label) }
+    ensures read { ReadsAs (many run_format next_floor count 0) used octets.now at result }
+    ensures label { IfOk result (λ p. label_of domain level (used p.0) ≡ p.0) }
 {
     let mut label = Label {
         domain: domain,
@@ -71,62 +61,29 @@ fn read_runs(octets: &[u8], ok: bool, at: usize, count: usize, domain: u32, leve
     };
     let mut place = at;
     let mut floor: u32 = 0;
-    let mut i: usize = 0;
-    if !ok {
-        return LabelRead {
-            ok: false,
-            at: at,
-            label: label,
-        };
-    }
-    while i < count {
-        let run = read_run(octets, true, place, floor);
-        if !run.ok {
-            return LabelRead {
-                ok: false,
-                at: run.at,
-                label: label,
-            };
+    for i in 0..count {
+        match read_run(octets, place, floor) {
+            Ok((run, next)) => {
+                label.runs[i] = run;
+                label.count = i + 1;
+                floor = u32::from(run.high) + 2;
+                place = next;
+            }
+            Err(blamed) => return Err(blamed),
         }
-        label.runs[i] = Run {
-            low: run.low,
-            high: run.high,
-        };
-        floor = run.high as u32 + 2;
-        place = run.at;
-        i += 1;
-        label.count = i;
     }
-    LabelRead {
-        ok: true,
-        at: place,
-        label: label,
-    }
+    Ok((label, place))
 }
 
-// Reads the label of a domain; of domain 0 there is only the all-zero label. A refused one is all zero.
-pub fn read_label(octets: &[u8], ok: bool, at: usize, domain: u32) -> LabelRead
-    ensures { (Reads (label_format domain) octets.now ok at result.ok result.label result.at) × (result.label ≡ cond result.ok result.label zero_label) }
+// Reads the label of a domain, and tells the place after it or the place to blame; of domain 0 there is only the all-zero label.
+#[tactic(auto, unfolding(file_format::specs::Format::read_at, crate::specs::LabelFormat::label_format))]
+pub fn read_label(octets: &[u8], at: usize, domain: u32) -> Result<(Label, usize), usize>
+    ensures { Reads (label_format domain) octets.now at result }
 {
-    let first = read_four(octets, ok, at, domain, domain);
-    let level = read_octet(octets, first.ok, first.at, 0, unless_zero(domain, 255));
-    let count = read_octet(octets, level.ok, level.at, 0, unless_zero(domain, 120));
-    let runs = read_runs(
-        octets,
-        count.ok,
-        count.at,
-        count.value as usize,
-        first.value,
-        level.value as u8,
-    );
-    if !runs.ok {
-        return LabelRead {
-            ok: false,
-            at: runs.at,
-            label: Label::empty(0, 0),
-        };
-    }
-    runs
+    let (same, at) = read_four(octets, at, domain, domain)?;
+    let (level, at) = read_octet(octets, at, 0, unless_zero(domain, 255))?;
+    let (count, at) = read_octet(octets, at, 0, unless_zero(domain, 120))?;
+    read_runs(octets, at, count as usize, same, level as u8)
 }
 
 // The first n runs, each its low and its high.
@@ -135,12 +92,9 @@ fn write_runs(label: Label, n: usize, out: &mut [u8], at: usize) -> usize
     ensures { Wrote at (octets (many run_format next_floor n 0) (take n label.runs)) out.old out.new result }
 {
     let mut place = at;
-    let mut i: usize = 0;
-    while i < n {
-        let run = label.runs[i];
-        place = write_two(&mut out[..], place, run.low as u32);
-        place = write_two(&mut out[..], place, run.high as u32);
-        i += 1;
+    for run in &label.runs[..n] {
+        place = write_two(out, place, u32::from(run.low));
+        place = write_two(out, place, u32::from(run.high));
     }
     place
 }
@@ -153,10 +107,10 @@ pub fn write_label(label: Label, out: &mut [u8], at: usize) -> usize
         return at;
     }
     let n = count_used(label.count, 120);
-    let level = write_four(&mut out[..], at, label.domain);
-    let count = write_octet(&mut out[..], level, label.level as u32);
-    let runs = write_octet(&mut out[..], count, n as u32);
-    write_runs(label, n, &mut out[..], runs)
+    let level = write_four(out, at, label.domain);
+    let count = write_octet(out, level, label.level as u32);
+    let runs = write_octet(out, count, n as u32);
+    write_runs(label, n, out, runs)
 }
 
 // How many octets a label has.
@@ -164,14 +118,6 @@ fn label_size(label: Label) -> usize
     ensures { (result ≡ length (octets (label_format label.domain) label)) × (result ≤ 486) }
 {
     6 + count_used(label.count, 120) * 4
-}
-
-// What reading a port finds: the port and the place after it, or the place to blame and a port of zeros.
-#[derive(Clone, Copy)]
-pub struct PortRead {
-    pub ok: bool,
-    pub at: usize,
-    pub port: Port,
 }
 
 // The port whose every number is 0.
@@ -219,59 +165,41 @@ fn given_fits(none: bool, lowest: Label, highest: Label, given: Label) -> bool
 }
 
 // A label that the port may be without.
+#[tactic(auto, unfolding(file_format::specs::Format::read_at, crate::specs::PortFormat::given_format))]
 fn read_given(
     octets: &[u8],
-    ok: bool,
     at: usize,
     none: bool,
     lowest: Label,
     highest: Label,
     domain: u32,
-) -> LabelRead
-    ensures { Reads (given_format none domain lowest highest) octets.now ok at result.ok result.label result.at }
+) -> Result<(Label, usize), usize>
+    ensures { Reads (given_format none domain lowest highest) octets.now at result }
 {
-    let read = read_label(octets, ok, at, given_domain(none, domain));
-    let given = read.label;
-    let kept = judge(
-        read.ok,
-        read.at,
-        at,
-        given_fits(none, lowest, highest, given),
-    );
-    LabelRead {
-        ok: kept.ok,
-        at: kept.at,
-        label: given,
+    let (given, next) = read_label(octets, at, given_domain(none, domain))?;
+    if !given_fits(none, lowest, highest, given) {
+        return Err(at);
     }
+    Ok((given, next))
 }
 
 // The fields of version 1, in a port that has document 01's values in the later ones.
-fn read_plain(octets: &[u8], ok: bool, at: usize) -> PortRead
-    ensures { (Reads plain_format octets.now ok at result.ok (plain_of result.port) result.at) × (result.port ≡ plain_made (plain_of result.port)) }
+#[tactic(auto, unfolding(file_format::specs::Format::read_at, crate::specs::PortFormat::plain_format))]
+fn read_plain(octets: &[u8], at: usize) -> Result<(Port, usize), usize>
+    ensures read { ReadsAs plain_format plain_of octets.now at result }
+    ensures made { IfOk result (λ p. p.0 ≡ plain_made (plain_of p.0)) }
 {
-    let domain = read_four(octets, ok, at, 1, 4294967295);
-    let lowest = read_label(octets, domain.ok, domain.at, domain.value);
-    let highest = read_label(octets, lowest.ok, lowest.at, domain.value);
-    let low = lowest.label;
-    let high = highest.label;
-    let ordered = judge(highest.ok, highest.at, lowest.at, low.within(high));
-    let flag = read_octet(octets, ordered.ok, ordered.at, 0, 1);
-    let required = flag.value == 1;
-    let assigned = read_given(octets, flag.ok, flag.at, required, low, high, domain.value);
-    let given = assigned.label;
-    PortRead {
-        ok: assigned.ok,
-        at: assigned.at,
-        port: Port::plain(domain.value, low, high, required, given),
+    let (domain, lowest_at) = read_four(octets, at, 1, 4294967295)?;
+    let (lowest, highest_at) = read_label(octets, lowest_at, domain)?;
+    let (highest, at) = read_label(octets, highest_at, domain)?;
+    if !lowest.within(highest) {
+        return Err(highest_at);
     }
-}
-
-// What reading the settings of option 130 for one way finds.
-#[derive(Clone, Copy)]
-struct WayRead {
-    ok: bool,
-    at: usize,
-    way: Way,
+    let (flag, at) = read_octet(octets, at, 0, 1)?;
+    let required = flag == 1;
+    let (assigned, at) = read_given(octets, at, required, lowest, highest, domain)?;
+    let port = Port::plain(domain, lowest, highest, required, assigned);
+    Ok((port, at))
 }
 
 // Whether a level suits, with the lowest before it: 0 where option 130 is switched off.
@@ -295,9 +223,16 @@ fn most_flags(on: bool) -> u32
 }
 
 // Flag fields; they are put in their places as they are read.
-fn read_flags(octets: &[u8], ok: bool, at: usize, count: usize, lowest: u8, highest: u8) -> WayRead
+fn read_flags(
+    octets: &[u8],
+    at: usize,
+    count: usize,
+    lowest: u8,
+    highest: u8,
+) -> Result<(Way, usize), usize>
     requires { count ≤ 256 }
-    ensures { (Reads (many (alike (number two 0 65535)) same count 0) octets.now ok at result.ok (take result.way.count result.way.flags) result.at) × (way_of lowest highest (take result.way.count result.way.flags) ≡ result.way) }
+    ensures read { ReadsAs (many (alike (number two 0 65535)) same count 0) (λ w. take w.count w.flags) octets.now at result }
+    ensures way { IfOk result (λ p. way_of lowest highest (take p.0.count p.0.flags) ≡ p.0) }
 {
     let mut way = Way {
         lowest: lowest,
@@ -306,46 +241,32 @@ fn read_flags(octets: &[u8], ok: bool, at: usize, count: usize, lowest: u8, high
         flags: [0u16; 256],
     };
     let mut place = at;
-    let mut i: usize = 0;
-    if !ok {
-        return WayRead {
-            ok: false,
-            at: at,
-            way: way,
-        };
+    for i in 0..count {
+        let (flag, next) = read_two(octets, place, 0, 65535)?;
+        way.flags[i] = flag as u16;
+        way.count = i + 1;
+        place = next;
     }
-    while i < count {
-        let next = read_two(octets, true, place, 0, 65535);
-        if !next.ok {
-            return WayRead {
-                ok: false,
-                at: next.at,
-                way: way,
-            };
-        }
-        way.flags[i] = next.value as u16;
-        place = next.at;
-        i += 1;
-        way.count = i;
-    }
-    WayRead {
-        ok: true,
-        at: place,
-        way: way,
-    }
+    Ok((way, place))
 }
 
-fn read_way(octets: &[u8], ok: bool, at: usize, on: bool) -> WayRead
-    ensures { Reads (way_format on) octets.now ok at result.ok result.way result.at }
+// The settings of option 130 for one way.
+#[tactic(auto, using(crate::proofs::LabelLaws::level_alone), unfolding(file_format::specs::Format::read_at, crate::specs::PortFormat::way_format))]
+fn read_way(octets: &[u8], at: usize, on: bool) -> Result<(Way, usize), usize>
+    ensures { Reads (way_format on) octets.now at result }
 {
-    let first = read_octet(octets, ok, at, 0, 255);
-    let low = first.value as u8;
-    let lowest = judge(first.ok, first.at, at, level_fits(on, low, low));
-    let second = read_octet(octets, lowest.ok, lowest.at, 0, 255);
-    let high = second.value as u8;
-    let highest = judge(second.ok, second.at, lowest.at, level_fits(on, low, high));
-    let count = read_two(octets, highest.ok, highest.at, 0, most_flags(on));
-    read_flags(octets, count.ok, count.at, count.value as usize, low, high)
+    let (low, high_at) = read_octet(octets, at, 0, 255)?;
+    let lowest = low as u8;
+    if !level_fits(on, lowest, lowest) {
+        return Err(at);
+    }
+    let (high, at) = read_octet(octets, high_at, 0, 255)?;
+    let highest = high as u8;
+    if !level_fits(on, lowest, highest) {
+        return Err(high_at);
+    }
+    let (count, at) = read_two(octets, at, 0, most_flags(on))?;
+    read_flags(octets, at, count as usize, lowest, highest)
 }
 
 // The spellings of a sum: 1, 2, 4 and 8.
@@ -360,118 +281,69 @@ fn spellings_of(sum: u32) -> Spellings
     }
 }
 
-#[derive(Clone, Copy)]
-struct SpellingsRead {
-    ok: bool,
-    at: usize,
-    spellings: Spellings,
-}
-
-fn read_spellings(octets: &[u8], ok: bool, at: usize) -> SpellingsRead
-    ensures { Reads spellings_format octets.now ok at result.ok result.spellings result.at }
+#[tactic(auto, unfolding(file_format::specs::Format::read_at, crate::specs::PortFormat::spellings_format))]
+fn read_spellings(octets: &[u8], at: usize) -> Result<(Spellings, usize), usize>
+    ensures { Reads spellings_format octets.now at result }
 {
-    let sum = read_octet(octets, ok, at, 0, 15);
-    let spellings = spellings_of(sum.value);
-    let some = judge(sum.ok, sum.at, at, spellings.some());
-    SpellingsRead {
-        ok: some.ok,
-        at: some.at,
-        spellings: spellings,
+    let (sum, next) = read_octet(octets, at, 0, 15)?;
+    let spellings = spellings_of(sum);
+    if !spellings.some() {
+        return Err(at);
     }
+    Ok((spellings, next))
 }
 
 // The fields that version 2 adds, put into a port whose others have been read.
-fn read_later(octets: &[u8], ok: bool, at: usize, plain: Port) -> PortRead
-    ensures { (Reads (later_format plain.domain plain.lowest plain.highest) octets.now ok at result.ok (later_of result.port) result.at) × (plain_of result.port ≡ plain_of plain) × (result.port.strict ≡ false) }
+#[tactic(auto, unfolding(file_format::specs::Format::read_at, crate::specs::PortFormat::later_format))]
+fn read_later(octets: &[u8], at: usize, plain: Port) -> Result<(Port, usize), usize>
+    ensures read { ReadsAs (later_format plain.domain plain.lowest plain.highest) later_of octets.now at result }
+    ensures plain { IfOk result (λ p. plain_of p.0 ≡ plain_of plain) }
+    ensures strict { IfOk result (λ p. p.0.strict ≡ false) }
 {
-    let flag = read_octet(octets, ok, at, 0, 1);
-    let on = flag.value == 1;
-    let receiving = read_way(octets, flag.ok, flag.at, on);
-    let sending = read_way(octets, receiving.ok, receiving.at, on);
-    let spellings = read_spellings(octets, sending.ok, sending.at);
-    let faces = read_octet(octets, spellings.ok, spellings.at, 0, 1);
-    let unlabelled = faces.value == 1;
-    let low = plain.lowest;
-    let high = plain.highest;
-    let default = read_given(
+    let (flag, at) = read_octet(octets, at, 0, 1)?;
+    let on = flag == 1;
+    let (receiving, at) = read_way(octets, at, on)?;
+    let (sending, at) = read_way(octets, at, on)?;
+    let (spellings, at) = read_spellings(octets, at)?;
+    let (face, at) = read_octet(octets, at, 0, 1)?;
+    let unlabelled = face == 1;
+    let (default, at) = read_given(
         octets,
-        faces.ok,
-        faces.at,
+        at,
         !unlabelled,
-        low,
-        high,
+        plain.lowest,
+        plain.highest,
         plain.domain,
-    );
-    let given = plain.assigned;
-    let label = default.label;
-    let arriving = receiving.way;
-    let leaving = sending.way;
-    let permitted = spellings.spellings;
-    let basic = Basic {
+    )?;
+    let mut port = plain;
+    port.basic = Basic {
         on: on,
-        receiving: arriving,
-        sending: leaving,
+        receiving: receiving,
+        sending: sending,
     };
-    PortRead {
-        ok: default.ok,
-        at: default.at,
-        port: Port {
-            domain: plain.domain,
-            lowest: low,
-            highest: high,
-            required: plain.required,
-            assigned: given,
-            basic: basic,
-            spellings: permitted,
-            unlabelled: unlabelled,
-            default: label,
-            strict: false,
-        },
-    }
+    port.spellings = spellings;
+    port.unlabelled = unlabelled;
+    port.default = default;
+    port.strict = false;
+    Ok((port, at))
 }
 
-// The field that version 3 adds, put into a port whose others have been read.
-fn read_strict(octets: &[u8], ok: bool, at: usize, later: Port) -> PortRead
-    ensures { (Reads flag octets.now ok at result.ok result.port.strict result.at) × (plain_of result.port ≡ plain_of later) × (later_of result.port ≡ later_of later) }
+// Reads a port of a file of this version, and tells the place after it or the place to blame.
+#[tactic(auto, unfolding(file_format::specs::Format::read_at, crate::specs::PortFormat::port_format, crate::specs::PortFormat::first_port, crate::specs::PortFormat::second_port, crate::specs::PortFormat::third_port))]
+pub fn read_port(octets: &[u8], at: usize, version: u8) -> Result<(Port, usize), usize>
+    ensures { Reads (port_format version) octets.now at result }
 {
-    let flag = read_octet(octets, ok, at, 0, 1);
-    let mut port = later;
-    port.strict = flag.value == 1;
-    PortRead {
-        ok: flag.ok,
-        at: flag.at,
-        port: port,
-    }
-}
-
-// A port that was refused is all zero.
-fn zero_unless_read(read: PortRead) -> PortRead
-    ensures { (result.ok ≡ read.ok) × (result.at ≡ read.at) × (result.port ≡ cond read.ok read.port no_port) }
-{
-    if read.ok {
-        return read;
-    }
-    PortRead {
-        ok: false,
-        at: read.at,
-        port: empty_port(),
-    }
-}
-
-// Reads a port of a file of this version. A refused one is all zero.
-pub fn read_port(octets: &[u8], ok: bool, at: usize, version: u8) -> PortRead
-    ensures { (Reads (port_format version) octets.now ok at result.ok result.port result.at) × (result.port ≡ cond result.ok result.port no_port) }
-{
-    let plain = read_plain(octets, ok, at);
+    let (plain, at) = read_plain(octets, at)?;
     if version < 2 {
-        return zero_unless_read(plain);
+        return Ok((plain, at));
     }
-    let later = read_later(octets, plain.ok, plain.at, plain.port);
+    let (mut port, at) = read_later(octets, at, plain)?;
     if version < 3 {
-        return zero_unless_read(later);
+        return Ok((port, at));
     }
-    let strict = read_strict(octets, later.ok, later.at, later.port);
-    zero_unless_read(strict)
+    let (flag, at) = read_octet(octets, at, 0, 1)?;
+    port.strict = flag == 1;
+    Ok((port, at))
 }
 
 fn flag_of(b: bool) -> u32
@@ -500,11 +372,11 @@ fn write_plain(port: Port, out: &mut [u8], at: usize) -> usize
     let low = port.lowest;
     let high = port.highest;
     let given = port.assigned;
-    let lowest = write_four(&mut out[..], at, port.domain);
-    let highest = write_label(low, &mut out[..], lowest);
-    let required = write_label(high, &mut out[..], highest);
-    let assigned = write_octet(&mut out[..], required, flag_of(port.required));
-    write_label(given, &mut out[..], assigned)
+    let lowest = write_four(out, at, port.domain);
+    let highest = write_label(low, out, lowest);
+    let required = write_label(high, out, highest);
+    let assigned = write_octet(out, required, flag_of(port.required));
+    write_label(given, out, assigned)
 }
 
 // The first n flag fields.
@@ -513,29 +385,20 @@ fn write_flags(way: Way, n: usize, out: &mut [u8], at: usize) -> usize
     ensures { Wrote at (flat (digits 2) (take n way.flags)) out.old out.new result }
 {
     let mut place = at;
-    let mut i: usize = 0;
-    while i < n {
-        place = write_two(&mut out[..], place, wide(way.flags[i]));
-        i += 1;
+    for flag in &way.flags[..n] {
+        place = write_two(out, place, u32::from(*flag));
     }
     place
-}
-
-// A flag field as a number to write.
-fn wide(x: u16) -> u32
-    ensures { result ≡ x }
-{
-    x as u32
 }
 
 fn write_way(way: Way, out: &mut [u8], at: usize) -> usize
     ensures { Wrote at (octets (way_format true) way) out.old out.new result }
 {
     let n = count_used(way.count, 256);
-    let highest = write_octet(&mut out[..], at, way.lowest as u32);
-    let count = write_octet(&mut out[..], highest, way.highest as u32);
-    let flags = write_two(&mut out[..], count, n as u32);
-    write_flags(way, n, &mut out[..], flags)
+    let highest = write_octet(out, at, way.lowest as u32);
+    let count = write_octet(out, highest, way.highest as u32);
+    let flags = write_two(out, count, n as u32);
+    write_flags(way, n, out, flags)
 }
 
 // The fields that version 2 adds.
@@ -544,12 +407,12 @@ fn write_later(port: Port, out: &mut [u8], at: usize) -> usize
 {
     let basic = port.basic;
     let given = port.default;
-    let receiving = write_octet(&mut out[..], at, flag_of(basic.on));
-    let sending = write_way(basic.receiving, &mut out[..], receiving);
-    let spellings = write_way(basic.sending, &mut out[..], sending);
-    let unlabelled = write_octet(&mut out[..], spellings, sum_of(port.spellings));
-    let default = write_octet(&mut out[..], unlabelled, flag_of(port.unlabelled));
-    write_label(given, &mut out[..], default)
+    let receiving = write_octet(out, at, flag_of(basic.on));
+    let sending = write_way(basic.receiving, out, receiving);
+    let spellings = write_way(basic.sending, out, sending);
+    let unlabelled = write_octet(out, spellings, sum_of(port.spellings));
+    let default = write_octet(out, unlabelled, flag_of(port.unlabelled));
+    write_label(given, out, default)
 }
 
 // Writes a port of version 3 where there is room for all of it, and tells the place after it; else nothing, and the place that was given.
@@ -559,9 +422,9 @@ pub fn write_port(port: Port, out: &mut [u8], at: usize) -> usize
     if !has_room(out.len(), at, port_size(port)) {
         return at;
     }
-    let later = write_plain(port, &mut out[..], at);
-    let strict = write_later(port, &mut out[..], later);
-    write_octet(&mut out[..], strict, flag_of(port.strict))
+    let later = write_plain(port, out, at);
+    let strict = write_later(port, out, later);
+    write_octet(out, strict, flag_of(port.strict))
 }
 
 // How many octets the settings of option 130 have for one way.

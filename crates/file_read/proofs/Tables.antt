@@ -1,10 +1,8 @@
 -- Tables that are read one by one, their rows into a working list.
-use mathlib.Core.Bool.{Bool, true, false, cond, not}
 use mathlib.Core.List.{List, [], ◌∷◌, ◌++◌, map, append_assoc}
 use mathlib.Core.Path.{◌≡◌, refl, sym, ap, subst, ◌∙◌}
 use Prim.Native.Nat.{ℕ, ◌+◌, ◌*◌, ◌≤◌, ◌<◌}
 use native.Mathlib.Omega.{arith}
-use lib.Dec.{leb}
 use lib.ListN.{length, take, drop, set, replicate, length-append}
 use lib.Seq.{take_at, length-take-le}
 use borrow.Author.Tests.{le-leb}
@@ -13,14 +11,15 @@ use Rattle.table.specs.declared.Renumbering.{Renumbering}
 use Rattle.table.specs.Table.{row_numbers}
 use Rattle.table.specs.Renumbering.{no_renumbering}
 use Rattle.table.proofs.Lent.{numbers_length}
-use Rattle.file_format.specs.Format.{Found, got, bad, read_at, written, number, one, many, alike, same, Reads}
+use Rattle.file_format.specs.Format.{Found, got, bad, read_at, written, number, one, many, alike, same}
 use Rattle.file_format.proofs.Loops.{Passed, begins, turns, refuses, ends}
 use Rattle.file_format.proofs.Places.{Held, held_none, held_more}
-use Rattle.file_format.proofs.Told.{passed_same, many_refuses, many_reads, counted_told}
 use Rattle.file_format.proofs.Writing.{flat_snoc}
 use Rattle.file_table.specs.TableFormat.{TableFields, table_format, head_of}
+use Rattle.std.specs.Prelude.{Result, Ok, Err}
+use Rattle.file_read.specs.declared.TablesRead.{TablesRead}
 use Rattle.file_read.specs.SetFormat.{tables_format, rows_of}
-use Rattle.file_read.specs.Stages.{TablesTold}
+use Rattle.file_read.specs.Stages.{TablesTold, ReadsTables}
 
 abbrev pub elements : ℕ → List ℕ → ℕ → ℕ → Found TableFields
 elements version s st at = read_at (alike (table_format version) st) s at
@@ -70,47 +69,27 @@ module _ {version : ℕ} {s : List ℕ} {count at₀ i at used : ℕ} {tables : 
         rows = ap (λ (z : ℕ). take z work') u ∙ ap (take (used + length (row_numbers t.rows))) w ∙ written_behind used (rows_of k.done) (row_numbers t.rows) work k.rows k.numbers b ∙ sym o;
       }
 
-  told : {ok : Bool} (ok' : Bool) (at' n : ℕ) → n ≡ i → i ≤ 8 → Reads (many (alike (table_format version)) same count 0) s ok at₀ ok' k.done at'
-      → TablesTold (many (alike (table_format version)) same count 0) s ok at₀ ok' at' n used tables work
-  told ok' at' n e h r =
+  pub kept_refuses : (m : ℕ) → i < count → read_at (table_format version) s at ≡ bad m → read_at (many (alike (table_format version)) same count 0) s at₀ ≡ bad m
+  unfolding read_at
+  kept_refuses m c q = refuses (elements version s) same k.passed m c q
+
+  pub kept_ends : count ≤ i → i ≤ 8 → TablesTold (many (alike (table_format version)) same count 0) s at₀ (record { count = i; used = used }) at tables work
+  unfolding read_at
+  kept_ends c b =
       record {
         said = k.done;
-        reads = r;
+        reads = ends (elements version s) same k.passed c;
         heads = k.held.places;
-        counted = e ∙ sym k.passed.size;
+        counted = sym k.passed.size;
         held = omega (arith, k.passed.size);
         numbers = k.numbers;
         rows = k.rows;
         few = omega (arith, k.bound);
       }
 
-  pub kept_refuses : {ok : Bool} (m n : ℕ) → not ok ≡ false → i < count → count ≤ 8 → n ≡ i → read_at (table_format version) s at ≡ bad m
-      → TablesTold (many (alike (table_format version)) same count 0) s ok at₀ false m n used tables work
-  kept_refuses m n h c b e q = told false m n e (omega arith) (many_refuses h (refuses (elements version s) same k.passed m c q))
-
-  pub kept_ends : {ok : Bool} (n : ℕ) → not ok ≡ false → count ≤ i → i ≤ 8 → n ≡ i → TablesTold (many (alike (table_format version)) same count 0) s ok at₀ true at n used tables work
-  kept_ends n h c b e = told true at n e b (many_reads h (ends (elements version s) same k.passed c))
-
-pub kept_none : {s : List ℕ} {ok : Bool} {at : ℕ} (version count : ℕ) (work : List ℕ) → not ok ≡ true
-    → TablesTold (many (alike (table_format version)) same count 0) s ok at ok at 0 0 (replicate 8 no_renumbering) work
-kept_none version count work h =
-    record { said = []; reads = passed_same h; heads = (held_none 8 no_renumbering).places; counted = refl; held = omega arith; numbers = refl; rows = refl; few = omega arith }
-
--- what is written behind the rows that are there leaves them
-take_written : (used : ℕ) (xs work : List ℕ) → used ≤ length work → take used (written used xs work) ≡ take used work
-take_written used xs work h = go (leb (used + length xs) (length work))
-  where
-    go : (b : Bool) → take used (cond b (paint used xs work) work) ≡ take used work
-    go true = take_at (take used work) (xs ++ drop (used + length xs) work) used (length-take-le used work h)
-    go false = refl
-
-pub kept_work : {version : ℕ} {s : List ℕ} {count at₀ i at used : ℕ} {tables : List Renumbering} {work work' : List ℕ} (xs : List ℕ) → Kept version s count at₀ i at used tables work → used ≤ length work
-    → work' ≡ written used xs work → Kept version s count at₀ i at used tables work'
-kept_work {version} {s} {count} {at₀} {i} {at} {used} {tables} {work} {work'} xs k h e =
-    record { done = k.done; passed = k.passed; held = k.held; numbers = k.numbers; bound = k.bound; rows = ap (take used) e ∙ take_written used xs work h ∙ k.rows }
-
-pub tables_counted : {s : List ℕ} {ok ok₁ ok₂ : Bool} {at at₁ at₂ n count used : ℕ} {tables : List Renumbering} {work : List ℕ} (version : ℕ) → Reads (number one 0 8) s ok at ok₁ n at₁
-    → TablesTold (many (alike (table_format version)) same n 0) s ok₁ at₁ ok₂ at₂ count used tables work → TablesTold (tables_format version) s ok at ok₂ at₂ count used tables work
-unfolding tables_format
-tables_counted version r t =
-    record { said = t.said; reads = counted_told r t.reads; heads = t.heads; counted = t.counted; held = t.held; numbers = t.numbers; rows = t.rows; few = t.few }
+module _ (version n : ℕ) (s : List ℕ) (at at₁ : ℕ) (tables : List Renumbering) (work : List ℕ) (e : read_at (number one 0 8) s at ≡ got n at₁) where
+  pub tables_counted : (r : Result (TablesRead × ℕ) ℕ) → ReadsTables (many (alike (table_format version)) same n 0) s at₁ tables work r → ReadsTables (tables_format version) s at tables work r
+  unfolding tables_format read_at
+  tables_counted (Ok p) t =
+      record { said = t.said; reads = rw (e, t.reads) refl; heads = t.heads; counted = t.counted; held = t.held; numbers = t.numbers; rows = t.rows; few = t.few }
+  tables_counted (Err m) t = rw (e, t) refl

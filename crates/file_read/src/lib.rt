@@ -1,22 +1,23 @@
 // The house file: a set of ports and tables in octets, read (docs/FILE.md).
 #![tactic(auto)]
 
-ghost use Rattle.std.specs.Prelude.{◌≡◌, cond, ◌≤◌, leb, length, take};
-ghost use Rattle.file_format.specs.Format.{bad, Reads, many, alike, same, written};
+ghost use Rattle.std.specs.Prelude.{◌≡◌, cond, ◌≤◌, leb, length, take, replicate, MatchResult, IfOk};
+ghost use Rattle.file_format.specs.Format.{bad, read_at, ReadsAs, many, alike, same, written};
 ghost use Rattle.file_format.specs.Places.{Filled};
 ghost use Rattle.file_port.specs.PortFormat.{port_format, no_port};
 ghost use Rattle.file_table.specs.TableFormat.{table_format};
+ghost use Rattle.table.specs.Renumbering.{no_renumbering};
+ghost use Rattle.file_set.specs.Set.{empty_set};
 ghost use Rattle.file_read.specs.SetFormat.{ports_format, tables_format};
-ghost use Rattle.file_read.specs.File.{most_octets, file_refused, outgrown, file_answer, file_reading, file_room};
-ghost use Rattle.file_read.specs.Stages.{TablesTold};
+ghost use Rattle.file_read.specs.File.{file_format, most_octets, file_refused, outgrown, file_answer, file_reading, file_room};
+ghost use Rattle.file_read.specs.Stages.{ReadsTables, RecordsTold};
 
-use file_format::{judge, read_octet, read_two, write_numbers};
-use file_port::{empty_port, read_port};
-use file_set::{MAX_PORTS, Set, empty_set};
+use file_format::{read_octet, read_two, write_numbers};
+use file_port::read_port;
+use file_set::{Set, empty_set};
 use file_table::read_table;
 use port::Port;
-use table::{Renumbering, empty_table};
-use table_choose::MAX_TABLES;
+use table::Renumbering;
 
 // What a reading comes to. None of these is a number of document 01.
 pub const ACCEPTED: u8 = 0;
@@ -30,23 +31,11 @@ pub const OUTGROWN: u8 = 103;
 // The numbers of the rows of the most tables.
 const MAX_NUMBERS: usize = 24576;
 
-// What reading the ports finds: the first `count` are used.
-#[derive(Clone, Copy)]
-struct PortsRead {
-    ok: bool,
-    at: usize,
-    count: usize,
-    ports: [Port; MAX_PORTS],
-}
-
-// What reading the tables finds: the first `count` are used, and `used` numbers of a working list.
+// How many tables were read, and how many numbers their rows have.
 #[derive(Clone, Copy)]
 struct TablesRead {
-    ok: bool,
-    at: usize,
     count: usize,
     used: usize,
-    tables: [Renumbering; MAX_TABLES],
 }
 
 // What reading a file finds. The verdict is accepted, with the set, and `used` numbers of rows at the head of the lent room; refused, with the place of the first octet of the first
@@ -59,98 +48,108 @@ pub struct FileRead {
     pub set: Set,
 }
 
-fn read_each_port(octets: &[u8], ok: bool, at: usize, count: usize, version: u8) -> PortsRead
-    requires { count ≤ 16 }
-    ensures { (Reads (many (alike (port_format version)) same count 0) octets.now ok at result.ok (take result.count result.ports) result.at) × Filled 16 no_port result.count result.ports }
-{
-    let none = empty_port();
-    let mut read = PortsRead {
-        ok: ok,
-        at: at,
-        count: 0,
-        ports: [none; 16],
-    };
-    if !ok {
-        return read;
-    }
-    let mut i: usize = 0;
-    while i < count {
-        let next = read_port(octets, true, read.at, version);
-        if !next.ok {
-            read.ok = false;
-            read.at = next.at;
-            return read;
-        }
-        let port = next.port;
-        read.ports[i] = port;
-        read.at = next.at;
-        i += 1;
-        read.count = i;
-    }
-    read
-}
-
-fn read_ports(octets: &[u8], ok: bool, at: usize, version: u8) -> PortsRead
-    ensures { (Reads (ports_format version) octets.now ok at result.ok (take result.count result.ports) result.at) × Filled 16 no_port result.count result.ports }
-{
-    let count = read_octet(octets, ok, at, 0, 16);
-    read_each_port(octets, count.ok, count.at, count.value as usize, version)
-}
-
-fn read_each_table(
+// Reads so many ports into the lent places, which are empty. Answers how many, and the place after them or the place to blame.
+fn read_each_port(
     octets: &[u8],
-    ok: bool,
     at: usize,
     count: usize,
     version: u8,
-    work: &mut [u16],
-) -> TablesRead
-    requires { (count ≤ 8) × (24576 ≤ length work.old) }
-    ensures { TablesTold (many (alike (table_format version)) same count 0) octets.now ok at result.ok result.at result.count result.used result.tables work.new }
+    ports: &mut [Port],
+) -> Result<(usize, usize), usize>
+    requires { (count ≤ 16) × (ports.old ≡ replicate 16 no_port) }
+    ensures read { ReadsAs (many (alike (port_format version)) same count 0) (λ n. take n ports.new) octets.now at result }
+    ensures filled { IfOk result (λ p. Filled 16 no_port p.0 ports.new) }
 {
-    let none = empty_table();
-    let mut read = TablesRead {
-        ok: ok,
-        at: at,
-        count: 0,
-        used: 0,
-        tables: [none; 8],
-    };
-    if !ok {
-        return read;
+    let mut place = at;
+    for i in 0..count {
+        let (port, next) = read_port(octets, place, version)?;
+        ports[i] = port;
+        place = next;
     }
-    let mut i: usize = 0;
-    while i < count {
-        let next = read_table(octets, true, read.at, version, work, read.used);
-        if !next.ok {
-            read.ok = false;
-            read.at = next.at;
-            return read;
-        }
-        let renumbering = next.renumbering;
-        let table = renumbering.table;
-        read.tables[i] = renumbering;
-        read.used = read.used + table.count * 3;
-        read.at = next.at;
-        i += 1;
-        read.count = i;
-    }
-    read
+    Ok((count, place))
 }
 
-fn read_tables(octets: &[u8], ok: bool, at: usize, version: u8, work: &mut [u16]) -> TablesRead
-    requires { 24576 ≤ length work.old }
-    ensures { TablesTold (tables_format version) octets.now ok at result.ok result.at result.count result.used result.tables work.new }
+// The ports of a file.
+#[tactic(auto, unfolding(file_format::specs::Format::read_at, crate::specs::SetFormat::ports_format))]
+fn read_ports(
+    octets: &[u8],
+    at: usize,
+    version: u8,
+    ports: &mut [Port],
+) -> Result<(usize, usize), usize>
+    requires { ports.old ≡ replicate 16 no_port }
+    ensures read { ReadsAs (ports_format version) (λ n. take n ports.new) octets.now at result }
+    ensures filled { IfOk result (λ p. Filled 16 no_port p.0 ports.new) }
 {
-    let count = read_octet(octets, ok, at, 0, 8);
-    read_each_table(
-        octets,
-        count.ok,
-        count.at,
-        count.value as usize,
-        version,
-        work,
-    )
+    let (count, at) = read_octet(octets, at, 0, 16)?;
+    read_each_port(octets, at, count as usize, version, ports)
+}
+
+// Reads so many tables into the lent places, which are empty, and their rows into the head of a working list.
+fn read_each_table(
+    octets: &[u8],
+    at: usize,
+    count: usize,
+    version: u8,
+    tables: &mut [Renumbering],
+    work: &mut [u16; MAX_NUMBERS],
+) -> Result<(TablesRead, usize), usize>
+    requires { (count ≤ 8) × (tables.old ≡ replicate 8 no_renumbering) }
+    ensures { ReadsTables (many (alike (table_format version)) same count 0) octets.now at tables.new work.new result }
+{
+    let mut used: usize = 0;
+    let mut place = at;
+    for i in 0..count {
+        let (renumbering, next) = read_table(octets, place, version, work, used)?;
+        tables[i] = renumbering;
+        used += renumbering.table.count * 3;
+        place = next;
+    }
+    let read = TablesRead {
+        count: count,
+        used: used,
+    };
+    Ok((read, place))
+}
+
+// The tables of a file, and their rows.
+#[tactic(auto, unfolding(file_format::specs::Format::read_at, crate::specs::SetFormat::tables_format))]
+fn read_tables(
+    octets: &[u8],
+    at: usize,
+    version: u8,
+    tables: &mut [Renumbering],
+    work: &mut [u16; MAX_NUMBERS],
+) -> Result<(TablesRead, usize), usize>
+    requires { tables.old ≡ replicate 8 no_renumbering }
+    ensures { ReadsTables (tables_format version) octets.now at tables.new work.new result }
+{
+    let (count, at) = read_octet(octets, at, 0, 8)?;
+    read_each_table(octets, at, count as usize, version, tables, work)
+}
+
+// The fields of a file, its records into a set that is empty. Answers how many numbers the rows have, and the place after the tables or the place to blame.
+#[tactic(auto, unfolding(file_format::specs::Format::read_at, crate::specs::File::file_format, crate::specs::SetFormat::set_format))]
+fn read_records(
+    octets: &[u8],
+    set: &mut Set,
+    work: &mut [u16; MAX_NUMBERS],
+) -> Result<(usize, usize), usize>
+    requires { (length octets.now ≤ 65535) × (set.old ≡ empty_set) }
+    ensures { MatchResult result (λ p. RecordsTold octets.now set.new p.0 p.1 work.new) (λ n. read_at (file_format (length octets.now)) octets.now 0 ≡ bad n) }
+{
+    let total = octets.len() as u32;
+    let (_, at) = read_two(octets, 0, total, total)?;
+    let (number, at) = read_octet(octets, at, 1, 3)?;
+    let version = number as u8;
+    if most_octets(version) < total {
+        return Err(0);
+    }
+    let (ports, at) = read_ports(octets, at, version, &mut set.ports)?;
+    let (tables, at) = read_tables(octets, at, version, &mut set.tables, work)?;
+    set.portcount = ports;
+    set.tablecount = tables.count;
+    Ok((tables.used, at))
 }
 
 // The most octets of a file of this version.
@@ -167,12 +166,11 @@ fn most_octets(version: u8) -> u32
 fn refuse(at: usize) -> FileRead
     ensures { result ≡ file_refused at }
 {
-    let none = empty_set();
     FileRead {
         verdict: REFUSED,
         at: at,
         used: 0,
-        set: none,
+        set: empty_set(),
     }
 }
 
@@ -184,12 +182,11 @@ fn refuse_field(at: usize, total: usize, room: usize) -> FileRead
     if !named {
         return refuse(at);
     }
-    let none = empty_set();
     FileRead {
         verdict: UNKNOWN,
         at: 2,
         used: 0,
-        set: none,
+        set: empty_set(),
     }
 }
 
@@ -197,21 +194,11 @@ fn refuse_field(at: usize, total: usize, room: usize) -> FileRead
 fn outgrow() -> FileRead
     ensures { result ≡ outgrown }
 {
-    let none = empty_set();
     FileRead {
         verdict: OUTGROWN,
         at: 0,
         used: 0,
-        set: none,
-    }
-}
-
-// The rows of a file that keeps every rule go into the room, if there is room for all of them.
-fn keep_rows(whole: bool, numbers: &[u16], rows: &mut [u16])
-    ensures { rows.new ≡ cond whole (written 0 numbers.now rows.old) rows.old }
-{
-    if whole {
-        write_numbers(numbers, rows, 0);
+        set: empty_set(),
     }
 }
 
@@ -223,35 +210,24 @@ pub fn read_file(octets: &[u8], rows: &mut [u16]) -> FileRead
     if 65535 < n {
         return refuse(0);
     }
-    let total = n as u32;
+    let mut set = empty_set();
     let mut work = [0u16; MAX_NUMBERS];
-    let length = read_two(octets, true, 0, total, total);
-    let version = read_octet(octets, length.ok, length.at, 1, 3);
-    let kind = version.value as u8;
-    let head = judge(version.ok, version.at, 0, total <= most_octets(kind));
-    let ports = read_ports(octets, head.ok, head.at, kind);
-    let tables = read_tables(octets, ports.ok, ports.at, kind, &mut work);
-    keep_rows(tables.ok & (tables.at == n), &work[..tables.used], rows);
-    if !tables.ok {
-        return refuse_field(tables.at, n, rows.len());
-    }
-    if tables.at != n {
-        return refuse(tables.at);
-    }
-    if rows.len() < tables.used {
-        return outgrow();
-    }
-    let held = ports.ports;
-    let kept = tables.tables;
-    FileRead {
-        verdict: ACCEPTED,
-        at: 0,
-        used: tables.used,
-        set: Set {
-            portcount: ports.count,
-            ports: held,
-            tablecount: tables.count,
-            tables: kept,
-        },
+    match read_records(octets, &mut set, &mut work) {
+        Ok((used, at)) => {
+            if at != n {
+                return refuse(at);
+            }
+            if rows.len() < used {
+                return outgrow();
+            }
+            write_numbers(&work[..used], rows, 0);
+            FileRead {
+                verdict: ACCEPTED,
+                at: 0,
+                used: used,
+                set: set,
+            }
+        }
+        Err(at) => refuse_field(at, n, rows.len()),
     }
 }

@@ -1,13 +1,12 @@
 -- What the types say, and what that leaves of each test.
-use mathlib.Core.Bool.{Bool, true, false, ◌&&◌, and-true}
-use mathlib.Core.List.{List, []}
-use mathlib.Core.Path.{◌≡◌, sym}
-use Prim.Native.Nat.{ℕ, ◌+◌, ◌<◌}
-use lib.Dec.{leb}
-use lib.ListN.{length, get_or, drop}
-use borrow.Author.Tests.{eq-eqb}
+use mathlib.Core.Bool.{Bool, true, false, and-true}
+use mathlib.Core.List.{List, [], ◌∷◌}
+use mathlib.Core.Path.{◌≡◌, refl, sym}
+use Prim.Native.Nat.{ℕ, suc, ◌≤◌, ◌<◌}
+use native.Mathlib.Omega.{arith}
+use lib.ListN.{length, get_or}
+use borrow.Author.Tests.{eq-eqb, le-leb}
 use Rattle.label.specs.declared.Label.{Label}
-use Rattle.label.proofs.Steps.{next}
 use Rattle.basic.specs.declared.Way.{Way}
 use Rattle.port.specs.declared.Port.{Port}
 use Rattle.table_levels.specs.Levels.{unused_pairs, levels_sound, pairs_sound}
@@ -26,9 +25,12 @@ pub unused_table_lem : (r : Renumbering) → typed_pairs r ≡ true → zero_tab
 unfolding unused_table
 unused_table_lem r b = rw b (sym (and-true (zero_table r.table (levels_of r))))
 
--- the flag fields of a way, one by one
-pub small_next : (fs : List ℕ) (i : ℕ) (t : Bool) → i < length fs → t ≡ leb (get_or fs i 0) 65535 → small (drop i fs) ≡ (t && small (drop (i + 1) fs))
-small_next fs i t h e = rw (next 0 fs i h, e)
+-- flag fields that keep to 16 bits
+pub small_all : (fs : List ℕ) → ((k : ℕ) → get_or fs k 0 < 65536) → true ≡ small fs
+small_all [] h = refl
+small_all (f ∷ fs) h =
+    let b : f ≤ 65535 = omega (arith, h 0) in
+    rw (le-leb f 65535 b) (small_all fs (λ k. h (suc k)))
 
 pub way_all : (w : Way) (t : Bool) → length w.flags ≡ 256 → t ≡ small w.flags → t ≡ typed_way w
 unfolding typed_way

@@ -2,7 +2,7 @@
 #![tactic(auto)]
 
 ghost use Rattle.std.specs.Prelude.{◌≡◌, true, cond, ◌≤◌, leb, eqb, length, take};
-ghost use Rattle.file_port.specs.Theorems.{typed_way, typed_port};
+ghost use Rattle.file_port.specs.Theorems.{small, typed_way, typed_port};
 ghost use Rattle.file_format.specs.Places.{places_fit};
 ghost use Rattle.table.specs.Renumbering.{typed_pairs};
 ghost use Rattle.file_set.specs.Set.{empty_set, zero_port, zero_table, used_port, unused_port, unused_table, set_sound};
@@ -76,23 +76,16 @@ fn label_typed(label: Label) -> bool
     true
 }
 
-fn way_typed(way: Way) -> bool
-    ensures { result ≡ typed_way way }
+fn small(flags: &[u16]) -> bool
+    ensures { result ≡ small flags.now }
 {
-    let mut i: usize = 0;
-    while i < 256 {
-        if !is_small(way.flags[i]) {
-            return false;
-        }
-        i += 1;
-    }
     true
 }
 
-fn is_small(x: u16) -> bool
-    ensures { result ≡ leb x 65535 }
+fn way_typed(way: Way) -> bool
+    ensures { result ≡ typed_way way }
 {
-    x <= 65535
+    small(&way.flags)
 }
 
 fn port_typed(port: Port) -> bool
@@ -150,29 +143,19 @@ fn table_fits(renumbering: Renumbering, used: bool) -> bool
 fn ports_fit(ports: [Port; MAX_PORTS], n: usize) -> bool
     ensures { result ≡ places_fit used_port unused_port n ports }
 {
-    let mut i: usize = 0;
-    while i < 16 {
-        let port = ports[i];
-        if !port_fits(port, i < n) {
-            return false;
-        }
-        i += 1;
-    }
-    true
+    ports
+        .iter()
+        .enumerate()
+        .all(|(i, port)| port_fits(*port, i < n))
 }
 
 fn tables_fit(tables: [Renumbering; MAX_TABLES], n: usize) -> bool
     ensures { result ≡ places_fit typed_pairs unused_table n tables }
 {
-    let mut i: usize = 0;
-    while i < 8 {
-        let renumbering = tables[i];
-        if !table_fits(renumbering, i < n) {
-            return false;
-        }
-        i += 1;
-    }
-    true
+    tables
+        .iter()
+        .enumerate()
+        .all(|(i, table)| table_fits(*table, i < n))
 }
 
 // Whether the set is sound with the rows that are lent for it.

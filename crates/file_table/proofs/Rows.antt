@@ -1,8 +1,8 @@
 -- Rows that were read alone, and what that says of reading them with all their rules.
-use mathlib.Core.Bool.{Bool, true, false, cond, not, ◌&&◌, true≢false}
+use mathlib.Core.Bool.{Bool, true, false, cond, ◌&&◌}
 use mathlib.Core.List.{List, [], ◌∷◌, ◌++◌, append_assoc}
-use mathlib.Core.Path.{◌≡◌, refl, sym, ap, subst, ◌∙◌}
-use borrow.Author.Tests.{not-true}
+use mathlib.Core.Path.{◌≡◌, refl, sym, ap, ◌∙◌}
+use Rattle.std.specs.Prelude.{Result, Ok, Err, OnOk}
 use mathlib.Core.Logic.{◌⊎◌, inl, inr}
 use Prim.Native.Nat.{ℕ, zero, suc, ◌+◌, ◌-◌, ◌*◌, ◌/◌, ◌≤◌, ◌<◌}
 use native.Mathlib.Omega.{arith}
@@ -15,19 +15,17 @@ use Rattle.lists.proofs.Laws.{paint_none}
 use Rattle.label.proofs.Bools.{and_left, and_right, less_or}
 use Rattle.table.specs.declared.Row.{Row}
 use Rattle.table.specs.Table.{row, rows_from, row_numbers, rising, apart_from_all, targets_apart, target_end, row_list_sound}
-use Rattle.table.specs.Renumbering.{no_renumbering}
 use Rattle.table.proofs.Lent.{rows_length, rows_numbers, list_whole}
 use Rattle.table.proofs.Renumberings.{put_next}
-use Rattle.file_format.specs.Format.{Format, Found, got, bad, after, value_or, told, number_at, many_at, read_at, many, Reads, written, Writes}
+use Rattle.file_format.specs.Format.{Found, got, bad, after, value_or, number_at, many_at, read_at, many, written, Writes}
 use Rattle.file_format.proofs.Numbers.{number_within}
 use Rattle.file_format.proofs.Loops.{Passed, begins, turns, refuses, ends}
-use Rattle.file_format.proofs.Told.{many_refuses, many_reads, passed_same}
 use Rattle.file_format.specs.Places.{Filled}
 use Rattle.table_levels.specs.declared.LevelPair.{LevelPair}
 use Rattle.table_levels.specs.Levels.{no_pair}
 use Rattle.table.specs.declared.Renumbering.{Renumbering}
 use Rattle.file_table.specs.TableFormat.{floor_of, row_format, with_row, TableFields, table_fields, no_fields, table_format, head_of, found_table}
-use Rattle.file_table.specs.Stages.{row_alone, RowsAlone}
+use Rattle.file_table.specs.Stages.{row_alone, ReadsRows, RowsAlone, kept_fields}
 use Rattle.file_table.proofs.Apart.{apart_last, rising_last}
 
 -- what is read with all rules, from what is read alone
@@ -167,30 +165,24 @@ module _ {s : List ℕ} {n at₀ : ℕ} {done : List Row} {i at : ℕ} (p : Rows
       }
 
   -- what the loop's end says of the whole
-  rows_told : (ok ok' : Bool) (at' : ℕ) → not ok ≡ false → (targets_apart done ≡ true → Reads (many row_format with_row n []) s ok at₀ ok' done at') → RowsAlone s ok at₀ n ok' done at'
-  rows_told ok ok' at' h q =
+  rows_told : (end : Result ℕ ℕ) → (targets_apart done ≡ true → ReadsRows s at₀ n done end) → RowsAlone s at₀ n done end
+  unfolding read_at
+  rows_told end q =
       let e : length done ≡ i = p.size in
       record {
         rises = p.rises;
         room = rw (← e) at p.room;
         apart = q;
-        meets = λ j k a b. many_refuses h (p.meets j (omega (arith, p.size)) a b);
+        meets = λ j k a b. p.meets j (omega (arith, p.size)) a b;
       }
 
-  pub seen_refuses : {ok : Bool} (m : ℕ) → not ok ≡ false → i < n → read_at (row_alone (floor_of 0 done)) s at ≡ bad m → RowsAlone s ok at₀ n false done m
-  seen_refuses {ok} m h k e = rows_told ok false m h (λ a. many_refuses h (refuses (elements s) with_row (p.apart a) m k (row_ruled s at done ∙ rw e)))
+  pub seen_refuses : (m : ℕ) → i < n → read_at (row_alone (floor_of 0 done)) s at ≡ bad m → RowsAlone s at₀ n done (Err m)
+  unfolding read_at
+  seen_refuses m k e = rows_told (Err m) (λ a. refuses (elements s) with_row (p.apart a) m k (row_ruled s at done ∙ rw e))
 
-  pub seen_ends : {ok : Bool} → not ok ≡ false → n ≤ i → RowsAlone s ok at₀ n true done at
-  seen_ends {ok} h k = rows_told ok true at h (λ a. many_reads h (ends (elements s) with_row (p.apart a) k))
-
-pub seen_passed : {s : List ℕ} {ok : Bool} {n at : ℕ} → not ok ≡ true → RowsAlone s ok at n ok [] at
-seen_passed {s} {ok} {n} {at} h =
-    record {
-      rises = refl;
-      room = λ k. absurd (omega arith);
-      apart = λ a. passed_same h;
-      meets = λ j k a b. absurd (omega arith);
-    }
+  pub seen_ends : n ≤ i → RowsAlone s at₀ n done (Ok at)
+  unfolding read_at
+  seen_ends k = rows_told (Ok at) (λ a. ends (elements s) with_row (p.apart a) k)
 
 -- a table whose pairs were read into their places, and whose rows are counted
 pub head_again : {p q : ℕ} {levels : List LevelPair} (from to : ℕ) (rows : List Row) → Filled 256 no_pair p levels → length rows ≡ q
@@ -257,41 +249,19 @@ apart_list n xs h k r =
 pub numbers_head : (n : ℕ) (xs : List ℕ) → n * 3 ≤ length xs → row_numbers (take n (rows_from xs)) ≡ take (n * 3) xs
 numbers_head n xs k = ap row_numbers (sym (rows_take n xs)) ∙ rows_numbers (take (n * 3) xs) n (length-take-le (n * 3) xs k)
 
--- What was found, from what a reader came to.
-pub found_refused : {A : Type 0} {f : Format A} {s : List ℕ} {ok k : Bool} {at n : ℕ} {a : A} (z : A) → Reads f s ok at k a n → not k ≡ true
-    → Reads f s ok at false (value_or z (cond ok (read_at f s at) (bad at))) n × (value_or z (cond ok (read_at f s at) (bad at)) ≡ z)
-found_refused {A} {f} {s} {ok} {k} {at} {n} {a} z e h = go k h e.reads
-  where
-    go : (t : Bool) → not t ≡ true → cond ok (read_at f s at) (bad at) ≡ told t a n
-        → Reads f s ok at false (value_or z (cond ok (read_at f s at) (bad at))) n × (value_or z (cond ok (read_at f s at) (bad at)) ≡ z)
-    go true h e = absurd (true≢false (sym h))
-    go false h e = (record { reads = e }, ap (value_or z) e)
-
-pub found_value : {A : Type 0} {f : Format A} {s : List ℕ} {ok k : Bool} {at n : ℕ} {a : A} (z : A) → Reads f s ok at k a n → not k ≡ false
-    → Reads f s ok at true (value_or z (cond ok (read_at f s at) (bad at))) n × (value_or z (cond ok (read_at f s at) (bad at)) ≡ a)
-found_value {A} {f} {s} {ok} {k} {at} {n} {a} z e h = go k h e.reads
-  where
-    go : (t : Bool) → not t ≡ false → cond ok (read_at f s at) (bad at) ≡ told t a n
-        → Reads f s ok at true (value_or z (cond ok (read_at f s at) (bad at))) n × (value_or z (cond ok (read_at f s at) (bad at)) ≡ a)
-    go true h e = let v : value_or z (cond ok (read_at f s at) (bad at)) ≡ a = ap (value_or z) e in (record { reads = e ∙ ap (λ (x : A). got x n) (sym v) }, v)
-    go false h e = absurd (true≢false h)
-
--- what the loop over rows answers
-pub rows_answer : {s : List ℕ} {ok k : Bool} {at count m n' : ℕ} (b : Bool) (at₁ c : ℕ) (xs done : List Row) → k ≡ b → m ≡ at₁ → n' ≡ c → c ≤ count → take c xs ≡ done
-    → RowsAlone s ok at count b done at₁ → RowsAlone s ok at count k (take n' xs) m × (n' ≤ count)
-rows_answer b at₁ c xs done e1 e2 e3 h t r = rw (e1, e2, e3, t) (r, h)
-
-pub seen_none : {s : List ℕ} {ok : Bool} {n at : ℕ} → not ok ≡ true → RowsAlone s ok at n false [] at
-seen_none {s} {ok} {n} {at} h = subst (λ (b : Bool). RowsAlone s ok at n b [] at) (not-true ok h) (seen_passed h)
-
 -- where targets meet, the first row that meets one before it is blamed
-pub meets_answer : {s : List ℕ} {ok k k' : Bool} {at count m m' n' : ℕ} (c j : ℕ) (xs : List Row) → RowsAlone s ok at count k (take c xs) m → c ≤ count → length (take c xs) ≡ c → j < c
-    → targets_apart (take j xs) ≡ true → targets_apart (take (j + 1) xs) ≡ false → k' ≡ false → m' ≡ at + j * 6 + 4 → n' ≡ c
-    → Reads (many row_format with_row count []) s ok at k' (take n' xs) m' × (n' ≤ count)
-meets_answer c j xs r h l b t0 t1 ek em en =
+pub meets_answer : {s : List ℕ} {at count : ℕ} {end : Result ℕ ℕ} (c j : ℕ) (xs : List Row) → RowsAlone s at count (take c xs) end → length (take c xs) ≡ c → j < c
+    → targets_apart (take j xs) ≡ true → targets_apart (take (j + 1) xs) ≡ false → read_at (many row_format with_row count []) s at ≡ bad (at + j * 6 + 4)
+meets_answer c j xs r l b t0 t1 =
     let a : take j (take c xs) ≡ take j xs = take-take j c xs (omega arith) in
     let d : take (suc j) (take c xs) ≡ take (suc j) xs = take-take (suc j) c xs (omega arith) in
-    rw (ek, em, en) (r.meets j (omega (arith, l)) (rw a t0) (rw d (rw (add-one j) at t1)), h)
+    r.meets j (omega (arith, l)) (rw a t0) (rw d (rw (add-one j) at t1))
+
+-- where they are apart, what was found stands
+module _ (s : List ℕ) (at count c : ℕ) where
+  pub apart_answer : (end : Result ℕ ℕ) (xs : List Row) → ReadsRows s at count (take c xs) end → OnOk end (c ≡ count) → ReadsRows s at count (take count xs) end
+  apart_answer (Ok m) xs r e = rw e at r
+  apart_answer (Err m) xs r e = r
 
 none_written : (at : ℕ) (out : List ℕ) → out ≡ written at [] out
 none_written at out = go (leb (at + 0) (length out))
@@ -300,26 +270,31 @@ none_written at out = go (leb (at + 0) (length out))
     go true = sym (paint_none at out)
     go false = refl
 
-module _ (version : ℕ) {s : List ℕ} {ok k : Bool} {at n : ℕ} (rows : List ℕ) (place : ℕ) where
-  -- a table that was refused, and one that was read
-  pub table_refused : {t : TableFields} {r : Renumbering} → Reads (table_format version) s ok at k t n → not k ≡ true → r ≡ no_renumbering
-      → Reads (table_format version) s ok at false (found_table version s ok at) n × (r ≡ head_of (found_table version s ok at)) × (rows ≡ written place (row_numbers (found_table version s ok at).rows) rows)
-      × (length (found_table version s ok at).rows ≤ 1024)
-  table_refused {t} {r} b h e =
-      let f = found_refused no_fields b h in
-      let v : found_table version s ok at ≡ no_fields = f.1 in
-      (f.0, e ∙ ap head_of (sym v), rw v (none_written place rows), rw v (omega arith))
+module _ (version : ℕ) (s : List ℕ) (at : ℕ) (rows : List ℕ) (place : ℕ) where
+  -- a table that was refused
+  pub table_refused : (n : ℕ) → read_at (table_format version) s at ≡ bad n
+      → (rows ≡ written place (row_numbers (found_table version s at).rows) rows) × (length (found_table version s at).rows ≤ 1024)
+  table_refused n e =
+      let v : found_table version s at ≡ no_fields = ap (value_or no_fields) e in
+      (rw v (none_written place rows), rw v (omega arith))
 
-  pub table_read : {from to p q nxt : ℕ} {levels : List LevelPair} {rows' : List ℕ} (kept : List ℕ) → Reads (table_format version) s ok at k (table_fields from to (take p levels) (take q (rows_from kept))) n → not k ≡ false
-      → Filled 256 no_pair p levels → q ≤ 1024 → q * 3 ≤ length kept → Writes place (take (q * 3) kept) rows rows' nxt
-      → Reads (table_format version) s ok at true (found_table version s ok at) n × (◌≡◌ {A = Renumbering} (record { table = record { from = from; to = to; pairs = p; count = q }; levels = levels }) (head_of (found_table version s ok at)))
-      × (rows' ≡ written place (row_numbers (found_table version s ok at).rows) rows) × (length (found_table version s ok at).rows ≤ 1024)
-  table_read {from} {to} {p} {q} {nxt} {levels} {rows'} kept b h fl few l w =
-      let f = found_value no_fields b h in
-      let v : found_table version s ok at ≡ table_fields from to (take p levels) (take q (rows_from kept)) = f.1 in
-      let c : length (take q (rows_from kept)) ≡ q = rows_there q kept l in (
-        f.0,
-        sym (head_again from to (take q (rows_from kept)) fl c) ∙ ap head_of (sym v),
-        w.buffer ∙ ap (λ (z : List ℕ). written place z rows) (sym (numbers_head q kept l)) ∙ ap (λ (t : TableFields). written place (row_numbers t.rows) rows) (sym v),
-        rw v (omega (arith, c)),
-      )
+  -- and one that was read
+  pub record TableRead (r : Renumbering) (n : ℕ) (rows' : List ℕ) : Type 0 where
+    pub read : read_at (table_format version) s at ≡ got (found_table version s at) n
+    pub table : r ≡ head_of (found_table version s at)
+    pub rows_after : rows' ≡ written place (row_numbers (found_table version s at).rows) rows
+    pub few : length (found_table version s at).rows ≤ 1024
+
+  pub table_read : {n nxt : ℕ} {r : Renumbering} {rows' : List ℕ} (kept : List ℕ) → read_at (table_format version) s at ≡ got (kept_fields kept r) n
+      → Filled 256 no_pair r.table.pairs r.levels → r.table.count ≤ 1024 → r.table.count * 3 ≤ length kept → Writes place (take (r.table.count * 3) kept) rows rows' nxt
+      → TableRead r n rows'
+  table_read {n} {nxt} {r} {rows'} kept e fl few l w =
+      let q = r.table.count in
+      let v : found_table version s at ≡ kept_fields kept r = ap (value_or no_fields) e in
+      let c : length (take q (rows_from kept)) ≡ q = rows_there q kept l in
+      record {
+        read = e ∙ ap (λ (x : TableFields). got x n) (sym v);
+        table = sym (head_again r.table.from r.table.to (take q (rows_from kept)) fl c) ∙ ap head_of (sym v);
+        rows_after = w.buffer ∙ ap (λ (z : List ℕ). written place z rows) (sym (numbers_head q kept l)) ∙ ap (λ (t : TableFields). written place (row_numbers t.rows) rows) (sym v);
+        few = rw v (omega (arith, c));
+      }

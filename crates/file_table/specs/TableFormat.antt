@@ -7,7 +7,7 @@ use Rattle.table.specs.declared.Row.{Row}
 use Rattle.table.specs.declared.Renumbering.{Renumbering}
 use Rattle.table.specs.Table.{row, rows_from, row_numbers, apart_from_all}
 use Rattle.table.specs.Renumbering.{LentTable}
-use Rattle.file_format.specs.Format.{Format, bad, value_or, read_at, one, two, four, number, ◌then◌, ◌such◌, fields, counted}
+use Rattle.file_format.specs.Format.{Format, value_or, read_at, one, two, four, number, ◌then◌, ◌such◌, fields, counted}
 use Rattle.file_format.specs.Places.{padded}
 
 -- 1. The limits of a version.
@@ -93,8 +93,8 @@ abbrev pub no_fields : TableFields
 no_fields = table_fields 0 0 [] []
 
 -- what a reader finds at a place, in a file of this version; nothing where it is refused
-abbrev pub found_table : (version : ℕ) → List ℕ → Bool → ℕ → TableFields
-found_table version s ok at = value_or no_fields (cond ok (read_at (table_format version) s at) (bad at))
+abbrev pub found_table : (version : ℕ) → List ℕ → ℕ → TableFields
+found_table version s at = value_or no_fields (read_at (table_format version) s at)
 
 -- a file of this version can say the table
 unfoldable pub table_sayable : (version : ℕ) → LentTable → Bool

@@ -6,11 +6,10 @@ use Prim.Native.Nat.{ℕ, suc, ◌+◌, ◌-◌, ◌≤◌, ◌<◌}
 use native.Mathlib.Omega.{arith}
 use native.Mathlib.Numerals.{add-one}
 use lib.Dec.{leb}
-use lib.ListN.{length, take, drop, get_or, length-append, length-map, length-take, drop_of_length-le}
-use lib.Seq.{take-suc, length-take-le}
+use lib.ListN.{length, take, drop, get_or, length-append, length-map, drop_of_length-le}
+use lib.Seq.{take-suc, drop-cons, length-take-le}
 use Rattle.lists.specs.Lists.{paint}
 use Rattle.port.specs.declared.Port.{Port}
-use Rattle.table_levels.proofs.Levels.{next_there}
 use Rattle.table.specs.declared.Renumbering.{Renumbering}
 use Rattle.table.specs.Renumbering.{LentTable}
 use Rattle.table.proofs.Renumberings.{out_table}
@@ -37,17 +36,19 @@ size_more {A} g l i d h = rw (add-one, take-suc l i d h) (go (take i l))
         omega (arith, length-append (g x) (flat g (xs ++ (get_or l i d ∷ []))), length-append (g x) (flat g xs))
 
 -- Tables in turn: the next one with its part of the rows, and the others.
-module _ (ts : List Renumbering) (n i : ℕ) (ns : List ℕ) (at end : ℕ) (r : Renumbering) where
-  pub next_table : i < n → i < length ts → r ≡ get_or ts i out_table → at ≤ length ns → end ≡ cond (leb (share r) (length ns - at)) (at + share r) (length ns)
-      → tables_from (drop i (take n ts)) (drop at ns) ≡ record { item = r; rows = take (end - at) (drop at ns) } ∷ tables_from (drop (i + 1) (take n ts)) (drop end ns)
-  next_table h l er a e =
-      ap (λ (z : List Renumbering). tables_from z (drop at ns)) (next_there out_table ts n i h l ∙ ap (λ (x : Renumbering). x ∷ drop (i + 1) (take n ts)) (sym er))
-      ∙ ap (λ (z : List ℕ). record { item = r; rows = z } ∷ tables_from (drop (i + 1) (take n ts)) (drop (share r) (drop at ns))) (sym (part_is ns at (share r) end a e))
-      ∙ ap (λ (z : List ℕ). record { item = r; rows = take (end - at) (drop at ns) } ∷ tables_from (drop (i + 1) (take n ts)) z) (sym (rest_is ns at (share r) end a e))
+module _ (ts : List Renumbering) (i : ℕ) (ns : List ℕ) (at end : ℕ) where
+  pub next_table : i < length ts → at ≤ length ns → end ≡ cond (leb (share (get_or ts i out_table)) (length ns - at)) (at + share (get_or ts i out_table)) (length ns)
+      → tables_from (drop i ts) (drop at ns) ≡ record { item = get_or ts i out_table; rows = take (end - at) (drop at ns) } ∷ tables_from (drop (i + 1) ts) (drop end ns)
+  next_table l a e =
+      let r = get_or ts i out_table in
+      let next : drop i ts ≡ r ∷ drop (i + 1) ts = rw add-one (drop-cons ts i out_table l) in
+      ap (λ (z : List Renumbering). tables_from z (drop at ns)) next
+      ∙ ap (λ (z : List ℕ). record { item = r; rows = z } ∷ tables_from (drop (i + 1) ts) (drop (share r) (drop at ns))) (sym (part_is ns at (share r) end a e))
+      ∙ ap (λ (z : List ℕ). record { item = r; rows = take (end - at) (drop at ns) } ∷ tables_from (drop (i + 1) ts) z) (sym (rest_is ns at (share r) end a e))
 
 -- no table is left
-pub none_left : (ts : List Renumbering) (n i : ℕ) (ns : List ℕ) → n ≤ i → tables_from (drop i (take n ts)) ns ≡ []
-none_left ts n i ns h = ap (λ (z : List Renumbering). tables_from z ns) (drop_of_length-le (take n ts) {i = i} (simp length-take (omega arith)))
+pub none_left : (ts : List Renumbering) (i : ℕ) (ns : List ℕ) → length ts ≤ i → tables_from (drop i ts) ns ≡ []
+none_left ts i ns h = ap (λ (z : List Renumbering). tables_from z ns) (drop_of_length-le ts {i = i} h)
 
 -- the rest that is to be written, after what was written
 pub record Goes (at : ℕ) (whole rest out out' : List ℕ) (next : ℕ) : Type 0 where
@@ -114,21 +115,21 @@ fields_written s rows p {out} {out'} {next} w h =
     (v.wrote (omega (arith, file_length s rows))).0
 
 -- a turn of the loops over the tables
-module _ (ts : List Renumbering) (n i : ℕ) (ns : List ℕ) (at end : ℕ) (r : Renumbering) (h : i < n) (l : i < length ts) (er : r ≡ get_or ts i out_table) (a : at ≤ length ns)
-    (e : end ≡ cond (leb (share r) (length ns - at)) (at + share r) (length ns)) where
+module _ (ts : List Renumbering) (i : ℕ) (ns : List ℕ) (at end : ℕ) (l : i < length ts) (a : at ≤ length ns)
+    (e : end ≡ cond (leb (share (get_or ts i out_table)) (length ns - at)) (at + share (get_or ts i out_table)) (length ns)) where
   abbrev this : LentTable
-  this = record { item = r; rows = take (end - at) (drop at ns) }
+  this = record { item = get_or ts i out_table; rows = take (end - at) (drop at ns) }
 
   abbrev others : List ℕ
-  others = flat table_octets (tables_from (drop (i + 1) (take n ts)) (drop end ns))
+  others = flat table_octets (tables_from (drop (i + 1) ts) (drop end ns))
 
-  flat_next : flat table_octets (tables_from (drop i (take n ts)) (drop at ns)) ≡ table_octets this ++ others
-  flat_next = ap (flat table_octets) (next_table ts n i ns at end r h l er a e)
+  flat_next : flat table_octets (tables_from (drop i ts) (drop at ns)) ≡ table_octets this ++ others
+  flat_next = ap (flat table_octets) (next_table ts i ns at end l a e)
 
-  pub size_turn : (whole size k : ℕ) → whole ≡ size + length (flat table_octets (tables_from (drop i (take n ts)) (drop at ns))) → k ≡ length (table_octets this) → whole ≡ size + k + length others
-  size_turn whole size k w q = let m : length (flat table_octets (tables_from (drop i (take n ts)) (drop at ns))) ≡ length (table_octets this) + length others = ap length flat_next ∙ length-append (table_octets this) others in omega arith
+  pub size_turn : (whole size k : ℕ) → whole ≡ size + length (flat table_octets (tables_from (drop i ts) (drop at ns))) → k ≡ length (table_octets this) → whole ≡ size + k + length others
+  size_turn whole size k w q = let m : length (flat table_octets (tables_from (drop i ts) (drop at ns))) ≡ length (table_octets this) + length others = ap length flat_next ∙ length-append (table_octets this) others in omega arith
 
-  pub goes_turn : {place p m : ℕ} {whole out out₁ out₂ : List ℕ} → Goes place whole (flat table_octets (tables_from (drop i (take n ts)) (drop at ns))) out out₁ p → Wrote p (table_octets this) out₁ out₂ m
+  pub goes_turn : {place p m : ℕ} {whole out out₁ out₂ : List ℕ} → Goes place whole (flat table_octets (tables_from (drop i ts) (drop at ns))) out out₁ p → Wrote p (table_octets this) out₁ out₂ m
       → Goes place whole others out out₂ m
   goes_turn g w =
       record {

@@ -26,7 +26,8 @@ use Rattle.file_read.specs.File.{file_format, file_reading, file_room, ports_say
 use Rattle.file_read.specs.Theorems as theorems
 use Rattle.file_read.proofs.Sets.{parts}
 use Rattle.file_read.proofs.Theorems.{accepted_only, given_back}
-use Rattle.file_write.specs.declared.Written.TheVariants.{Done, Short, Unsound, Long}
+use Rattle.std.specs.Prelude.{Ok, Err}
+use Rattle.file_write.specs.declared.WriteError.TheVariants.{Short, Unsound, Long}
 use Rattle.file_write.specs.Written.{written_of, number_of, file_output}
 use Rattle.file_write.specs.Theorems.{Tells, WrittenBack, OneFileIn, OneFileEach, all_plain, none_strict, all_small, Sayable, Answers}
 use Rattle.file_write.proofs.First.{small_first}
@@ -151,13 +152,13 @@ record Passed (a b c : Bool) (t n : ℕ) : Type 0 where
   fits : c ≡ true
   count : t ≡ n
 
-passed : (a b c : Bool) (t n : ℕ) → cond a (cond b (cond c (Done t) Short) Long) Unsound ≡ Done n → Passed a b c t n
+passed : (a b c : Bool) (t n : ℕ) → cond a (cond b (cond c (Ok t) (Err Short)) (Err Long)) (Err Unsound) ≡ Ok n → Passed a b c t n
 passed true true true t n e = record { sound_set = refl; short = refl; fits = refl; count = cc }
 passed true true false t n e = let z : ◌≡◌ {A = ℕ} 0 1 = cc in absurd (omega arith)
 passed true false c t n e = let z : ◌≡◌ {A = ℕ} 0 1 = cc in absurd (omega arith)
 passed false b c t n e = let z : ◌≡◌ {A = ℕ} 0 1 = cc in absurd (omega arith)
 
-module _ (s : Set) (rows out : List ℕ) (n : ℕ) (e : written_of s rows (length out) ≡ Done n) where
+module _ (s : Set) (rows out : List ℕ) (n : ℕ) (e : written_of s rows (length out) ≡ Ok n) where
   tests : Passed (set_sound s rows) (leb (total_of 3 s rows) 61440) (leb (total_of 3 s rows) (length out)) (total_of 3 s rows) n
   unfolding written_of
   tests = passed (set_sound s rows) (leb (total_of 3 s rows) 61440) (leb (total_of 3 s rows) (length out)) (total_of 3 s rows) n e
@@ -183,7 +184,7 @@ written_back s rows out n e =
     rw (file_is s rows out n e) (tells_back 3 (omega arith) (omega arith) s rows p.sound_set (third_says s rows p.sound_set ∙ p.short))
 
 -- nothing is written without the number 0
-nothing_written : (a b c : Bool) (t : ℕ) (xs out : List ℕ) → (number_of (cond a (cond b (cond c (Done t) Short) Long) Unsound) ≡ 0 ∷ [] → ⊥) → cond (a && (b && c)) xs out ≡ out
+nothing_written : (a b c : Bool) (t : ℕ) (xs out : List ℕ) → (number_of (cond a (cond b (cond c (Ok t) (Err Short)) (Err Long)) (Err Unsound)) ≡ 0 ∷ [] → ⊥) → cond (a && (b && c)) xs out ≡ out
 nothing_written true true true t xs out h = absurd (h refl)
 nothing_written true true false t xs out h = refl
 nothing_written true false c t xs out h = refl
@@ -202,7 +203,7 @@ module _ (s : Set) (rows : List ℕ) (room : ℕ) where
   unfolding written_of
   is_short e h l = rw (e, le-leb (total_of 3 s rows) 61440 h, lt-leb (total_of 3 s rows) room l)
 
-  is_done : set_sound s rows ≡ true → total_of 3 s rows ≤ 61440 → total_of 3 s rows ≤ room → written_of s rows room ≡ Done (total_of 3 s rows)
+  is_done : set_sound s rows ≡ true → total_of 3 s rows ≤ 61440 → total_of 3 s rows ≤ room → written_of s rows room ≡ Ok (total_of 3 s rows)
   unfolding written_of
   is_done e h l = rw (e, le-leb (total_of 3 s rows) 61440 h, le-leb (total_of 3 s rows) room l)
 

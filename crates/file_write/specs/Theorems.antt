@@ -1,5 +1,5 @@
 -- Document 02, Wishes 1, 8 and 10: "A sound set has one file, and what the writer wrote the reader gives back", in each of the three versions.
-use Rattle.std.specs.Prelude.{Bool, true, false, not, ◌&&◌, List, [], ◌∷◌, ◌≡◌, ℕ, ◌≤◌, ◌<◌, leb, length, take, drop, get_or}
+use Rattle.std.specs.Prelude.{Bool, true, false, not, ◌&&◌, List, [], ◌∷◌, ◌≡◌, ℕ, ◌≤◌, ◌<◌, leb, length, take, drop, get_or, Ok}
 use Rattle.lists.specs.Lists.{paint}
 use Rattle.port.specs.declared.Port.{Port}
 use Rattle.port.specs.Port.{is_plain}
@@ -9,7 +9,6 @@ use Rattle.file_format.specs.Laws.{Octets}
 use Rattle.file_set.specs.declared.Set.{Set}
 use Rattle.file_set.specs.Set.{set_sound}
 use Rattle.file_read.specs.File.{file_reading, file_room, total_of, sayable, file_octets}
-use Rattle.file_write.specs.declared.Written.TheVariants.{Done}
 use Rattle.file_write.specs.Written.{written_of, number_of, file_output}
 
 -- the reader accepts the octets and gives this set, with these rows at the head of any room that is large enough
@@ -20,7 +19,7 @@ pub record Tells (o : List ℕ) (s : Set) (rows : List ℕ) : Type 0 where
 -- 1. What the writer wrote the reader gives back: where it answers that n octets were written, the first n of its output tell the set with its rows.
 
 abbrev pub WrittenBack : Type 0
-WrittenBack = (s : Set) (rows out : List ℕ) (n : ℕ) → written_of s rows (length out) ≡ Done n → Tells (take n (file_output s rows out)) s rows
+WrittenBack = (s : Set) (rows out : List ℕ) (n : ℕ) → written_of s rows (length out) ≡ Ok n → Tells (take n (file_output s rows out)) s rows
 
 -- 2. A set has one file in each version that can say it.
 
@@ -72,7 +71,7 @@ pub record Answers : Type 0 where
   -- refused by name, with none of document 01's numbers
   pub long : (s : Set) (rows : List ℕ) (room : ℕ) → set_sound s rows ≡ true → 61440 < total_of 3 s rows → number_of (written_of s rows room) ≡ []
   pub short : (s : Set) (rows : List ℕ) (room : ℕ) → set_sound s rows ≡ true → total_of 3 s rows ≤ 61440 → room < total_of 3 s rows → number_of (written_of s rows room) ≡ 1 ∷ []
-  pub done : (s : Set) (rows : List ℕ) (room : ℕ) → set_sound s rows ≡ true → total_of 3 s rows ≤ 61440 → total_of 3 s rows ≤ room → written_of s rows room ≡ Done (total_of 3 s rows)
+  pub done : (s : Set) (rows : List ℕ) (room : ℕ) → set_sound s rows ≡ true → total_of 3 s rows ≤ 61440 → total_of 3 s rows ≤ room → written_of s rows room ≡ Ok (total_of 3 s rows)
   -- a refusal writes nothing, and octets past the file are kept
   pub refused : (s : Set) (rows out : List ℕ) → (number_of (written_of s rows (length out)) ≡ 0 ∷ [] → ⊥) → file_output s rows out ≡ out
-  pub past : (s : Set) (rows out : List ℕ) (n : ℕ) → written_of s rows (length out) ≡ Done n → drop n (file_output s rows out) ≡ drop n out
+  pub past : (s : Set) (rows out : List ℕ) (n : ℕ) → written_of s rows (length out) ≡ Ok n → drop n (file_output s rows out) ≡ drop n out

@@ -22,11 +22,9 @@ use table_choose::MAX_TABLES;
 // The most octets of a file of version 3.
 const MOST_OCTETS: usize = 61440;
 
-// What writing a file came to.
+// Why no file was written.
 #[derive(Clone, Copy)]
-pub enum Written {
-    // the file stands in the output, with so many octets
-    Done(usize),
+pub enum WriteError {
     // 1: too short an output
     Short,
     // 2: an unsound set
@@ -35,23 +33,23 @@ pub enum Written {
     Long,
 }
 
-// Writes the file of a set with its rows: 2 for an unsound set, then a refusal by name for one whose file would be over 60 KiB, then 1 for an output that is too short, else the count.
+// Writes the file of a set with its rows, and tells how many octets it has: 2 for an unsound set, then a refusal by name for one whose file would be over 60 KiB, then 1 for an output that is too short.
 // A refusal writes nothing, and octets past the file are kept.
-pub fn write_file(set: Set, rows: &[u16], out: &mut [u8]) -> Written
+pub fn write_file(set: Set, rows: &[u16], out: &mut [u8]) -> Result<usize, WriteError>
     ensures { (result ≡ written_of set rows.now (length out.old)) × (out.new ≡ file_output set rows.now out.old) }
 {
     if !set_sound(set, rows) {
-        return Written::Unsound;
+        return Err(WriteError::Unsound);
     }
     let total = file_size(set, rows);
     if MOST_OCTETS < total {
-        return Written::Long;
+        return Err(WriteError::Long);
     }
     if out.len() < total {
-        return Written::Short;
+        return Err(WriteError::Short);
     }
     write_fields(set, rows, total, out);
-    Written::Done(total)
+    Ok(total)
 }
 
 // How many octets the file of a sound set has.
@@ -70,11 +68,8 @@ fn ports_size(ports: [Port; MAX_PORTS], n: usize) -> usize
     ensures { (result ≡ length (flat port_octets (take n ports))) × (result ≤ n * 2985) }
 {
     let mut size: usize = 0;
-    let mut i: usize = 0;
-    while i < n {
-        let port = ports[i];
-        size += port_size(port);
-        i += 1;
+    for port in &ports[..n] {
+        size += port_size(*port);
     }
     size
 }
@@ -98,14 +93,10 @@ fn tables_size(tables: [Renumbering; MAX_TABLES], n: usize, rows: &[u16]) -> usi
 {
     let mut size: usize = 0;
     let mut at: usize = 0;
-    let mut i: usize = 0;
-    while i < n {
-        let renumbering = tables[i];
-        let table = renumbering.table;
-        let end = end_of(at, table.count, rows.len());
-        size += table_size(renumbering, &rows[at..end]);
+    for renumbering in &tables[..n] {
+        let end = end_of(at, renumbering.table.count, rows.len());
+        size += table_size(*renumbering, &rows[at..end]);
         at = end;
-        i += 1;
     }
     size
 }
@@ -119,12 +110,12 @@ fn write_fields(set: Set, rows: &[u16], total: usize, out: &mut [u8])
     let kept = set.tables;
     let n = set.portcount;
     let m = set.tablecount;
-    let version = write_two(&mut out[..], 0, total as u32);
-    let count = write_octet(&mut out[..], version, 3);
-    let first = write_octet(&mut out[..], count, n as u32);
-    let ports = write_ports(held, n, &mut out[..], first);
-    let tables = write_octet(&mut out[..], ports, m as u32);
-    write_tables(kept, m, rows, &mut out[..], tables);
+    let version = write_two(out, 0, total as u32);
+    let count = write_octet(out, version, 3);
+    let first = write_octet(out, count, n as u32);
+    let ports = write_ports(held, n, out, first);
+    let tables = write_octet(out, ports, m as u32);
+    write_tables(kept, m, rows, out, tables);
 }
 
 // The first n ports.
@@ -133,11 +124,8 @@ fn write_ports(ports: [Port; MAX_PORTS], n: usize, out: &mut [u8], at: usize) ->
     ensures { Wrote at (flat port_octets (take n ports)) out.old out.new result }
 {
     let mut place = at;
-    let mut i: usize = 0;
-    while i < n {
-        let port = ports[i];
-        place = write_port(port, &mut out[..], place);
-        i += 1;
+    for port in &ports[..n] {
+        place = write_port(*port, out, place);
     }
     place
 }
@@ -155,14 +143,10 @@ fn write_tables(
 {
     let mut place = at;
     let mut from: usize = 0;
-    let mut i: usize = 0;
-    while i < n {
-        let renumbering = tables[i];
-        let table = renumbering.table;
-        let end = end_of(from, table.count, rows.len());
-        place = write_table(renumbering, &rows[from..end], &mut out[..], place);
+    for renumbering in &tables[..n] {
+        let end = end_of(from, renumbering.table.count, rows.len());
+        place = write_table(*renumbering, &rows[from..end], out, place);
         from = end;
-        i += 1;
     }
     place
 }

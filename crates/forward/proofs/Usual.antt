@@ -15,7 +15,7 @@ use Rattle.label.specs.Label.{no_run, used}
 use Rattle.label_keys.specs.Range.{look_of, look_under, runs_between, answered}
 use Rattle.option.specs.declared.Spellings.{Spellings}
 use Rattle.basic.specs.declared.Way.{Way}
-use Rattle.basic.specs.declared.BasicReading.{BasicReading}
+use Rattle.basic.specs.Alone.{BasicRead}
 use Rattle.decision.specs.declared.Verdict.{Verdict}
 use Rattle.arrive.proofs.First.{before_none}
 use Rattle.forward_leave.specs.Departure.{sent_by}
@@ -57,7 +57,7 @@ look_last lowest highest v rs e h = go (leb lowest.level v && leb v highest.leve
     go false = refl
 
 -- Between two ports that do not read option 130 the leaving one's 21 is not given.
-pub sent_off : (r : Verdict) (from on : Bool) (way : Way) (x : BasicReading) → from ≡ false → on ≡ false → r ≡ sent_by r from on way x
+pub sent_off : (r : Verdict) (from on : Bool) (way : Way) (x : BasicRead) → from ≡ false → on ≡ false → r ≡ sent_by r from on way x
 unfolding sent_by
 sent_off r from on way x e g = sym (rw (e, g) (before_none r))
 

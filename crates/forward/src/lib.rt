@@ -1,10 +1,9 @@
 // Forward (document 01, "The order of checks" and "The leaving area"; document 02, Wish 3): the checks in their order, and only a forwarding writes.
 #![tactic(auto)]
 
-ghost use Rattle.std.specs.Prelude.{◌≡◌, true, ◌≤◌, length};
+ghost use Rattle.std.specs.Prelude.{◌≡◌, true, ◌≤◌, length, Some};
 ghost use Rattle.area.specs.Area.{WholeAt};
 ghost use Rattle.area.specs.declared.Kind.TheVariants.{Cipso};
-ghost use Rattle.area.specs.declared.Place.TheVariants.{At};
 ghost use Rattle.port_usual.specs.Usual.{usual_port};
 ghost use Rattle.arrive.specs.Verdict.{Arrives};
 ghost use Rattle.arrive.specs.Stages.{ArrivesAt, held_between};
@@ -12,14 +11,18 @@ ghost use Rattle.table.specs.Table.{lent};
 ghost use Rattle.forward_rules.specs.Forward.{forwarding_of, forward_of, output_of};
 ghost use Rattle.forward_leave.specs.Departure.{held_by_range};
 
-use area::{Place, Walk, bad_area, walk_area};
-use decision::{Decision, Facts, Verdict, conclude, go_on, stop};
+use area::{bad_area, walk_area};
+use decision::{
+    Decision, Facts, HEADER_OCTETS, NETWORK_PROHIBITED, Verdict, barred, conclude, faulty, go_on,
+    missing, silent,
+};
 use forward_any::forward_any;
 use forward_cross::cross;
 use forward_leave::check_leaving;
 use forward_write::{fit, kept_by, write_area};
 use label::Label;
 use label_keys::{Look, look_between};
+use option::OPTION_TYPE;
 use option_read::read_keys;
 use port::Port;
 use port_usual::{is_usual, looks_usual};
@@ -95,41 +98,42 @@ fn forward_usual(
 }
 
 // Checks 1 to 14 at a usual port, with the keys as `arrive` leaves them.
-fn arrive_usual(port: Port, area: &[u8], keys: &mut [u32]) -> Verdict
-    requires { (usual_port port ≡ true) × (120 ≤ length keys.old) }
+fn arrive_usual(port: Port, area: &[u8], keys: &mut [u32; 120]) -> Verdict
+    requires { usual_port port ≡ true }
     ensures { Arrives port area.now 9 keys.old keys.new result }
 {
     if bad_area(area.len()) {
-        return stop(1, 0, 0, 0);
+        return silent(1);
     }
     match walk_area(area, false) {
-        Walk::Refused(number, at) => stop(number, 12, 0, (20 + at) as u8),
-        Walk::Sound(place, _) => match place {
-            Place::Nowhere => stop(6, 12, 1, 134),
-            Place::At(at) => read_usual(port, area, at, keys),
+        Err(fault) => faulty(fault.number, (HEADER_OCTETS + fault.at) as u8),
+        Ok(met) => match met.label {
+            None => missing(6, OPTION_TYPE),
+            Some(at) => read_usual(port, area, at, keys),
         },
     }
 }
 
 // Checks 7 to 14 with an option 134 at an octet.
-fn read_usual(port: Port, area: &[u8], at: usize, keys: &mut [u32]) -> Verdict
+fn read_usual(port: Port, area: &[u8], at: usize, keys: &mut [u32; 120]) -> Verdict
     requires area_len_bound { length area.now ≤ 40 }
     requires whole_at { WholeAt Cipso area.now at }
-    requires port_value { (usual_port port ≡ true) × (120 ≤ length keys.old) }
-    ensures { ArrivesAt (At at) port area.now 9 keys.old keys.new result }
+    requires usual { usual_port port ≡ true }
+    ensures { ArrivesAt (Some at) port area.now 9 keys.old keys.new result }
 {
     let next = at + 1;
     let n = area[next] as usize;
     let end = at + n;
-    let read = read_keys(&area[at..end], port.domain, &mut keys[..]);
-    if read.number != 0 {
-        return stop(read.number, 12, 0, (20 + (at + read.pointer)) as u8);
+    match read_keys(&area[at..end], port.domain, &mut keys[..]) {
+        Err(fault) => faulty(fault.number, (HEADER_OCTETS + (at + fault.at)) as u8),
+        Ok(held) => {
+            let arrived = go_on(held.level, held.count);
+            if !lies_usual(arrived, port.lowest, port.highest, &keys[..]) {
+                return barred(14, NETWORK_PROHIBITED);
+            }
+            arrived
+        }
     }
-    let arrived = go_on(read.level, read.count);
-    if !lies_usual(arrived, port.lowest, port.highest, &keys[..]) {
-        return stop(14, 3, 9, 0);
-    }
-    arrived
 }
 
 // Check 17 toward a usual port.
@@ -141,7 +145,7 @@ fn hold_usual(crossed: Verdict, lowest: Label, highest: Label, keys: &[u32]) -> 
         return crossed;
     }
     if !lies_usual(crossed, lowest, highest, keys) {
-        return stop(17, 3, 9, 0);
+        return barred(17, NETWORK_PROHIBITED);
     }
     crossed
 }

@@ -1,5 +1,5 @@
 -- Past check 16: what the keys of the far domain stand for.
-use mathlib.Core.Path.{◌≡◌, sym, ◌∙◌, ap}
+use mathlib.Core.Path.{◌≡◌, refl, sym, ◌∙◌, ap}
 use mathlib.Core.Bool.{Bool, true, false, cond, ◌&&◌}
 use mathlib.Core.List.{List}
 use mathlib.Core.Option.{none}
@@ -9,6 +9,7 @@ use lib.Dec.{eqb}
 use lib.ListN.{length, take, drop, length-take}
 use lib.Seq.{take-append-le, take-take}
 use borrow.Author.Tests.{eq-eqb}
+use Rattle.std.specs.Prelude.{Err}
 use Rattle.lists.specs.Lists.{copied}
 use Rattle.label.specs.declared.Run.{Run}
 use Rattle.label.specs.Runs.{spaced}
@@ -17,12 +18,12 @@ use Rattle.label_keys.specs.Keys.{key_runs}
 use Rattle.label.proofs.Bools.{and_right}
 use Rattle.label.proofs.Labels.{formed, used_length}
 use Rattle.table.specs.Table.{used_rows, table_sound}
-use Rattle.table_levels.specs.Levels.{known, level_or0}
+use Rattle.table_levels.specs.Levels.{Partner, known, level_or0}
 use Rattle.table.specs.Numbers.{numbered}
-use Rattle.renumber_keys.specs.declared.Carried.{Carried}
+use Rattle.renumber_keys.specs.declared.CarryError.TheVariants.{NoNumber}
 use Rattle.renumber.specs.Renumber.{image_runs}
-use Rattle.renumber_keys.specs.Carry.{not_carried, carried_to, carried_keys, carry_of}
-use Rattle.renumber_keys.proofs.Carrying.{label_runs_lem, carry_checked, carry_unsound, carry_two, carried_number, carried_yes, carried_runs, image_spaced}
+use Rattle.renumber_keys.specs.Carry.{CarryAnswer, carried_as, carried_to, carried_keys, carry_of}
+use Rattle.renumber_keys.proofs.Carrying.{label_runs_lem, carry_checked, carry_unsound, carried_yes, carried_runs, image_spaced}
 use Rattle.forward_rules.specs.Crossing.{Crossing, stays, partner, has_numbers, number_check, leaving_level, leaving_runs}
 use Rattle.decision.specs.declared.Verdict.{Verdict}
 use Rattle.decision.specs.Verdict.{stopped, going}
@@ -69,8 +70,22 @@ module _ (x : Crossing) (w : well_formed x.label ≡ true) (same : x.domain ≡ 
         gaps = rw runs_are (formed x.label w).runs;
       }
 
+-- What is said of what was carried.
+numbered_to : (a b : Bool) (p : Partner) (whole : Bool) (image : List Run)
+    → numbered_by (carried_to p whole image) a b ≡ cond (a && (b && (known p && whole))) (going (level_or0 p) (length image)) (stopped 16 3 9 0)
+unfolding numbered_by carried_to
+numbered_to a b p whole image = go (known p && whole) a b
+  where
+    go : (w a b : Bool) → numbered_by (cond w (carried_as (level_or0 p) (length image)) (Err NoNumber)) a b ≡ cond (a && (b && w)) (going (level_or0 p) (length image)) (stopped 16 3 9 0)
+    go true true true = refl
+    go true true false = refl
+    go true false b = refl
+    go false true true = refl
+    go false true false = refl
+    go false false b = refl
+
 -- With other domains a sound table carries them.
-module _ (x : Crossing) (apart : stays x ≡ false) (w : well_formed x.label ≡ true) (far keys : List ℕ) (room : table_sound x.table x.levels ≡ true → 120 + x.table.count ≤ length far) (c : Carried)
+module _ (x : Crossing) (apart : stays x ≡ false) (w : well_formed x.label ≡ true) (far keys : List ℕ) (room : table_sound x.table x.levels ≡ true → 120 + x.table.count ≤ length far) (c : CarryAnswer)
     (is : c ≡ carry_of (used x.label) x.label.level x.table x.levels (length far)) where
   abbrev image : List Run
   image = image_runs x.label x.table
@@ -84,22 +99,16 @@ module _ (x : Crossing) (apart : stays x ≡ false) (w : well_formed x.label ≡
   pub unsound_verdict : table_sound x.table x.levels ≡ false → said ≡ stopped 2 0 0 0
   unfolding numbered_by
   unsound_verdict t =
-      let e : c ≡ not_carried 2 = is ∙ carry_unsound (used x.label) x.label.level x.table x.levels (length far) t in
-      ap (λ (d : Carried). cond (eqb d.number 2) (stopped 2 0 0 0) (cond (eqb x.table.from x.domain && (eqb x.table.to x.leaving.domain && eqb d.number 0)) (going d.level d.count) (stopped 16 3 9 0))) e
+      ap (λ (d : CarryAnswer). numbered_by d (eqb x.table.from x.domain) (eqb x.table.to x.leaving.domain)) (is ∙ carry_unsound (used x.label) x.label.level x.table x.levels (length far) t)
 
   module _ (t : table_sound x.table x.levels ≡ true) where
     checked : c ≡ carried_to (partner x) whole image
     checked = is ∙ carry_checked (used x.label) x.label.level x.table x.levels (length far) t (label_runs_lem x.label w) (room t)
 
-    two : eqb c.number 2 ≡ false
-    two = ap (λ (d : Carried). eqb d.number 2) is ∙ carry_two (used x.label) x.label.level x.table x.levels (length far) (label_runs_lem x.label w) (room t) ∙ rw t
-
-    zero : eqb c.number 0 ≡ (known (partner x) && whole)
-    zero = ap (λ (d : Carried). eqb d.number 0) checked ∙ carried_number (partner x) whole image
-
-    said_is : said ≡ cond (has_numbers x) (going c.level c.count) (stopped 16 3 9 0)
-    unfolding numbered_by
-    said_is = rw (two, zero)
+    said_is : said ≡ cond (has_numbers x) (going (level_or0 (partner x)) (length image)) (stopped 16 3 9 0)
+    said_is =
+        ap (λ (d : CarryAnswer). numbered_by d (eqb x.table.from x.domain) (eqb x.table.to x.leaving.domain)) checked
+        ∙ numbered_to (eqb x.table.from x.domain) (eqb x.table.to x.leaving.domain) (partner x) whole image
 
     pub numberless_verdict : has_numbers x ≡ false → said ≡ stopped 16 3 9 0
     numberless_verdict h = said_is ∙ rw h
@@ -108,7 +117,7 @@ module _ (x : Crossing) (apart : stays x ≡ false) (w : well_formed x.label ≡
       all_numbered : (known (partner x) && whole) ≡ true
       all_numbered = and_right (eqb x.table.to x.leaving.domain) _ (and_right (eqb x.table.from x.domain) _ h)
 
-      carried_is : c ≡ record { number = 0; level = level_or0 (partner x); count = length image }
+      carried_is : c ≡ carried_as (level_or0 (partner x)) (length image)
       carried_is = checked ∙ carried_yes (partner x) whole image all_numbered
 
       runs_far : leaving_runs x ≡ image
@@ -117,7 +126,7 @@ module _ (x : Crossing) (apart : stays x ≡ false) (w : well_formed x.label ≡
 
       pub carried_verdict_lem : said ≡ leaving_verdict x
       unfolding leaving_level leaving_runs
-      carried_verdict_lem = said_is ∙ rw (h, apart) (ap (λ (d : Carried). going d.level d.count) carried_is)
+      carried_verdict_lem = said_is ∙ rw (h, apart)
 
       pub carried_over : keys ≡ carried_keys c image far → Over x keys
       unfolding number_check
@@ -126,7 +135,7 @@ module _ (x : Crossing) (apart : stays x ≡ false) (w : well_formed x.label ≡
             numbers = rw (apart, h);
             stands = ap (λ (rs : List Run). key_runs (take (length rs) keys)) runs_far
                 ∙ ap (λ (ks : List ℕ). key_runs (take (length image) ks)) e
-                ∙ carried_runs c image far (ap (λ (d : Carried). d.number) carried_is) (image_spaced x.table (used x.label))
+                ∙ carried_runs image far c _ carried_is (image_spaced x.table (used x.label))
                 ∙ sym runs_far;
             gaps = rw runs_far (image_spaced x.table (used x.label));
           }

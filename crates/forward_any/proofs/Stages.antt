@@ -26,17 +26,16 @@ use Rattle.area_leaving.specs.Kept.{kept_of}
 use Rattle.port.specs.Port.{port_sound, lowest_out, highest_out}
 use Rattle.port.proofs.Laws.{sound}
 use Rattle.table.specs.Table.{table_sound}
-use Rattle.renumber_keys.specs.declared.Carried.{Carried}
-use Rattle.renumber_keys.specs.Carry.{image_of, carried_keys, carry_of}
+use Rattle.renumber_keys.specs.Carry.{CarryAnswer, image_of, carried_keys, carry_of}
 use Rattle.decision.specs.declared.Verdict.{Verdict}
 use Rattle.decision.specs.Decision.{Refusal, silenced, done}
 use Rattle.arrive.specs.Checks.{silent, barred, when, first_of, basic_in, arriving_basic, missing_basic_check, basic_passes, arriving_label, range_check, arrival_checks}
 use Rattle.decision.specs.Verdict.{verdict_of, stopped, concluded}
 use Rattle.arrive.specs.Verdict.{arrival_of, Arrives}
 use Rattle.area.specs.Area.{bad_area, walk_of, octets_at}
-use Rattle.basic.specs.declared.BasicReading.{BasicReading}
+use Rattle.basic.specs.Alone.{BasicRead}
 use Rattle.basic.specs.declared.Way.{Way}
-use Rattle.basic.specs.Settings.{passes_way}
+use Rattle.basic.specs.Settings.{passes_read}
 use Rattle.arrive.specs.Stages.{held_between, before_range, basic_read}
 use Rattle.arrive.proofs.First.{first_append, first_one, first_none, Late, Early, early_first, between}
 use Rattle.arrive.proofs.Arrival.{Held, before_checks, arrival_early, arrival_held, arrival_late, off_none, on_some}
@@ -52,13 +51,13 @@ use Rattle.forward_any.proofs.Over.{Over, leaving_verdict, stays_verdict, stays_
 use Rattle.forward_rules.proofs.Forwards.{reach_checks, reach_arrival, reach_late, records_test, forward_area, forward_room, forward_record, forward_arrival, forward_number, forward_range, forward_spelling, forward_none, forward_refused, forward_written, kept_fits}
 
 -- 21 of the leaving port, by what a second walk found
-abbrev sending : Bool → Bool → Way → BasicReading → Option Refusal
-sending from on way x = when (not (cond from (on && passes_way way x.level x.flags) (not on))) (barred 21 9)
+abbrev sending : Bool → Bool → Way → BasicRead → Option Refusal
+sending from on way x = when (not (cond from (on && passes_read way x) (not on))) (barred 21 9)
 
 abbrev barred_by : Bool → Way → Option (List ℕ) → Option Refusal
 barred_by on way o = when (not (basic_passes on way o)) (barred 21 9)
 
-sending_off : (from on : Bool) (way : Way) (x : BasicReading) (o : Option (List ℕ)) → from ≡ false → o ≡ none → sending from on way x ≡ barred_by on way o
+sending_off : (from on : Bool) (way : Way) (x : BasicRead) (o : Option (List ℕ)) → from ≡ false → o ≡ none → sending from on way x ≡ barred_by on way o
 sending_off from on way x o e g = ap (λ (t : Bool). sending t on way x) e ∙ sym (ap (barred_by on way) g)
 
 sending_on : (from on : Bool) (way : Way) (b o : Option (List ℕ)) (x : List ℕ) → from ≡ true → b ≡ some x → o ≡ some x → sending from on way (basic_read b) ≡ barred_by on way o
@@ -437,7 +436,7 @@ module _ (f : Forwarding) (own own' far far' out out' : List ℕ) (a r u c h v :
               (k.0 ∙ ready_none ∙ stays_verdict x arrived_held.formed (eqb-true _ _ d) own' far far' s.own_kept own_stands far_long k.1)
 
           module _ (d : same_domain f ≡ false) where
-            carried : (g : Carried) × (g ≡ carry_of (used label) label.level f.table f.levels (length far)) × (c ≡ numbered_by g (eqb f.table.from f.arriving.domain) (eqb f.table.to f.leaving.domain)) × (far' ≡ carried_keys g (image_of f.table (used label)) far)
+            carried : (g : CarryAnswer) × (g ≡ carry_of (used label) label.level f.table f.levels (length far)) × (c ≡ numbered_by g (eqb f.table.from f.arriving.domain) (eqb f.table.to f.leaving.domain)) × (far' ≡ carried_keys g (image_of f.table (used label)) far)
             carried =
                 let k = crossed_carried u f.arriving.domain f.leaving.domain f.table f.levels own' far (eqb-false _ _ d) (ap (λ (w : Verdict). w.number) ready_none) in
                 let n : key_runs (take u.count own') ≡ used label = ap (λ (w : Verdict). key_runs (take w.count own')) ready_none ∙ own_stands in

@@ -2,7 +2,7 @@
 use mathlib.Core.Path.{◌≡◌, refl, sym, ◌∙◌, ap}
 use mathlib.Core.Bool.{Bool, true, false}
 use mathlib.Core.List.{List, [], ◌++◌, append_assoc, append-nil}
-use Prim.Native.Nat.{ℕ, suc, ◌+◌, ◌-◌, ◌<◌, ◌≤◌}
+use Prim.Native.Nat.{ℕ, suc, ◌+◌, ◌-◌, ◌*◌, ◌<◌, ◌≤◌}
 use native.Mathlib.Omega.{arith}
 use lib.Dec.{leb}
 use borrow.Author.Tests.{leb-true, leb-false}
@@ -71,14 +71,18 @@ step g w ins out out' ys at m ho hy inv e back =
     ∙ rw (parts.0, parts.1, sym (drop-drop 64 at ins))
 
 -- the same, in the terms of the loop: i of n records are done
-pub turn : (g : Gateway) (w ins out ys : List ℕ) (at n i k : ℕ) → k ≡ 64 → i < n → at + 64 ≤ length out → length ys ≡ 64
-    → w ≡ take at out ++ batch_of g (n - i) (drop at ins) (drop at out)
-    → ys ≡ slot_of g (take k (drop at ins)) (take k (drop at out))
-    → w ≡ take (at + 64) (take at out ++ (ys ++ drop k (drop at out))) ++ batch_of g (n - (i + 1)) (drop (at + 64) ins) (drop (at + 64) (take at out ++ (ys ++ drop k (drop at out))))
-turn g w ins out ys at n i k ek less ho hy inv e =
+pub turn : (g : Gateway) (w ins out ys : List ℕ) (n i k : ℕ) → k ≡ 64 → i < n → i * 64 + 64 ≤ length out → length ys ≡ 64
+    → w ≡ take (i * 64) out ++ batch_of g (n - i) (drop (i * 64) ins) (drop (i * 64) out)
+    → ys ≡ slot_of g (take k (drop (i * 64) ins)) (take k (drop (i * 64) out))
+    → w ≡ take ((i + 1) * 64) (take (i * 64) out ++ (ys ++ drop k (drop (i * 64) out)))
+    ++ batch_of g (n - (i + 1)) (drop ((i + 1) * 64) ins) (drop ((i + 1) * 64) (take (i * 64) out ++ (ys ++ drop k (drop (i * 64) out))))
+turn g w ins out ys n i k ek less ho hy inv e =
+    let at : ℕ = i * 64 in
     let more : n - i ≡ suc (n - (i + 1)) = omega arith in
-    step g w ins out (take at out ++ (ys ++ drop k (drop at out))) ys at (n - (i + 1)) ho hy (inv ∙ ap (λ (m : ℕ). take at out ++ batch_of g m (drop at ins) (drop at out)) more)
-    (e ∙ ap (λ (m : ℕ). slot_of g (take m (drop at ins)) (take m (drop at out))) ek) (ap (λ (m : ℕ). take at out ++ (ys ++ drop m (drop at out))) ek)
+    let next : (i + 1) * 64 ≡ i * 64 + 64 = omega arith in
+    rw next
+    (step g w ins out (take at out ++ (ys ++ drop k (drop at out))) ys at (n - (i + 1)) ho hy (inv ∙ ap (λ (m : ℕ). take at out ++ batch_of g m (drop at ins) (drop at out)) more)
+    (e ∙ ap (λ (m : ℕ). slot_of g (take m (drop at ins)) (take m (drop at out))) ek) (ap (λ (m : ℕ). take at out ++ (ys ++ drop m (drop at out))) ek))
 
 pub part_length : (xs : List ℕ) (at k : ℕ) → k ≡ 64 → at + 64 ≤ length xs → length (take k (drop at xs)) ≡ 64
 part_length xs at k e h =

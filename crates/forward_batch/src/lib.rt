@@ -169,9 +169,8 @@ fn forward_gated(
 {
     let mut own = [0u32; Label::MAX_RUNS];
     let mut far = [0u32; MOST_RUNS];
-    let mut at: usize = 0;
-    let mut i: usize = 0;
-    while i < n {
+    for i in 0..n {
+        let at = i * SLOT;
         let end = at + SLOT;
         forward_slot(
             near,
@@ -192,8 +191,6 @@ fn forward_gated(
             &input[at..end],
             &mut output[at..end],
         );
-        at = end;
-        i += 1;
     }
 }
 
@@ -266,9 +263,8 @@ fn forward_each(
     requires { (n * 64 ≤ length input.now) × (n * 64 ≤ length output.old) }
     ensures { output.new ≡ batch_of (record { arriving = arriving; leaving = leaving; table = lent table rows.now; levels = levels }) n input.now output.old }
 {
-    let mut at: usize = 0;
-    let mut i: usize = 0;
-    while i < n {
+    for i in 0..n {
+        let at = i * SLOT;
         let end = at + SLOT;
         forward_one(
             arriving,
@@ -279,8 +275,6 @@ fn forward_each(
             &input[at..end],
             &mut output[at..end],
         );
-        at = end;
-        i += 1;
     }
 }
 

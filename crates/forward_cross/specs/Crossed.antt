@@ -1,10 +1,10 @@
 -- What crossing to the leaving port's domain answers, and what the lent keys hold then.
-use Rattle.std.specs.Prelude.{Bool, cond, ◌&&◌, ◌||◌, List, ℕ, leb, eqb, length, take}
+use Rattle.std.specs.Prelude.{Bool, cond, ◌&&◌, ◌||◌, List, ℕ, leb, eqb, length, take, Ok, Err}
 use Rattle.lists.specs.Lists.{copied}
 use Rattle.label_keys.specs.Keys.{key_runs}
 use Rattle.table.specs.Table.{Lent, table_sound}
-use Rattle.renumber_keys.specs.declared.Carried.{Carried}
-use Rattle.renumber_keys.specs.Carry.{image_of, carried_keys, carry_of}
+use Rattle.renumber_keys.specs.declared.CarryError.TheVariants.{Unsound, NoNumber}
+use Rattle.renumber_keys.specs.Carry.{CarryAnswer, image_of, carried_keys, carry_of}
 use Rattle.decision.specs.declared.Verdict.{Verdict}
 use Rattle.decision.specs.Verdict.{stopped, going}
 
@@ -13,10 +13,10 @@ unfoldable pub tabled_by : Verdict → Lent → List (List ℕ) → Verdict
 tabled_by r table levels = cond (leb r.number 2 || table_sound table levels) r (stopped 2 0 0 0)
 
 -- 2 of the table, then 16; `from` and `to` say whether the table's domains are the two ports'
-unfoldable pub numbered_by : Carried → Bool → Bool → Verdict
-numbered_by c from to =
-    cond (eqb c.number 2) (stopped 2 0 0 0)
-    (cond (from && (to && eqb c.number 0)) (going c.level c.count) (stopped 16 3 9 0))
+unfoldable pub numbered_by : CarryAnswer → Bool → Bool → Verdict
+numbered_by (Err Unsound) from to = stopped 2 0 0 0
+numbered_by (Err NoNumber) from to = stopped 16 3 9 0
+numbered_by (Ok c) from to = cond (from && to) (going c.level c.count) (stopped 16 3 9 0)
 
 -- with equal domains the verdict stays; with others the table is looked at, and carries the keys where no check applies
 unfoldable pub crossed_by : Verdict → ℕ → ℕ → Lent → List (List ℕ) → List ℕ → ℕ → Verdict

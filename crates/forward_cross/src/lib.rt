@@ -5,9 +5,9 @@ ghost use Rattle.std.specs.Prelude.{◌≡◌, length};
 ghost use Rattle.table.specs.Table.{lent};
 ghost use Rattle.forward_cross.specs.Crossed.{tabled_by, numbered_by, crossed_by, crossed_keys};
 
-use decision::{Verdict, go_on, stop};
-use lists::copy_keys;
-use renumber_keys::{Carried, carry};
+use decision::{NETWORK_PROHIBITED, Verdict, barred, go_on, silent};
+use lists::copy_list;
+use renumber_keys::{Carried, CarryError, carry};
 use table::{Table, table_sound};
 use table_levels::Levels;
 
@@ -28,7 +28,7 @@ pub fn cross(
     let from = table.from;
     let to = table.to;
     if domain == leaving {
-        copy_keys(own, far);
+        copy_list(own, far);
         return arrived;
     }
     if arrived.number != 0 {
@@ -47,26 +47,24 @@ fn check_table(arrived: Verdict, table: Table, rows: &[u16], levels: Levels) -> 
         return arrived;
     }
     if !table_sound(table, rows, levels) {
-        return stop(2, 0, 0, 0);
+        return silent(2);
     }
     arrived
 }
 
 // What carrying the label over says: 2 of the table, then 16, also for a table of other domains.
-fn number_over(carried: Carried, from: bool, to: bool) -> Verdict
+#[tactic(auto, unfolding(crate::specs::Crossed::numbered_by))]
+fn number_over(carried: Result<Carried, CarryError>, from: bool, to: bool) -> Verdict
     ensures { result ≡ numbered_by carried from to }
 {
-    if carried.number == 2 {
-        return stop(2, 0, 0, 0);
+    match carried {
+        Err(CarryError::Unsound) => silent(2),
+        Err(CarryError::NoNumber) => barred(16, NETWORK_PROHIBITED),
+        Ok(carried) => {
+            if !(from & to) {
+                return barred(16, NETWORK_PROHIBITED);
+            }
+            go_on(carried.level, carried.count)
+        }
     }
-    if !from {
-        return stop(16, 3, 9, 0);
-    }
-    if !to {
-        return stop(16, 3, 9, 0);
-    }
-    if carried.number != 0 {
-        return stop(16, 3, 9, 0);
-    }
-    go_on(carried.level, carried.count)
 }

@@ -44,17 +44,16 @@ pub fn hold_sending(ready: Verdict, from: bool, on: bool, sending: Way, area: &[
     if !on {
         return bar_basic(ready);
     }
-    let read = find_basic(area);
     // copied here, where both ports read it, and not for every datagram
     let way = sending;
-    if passes_way(way, read.level, read.flags) {
-        return ready;
+    match find_basic(area) {
+        Some(read) if passes_way(way, read.level, read.flags) => ready,
+        _ => bar_basic(ready),
     }
-    bar_basic(ready)
 }
 
 // 21, where no check before it applies.
-fn bar_basic(ready: Verdict) -> Verdict
+pub fn bar_basic(ready: Verdict) -> Verdict
     ensures { result ≡ before_range ready (some (barred 21 9)) }
 {
     if !is_open(ready.number) {

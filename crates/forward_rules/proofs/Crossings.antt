@@ -8,6 +8,8 @@ use native.Mathlib.Omega.{arith}
 use lib.Dec.{leb, ltb, eqb}
 use lib.ListN.{length}
 use borrow.Author.Tests.{eq-eqb, ne_eqb, eqb-true, eqb-false, leb-true, leb-false, le-ltb, lt-ltb}
+use Rattle.std.specs.Prelude.{None, Some, Result, Ok, Err}
+use Rattle.std.specs.Option.{ok_or}
 use Rattle.label.specs.declared.Run.{Run}
 use Rattle.label.specs.declared.Label.{Label}
 use Rattle.label.specs.Runs.{spaced, subset}
@@ -18,13 +20,10 @@ use Rattle.label.proofs.Runs.{subset_sub, one_form}
 use Rattle.label.proofs.Labels.{formed, used_length, of_used}
 use Rattle.port.specs.Port.{port_sound, lowest_out, highest_out}
 use Rattle.port.proofs.Laws.{Range, sound}
-use Rattle.table_levels.specs.declared.Partner.{Partner}
-use Rattle.table_levels.specs.declared.Partner.TheVariants.{Level, Missing}
 use Rattle.table.specs.Table.{used_rows, table_sound}
-use Rattle.table_levels.specs.Levels.{known, level_or0}
+use Rattle.table_levels.specs.Levels.{Partner, known, level_or0}
 use Rattle.table.specs.Numbers.{numbered}
-use Rattle.renumber.specs.declared.Renumbered.{Renumbered}
-use Rattle.renumber.specs.Renumber.{not_renumbered, renumbered_as, image_runs, fitted, when_numbered, carried_of}
+use Rattle.renumber.specs.Renumber.{renumbered_as, image_runs, fitted, when_numbered, carried_of}
 use Rattle.renumber.specs.Theorems as far
 use Rattle.renumber_keys.proofs.Carrying.{image_spaced}
 use Rattle.renumber.proofs.Theorems.{held_label, carrying}
@@ -82,8 +81,8 @@ module _ (x : Crossing) (w : well_formed x.label ≡ true) (d : x.label.domain �
 
 -- With other domains the label is carried over.
 module _ (lo hi : Label) (d : ℕ) (img : List Run) where
-  abbrev answer_by : Partner → Bool → Renumbered
-  answer_by q n = when_numbered q n (λ v. cond (set_in_range lo hi v img) (fitted d v img) (not_renumbered 17))
+  abbrev answer_by : Partner → Bool → Result Label ℕ
+  answer_by q n = when_numbered 16 q n (λ v. cond (set_in_range lo hi v img) (fitted 18 d v img) (Err 17))
 
   abbrev checks_by : Partner → Bool → List (Option Refusal)
   checks_by q n =
@@ -93,22 +92,22 @@ module _ (lo hi : Label) (d : ℕ) (img : List Run) where
       ∷ []
 
   -- the answer says what the checks say
-  pub record Alike (q : Partner) (n : Bool) (r : Renumbered) : Type 0 where
-    pub refused : (r.number ≡ 0 → ⊥) → first_of (checks_by q n) ≡ some (barred r.number 9)
-    pub passed : r.number ≡ 0 → (first_of (checks_by q n) ≡ none) × (r ≡ renumbered_as (label_of d (level_or0 q) img))
+  abbrev Alike : Partner → Bool → Result Label ℕ → Type 0
+  Alike q n (Ok m) = (first_of (checks_by q n) ≡ none) × (m ≡ label_of d (level_or0 q) img)
+  Alike q n (Err k) = first_of (checks_by q n) ≡ some (barred k 9)
 
-  fits : (v : ℕ) (b : Bool) → leb (length img) 120 ≡ b → set_in_range lo hi v img ≡ true → Alike (Level v) true (cond b (renumbered_as (label_of d v img)) (not_renumbered 18))
-  fits v true e i = record { refused = λ h. absurd (h refl); passed = λ h. (rw (i, le-ltb 120 (length img) (leb-true _ _ e)), refl) }
-  fits v false e i = record { refused = λ h. rw (i, lt-ltb 120 (length img) (leb-false _ _ e)); passed = λ h. absurd (eighteen h) }
+  fits : (v : ℕ) (b : Bool) → leb (length img) 120 ≡ b → set_in_range lo hi v img ≡ true → Alike (Some v) true (ok_or (cond b (Some (label_of d v img)) None) 18)
+  fits v true e i = (rw (i, le-ltb 120 (length img) (leb-true _ _ e)), refl)
+  fits v false e i = rw (i, lt-ltb 120 (length img) (leb-false _ _ e))
 
-  ranged : (v : ℕ) (b : Bool) → set_in_range lo hi v img ≡ b → Alike (Level v) true (cond b (fitted d v img) (not_renumbered 17))
+  ranged : (v : ℕ) (b : Bool) → set_in_range lo hi v img ≡ b → Alike (Some v) true (cond b (fitted 18 d v img) (Err 17))
   ranged v true e = fits v (leb (length img) 120) refl e
-  ranged v false e = record { refused = λ h. rw e; passed = λ h. absurd (seventeen h) }
+  ranged v false e = rw e
 
   pub alike : (q : Partner) (n : Bool) → Alike q n (answer_by q n)
-  alike Missing n = record { refused = λ h. refl; passed = λ h. absurd (sixteen h) }
-  alike (Level v) false = record { refused = λ h. refl; passed = λ h. absurd (sixteen h) }
-  alike (Level v) true = ranged v (set_in_range lo hi v img) refl
+  alike None n = refl
+  alike (Some v) false = refl
+  alike (Some v) true = ranged v (set_in_range lo hi v img) refl
 
 module _ (x : Crossing) (apart : x.domain ≡ x.leaving.domain → ⊥) where
   differ : stays x ≡ false
@@ -129,21 +128,21 @@ module _ (x : Crossing) (apart : x.domain ≡ x.leaving.domain → ⊥) where
     unfolding leaving_level leaving_runs
     label_is = rw differ
 
-    module _ (r : Renumbered) (is : r ≡ carried_of x.label x.table x.levels (lowest_out x.leaving) (highest_out x.leaving)) where
+    module _ (r : Result Label ℕ) (is : r ≡ carried_of x.label x.table x.levels (lowest_out x.leaving) (highest_out x.leaving)) where
       both : Alike (lowest_out x.leaving) (highest_out x.leaving) x.table.to img (partner x) all r
       unfolding carried_of
       both = rw is (alike (lowest_out x.leaving) (highest_out x.leaving) x.table.to img (partner x) all)
 
-      pub crosses_refused : (r.number ≡ 0 → ⊥) → first_of (crossing_checks x) ≡ some (barred r.number 9)
-      crosses_refused h = checks_are ∙ both.refused h
+    pub crosses_refused : (n : ℕ) → Err n ≡ carried_of x.label x.table x.levels (lowest_out x.leaving) (highest_out x.leaving) → first_of (crossing_checks x) ≡ some (barred n 9)
+    crosses_refused n is = checks_are ∙ both (Err n) is
 
-      pub crosses_passed : r.number ≡ 0 → (first_of (crossing_checks x) ≡ none) × (r ≡ renumbered_as (leaving_label x))
-      crosses_passed h =
-          let q = both.passed h in
-          (checks_are ∙ q.0, q.1 ∙ ap (λ (n : ℕ). renumbered_as (label_of n (level_or0 (partner x)) img)) to ∙ ap renumbered_as (sym label_is))
+    pub crosses_passed : (m : Label) → Ok m ≡ carried_of x.label x.table x.levels (lowest_out x.leaving) (highest_out x.leaving) → (first_of (crossing_checks x) ≡ none) × (m ≡ leaving_label x)
+    crosses_passed m is =
+        let q = both (Ok m) is in
+        (checks_are ∙ q.0, q.1 ∙ ap (λ (n : ℕ). label_of n (level_or0 (partner x)) img) to ∙ sym label_is)
 
 -- what carrying the label over answers
-abbrev carried_by : Crossing → Renumbered
+abbrev carried_by : Crossing → Result Label ℕ
 carried_by x = carried_of x.label x.table x.levels (lowest_out x.leaving) (highest_out x.leaving)
 
 pub numbers : (x : Crossing) → stays x ≡ false → number_check x ≡ none → has_numbers x ≡ true
@@ -157,7 +156,7 @@ pub record Crossed (x : Crossing) : Type 0 where
   pub carried : carried_by x ≡ renumbered_as (leaving_label x)
 
 pub crossed : (x : Crossing) → stays x ≡ false → first_of (crossing_checks x) ≡ none → Crossed x
-crossed x s e = go (eqb (carried_by x).number 0) refl
+crossed x s e = go (carried_by x) refl
   where
     h : has_numbers x ≡ true
     h = numbers x s (first_none (crossing_checks x) e).0
@@ -168,10 +167,10 @@ crossed x s e = go (eqb (carried_by x).number 0) refl
     t : x.table.to ≡ x.leaving.domain
     t = eqb-true _ _ (and_left (eqb x.table.to x.leaving.domain) _ (and_right (eqb x.table.from x.domain) _ h))
 
-    go : (b : Bool) → eqb (carried_by x).number 0 ≡ b → Crossed x
-    go true z = record { from = f; to = t; carried = (crosses_passed x (eqb-false _ _ s) f t (carried_by x) refl (eqb-true _ _ z)).1 }
-    go false z =
-        let q = crosses_refused x (eqb-false _ _ s) f t (carried_by x) refl (eqb-false _ _ z) in
+    go : (r : Result Label ℕ) → r ≡ carried_by x → Crossed x
+    go (Ok m) z = record { from = f; to = t; carried = sym z ∙ ap Ok (crosses_passed x (eqb-false _ _ s) f t m z).1 }
+    go (Err n) z =
+        let q = crosses_refused x (eqb-false _ _ s) f t n z in
         let y : ◌≡◌ {A = ℕ} 0 1 = cc in
         absurd (omega arith)
 

@@ -10,9 +10,8 @@ use Rattle.option_form.specs.Spelled.{lacking, length_of}
 use Rattle.port.specs.declared.Port.{Port}
 use Rattle.port.specs.Port.{port_sound, lowest_out, highest_out}
 use Rattle.decision.specs.declared.Facts.{Facts}
-use Rattle.table_levels.specs.declared.Partner.{Partner}
 use Rattle.table.specs.Table.{Lent, used_rows, table_sound}
-use Rattle.table_levels.specs.Levels.{partner_of, known, level_or0}
+use Rattle.table_levels.specs.Levels.{Partner, partner_of, known, level_or0}
 use Rattle.table.specs.Numbers.{numbered}
 use Rattle.renumber.specs.Renumber.{image_runs}
 use Rattle.decision.specs.Decision.{Refusal}

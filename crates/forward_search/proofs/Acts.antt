@@ -6,10 +6,10 @@ use Prim.Native.Nat.{ℕ}
 use lib.Dec.{leb}
 use lib.ListN.{length, take, get_or}
 use borrow.Author.Tests.{eq-eqb, ne_eqb}
+use Rattle.std.specs.Prelude.{Option}
 use Rattle.lists.specs.Lists.{copied}
 use Rattle.label_keys.specs.Keys.{key_runs}
 use Rattle.table.specs.declared.Row.{Row}
-use Rattle.renumber_search.specs.declared.Searched.{Searched}
 use Rattle.renumber_search.specs.Search.{searched_of, searched_keys}
 use Rattle.decision.specs.declared.Verdict.{Verdict}
 use Rattle.decision.specs.Verdict.{stopped}
@@ -36,9 +36,9 @@ module _ (r : Verdict) (same there : Bool) (partners : List ℕ) (rows : List Ro
       unfolding crossed_acts acts_keys
       acts_none l v q = let z : leads r there partners ≡ false = sym lead_is ∙ l in (q ∙ sym (rw (e, eq-eqb _ _ n, z)), sym (rw (e, eq-eqb _ _ n, z)))
 
-      pub acts_searched : (there && leb to 255) ≡ true → (s : Searched) → s ≡ searched_of rows (key_runs (take r.count own)) (length far)
+      pub acts_searched : (there && leb to 255) ≡ true → (s : Option ℕ) → s ≡ searched_of rows (key_runs (take r.count own)) (length far)
           → (keys : List ℕ) → keys ≡ searched_keys rows (key_runs (take r.count own)) far → (v : Verdict) → v ≡ carried_verdict s to → Acts v keys
       unfolding crossed_acts acts_keys
       acts_searched l s es keys ek v ev =
           let z : leads r there partners ≡ true = sym lead_is ∙ l in
-          (ev ∙ ap (λ (x : Searched). carried_verdict x to) es ∙ ap (carried_verdict (searched_of rows (key_runs (take r.count own)) (length far))) p ∙ sym (rw (e, eq-eqb _ _ n, z)), ek ∙ sym (rw (e, eq-eqb _ _ n, z)))
+          (ev ∙ ap (λ (x : Option ℕ). carried_verdict x to) es ∙ ap (carried_verdict (searched_of rows (key_runs (take r.count own)) (length far))) p ∙ sym (rw (e, eq-eqb _ _ n, z)), ek ∙ sym (rw (e, eq-eqb _ _ n, z)))

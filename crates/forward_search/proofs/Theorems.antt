@@ -10,62 +10,62 @@ use lib.Dec.{leb, eqb}
 use lib.ListN.{length, take, drop, get_or, length-append, length-take, length-drop, drop_of_length-le, take-append-drop}
 use lib.Seq.{take_all, drop_at}
 use borrow.Author.Tests.{leb-true, eq-eqb, eqb-true}
+use Rattle.std.specs.Prelude.{Option, None, Some}
 use Rattle.lists.specs.Lists.{copied}
 use Rattle.label.proofs.Bools.{never, and_right, or_true_right}
 use Rattle.table_levels.proofs.Partners.{missing_not}
 use Rattle.renumber_keys.proofs.Carrying.{carried_keys_lem}
 use Rattle.label.specs.declared.Run.{Run}
 use Rattle.label_keys.specs.Keys.{key_runs, run_key}
-use Rattle.table_levels.specs.declared.Partner.{Partner}
-use Rattle.table_levels.specs.declared.Partner.TheVariants.{Level, Missing}
-use Rattle.table_levels.specs.Levels.{partner_of, partner_number, partner_from, known, level_or0}
+use Rattle.table_levels.specs.Levels.{Partner, partner_of, partner_number, partner_from, known, level_or0}
 use Rattle.table.specs.Table.{Lent, used_rows, table_sound}
 use Rattle.table.specs.Numbers.{numbered}
 use Rattle.decision.specs.declared.Verdict.{Verdict}
-use Rattle.decision.specs.Verdict.{stopped, going}
-use Rattle.renumber_keys.specs.declared.Carried.{Carried}
-use Rattle.renumber_keys.specs.Carry.{image_of, label_runs, not_carried, carried_keys, carry_of}
+use Rattle.decision.specs.Verdict.{stopped}
+use Rattle.renumber_keys.specs.Carry.{CarryAnswer, image_of, label_runs, carried_as, carried_keys, carry_of}
 use Rattle.renumber_partners.specs.Partners.{partners_in}
 use Rattle.renumber_partners.proofs.Theorems.{partners_listed}
-use Rattle.renumber_search.specs.declared.Searched.{Searched}
-use Rattle.renumber_search.specs.Search.{searched_to, searched_of, searched_keys}
+use Rattle.renumber_search.specs.Search.{searched_of, searched_keys}
+use Rattle.renumber_search.specs.Theorems.{carried_where}
 use Rattle.renumber_search.proofs.Carries.{search_carries}
 use Rattle.forward_cross.specs.Crossed.{tabled_by, numbered_by, crossed_by, crossed_keys}
 use Rattle.forward_search.specs.Acts.{carried_verdict, leads, crossed_acts, acts_keys}
 use Rattle.forward_search.specs.Theorems.{acts, keys, ActsCross}
 
 -- what the search and the partner say together
-partner_small : (v : ℕ) → partner_from v ≡ Level v → leb v 255 ≡ true
+partner_small : (v : ℕ) → partner_from v ≡ Some v → leb v 255 ≡ true
 partner_small v f = go (leb v 255) refl f
   where
-    go : (t : Bool) → leb v 255 ≡ t → cond t (Level v) Missing ≡ Level v → t ≡ true
+    go : (t : Bool) → leb v 255 ≡ t → cond t (Some v) None ≡ Some v → t ≡ true
     go true e k = refl
     go false e k = absurd (missing_not v k)
 
-numbered_search : (p : Partner) (to : ℕ) (s : Searched) (from back : Bool) → to ≡ partner_number p → partner_from to ≡ p
-    → numbered_by (cond (known p && s.whole) (record { number = 0; level = level_or0 p; count = s.count }) (not_carried 16)) from back
-    ≡ cond ((from && back) && leb to 255) (carried_verdict s to) (stopped 16 3 9 0)
+numbered_search : (p : Partner) (to : ℕ) (s : Option ℕ) (from back : Bool) → to ≡ partner_number p → partner_from to ≡ p
+    → numbered_by (carried_where p s) from back ≡ cond ((from && back) && leb to 255) (carried_verdict s to) (stopped 16 3 9 0)
 unfolding numbered_by
-numbered_search Missing to s from back e f = rw e (go from back)
+numbered_search None to s from back e f = rw e (go from back)
   where
-    go : (x y : Bool) → numbered_by (not_carried 16) x y ≡ cond ((x && y) && false) (carried_verdict s 256) (stopped 16 3 9 0)
+    go : (x y : Bool) → stopped 16 3 9 0 ≡ cond ((x && y) && false) (carried_verdict s 256) (stopped 16 3 9 0)
     go true true = refl
     go true false = refl
     go false y = refl
-numbered_search (Level v) to s from back e f =
+numbered_search (Some v) to s from back e f =
     let l : leb v 255 ≡ true = partner_small v (rw e at f) in
     let m : v % 256 ≡ v = mod-eq_of_lt (omega (arith, leb-true v 255 l)) in
-    rw (e, l, m) (go s.whole from back)
+    rw (e, l) (go m s from back)
   where
-    go : (w x y : Bool)
-        → numbered_by (cond w (record { number = 0; level = v; count = s.count }) (not_carried 16)) x y
-        ≡ cond ((x && y) && true) (cond w (going v s.count) (stopped 16 3 9 0)) (stopped 16 3 9 0)
-    go true true true = refl
-    go true true false = refl
-    go true false y = refl
-    go false true true = refl
-    go false true false = refl
-    go false false y = refl
+    go : v % 256 ≡ v → (w : Option ℕ) (x y : Bool) → numbered_by (carried_where (Some v) w) x y ≡ cond ((x && y) && true) (carried_verdict w v) (stopped 16 3 9 0)
+    go m (Some n) true true = rw m
+    go m (Some n) true false = refl
+    go m (Some n) false y = refl
+    go m None true true = refl
+    go m None true false = refl
+    go m None false y = refl
+
+-- a partner and the runs that were found are carried
+where_ok : (p : Partner) (s : Option ℕ) (n : ℕ) → known p ≡ true → s ≡ Some n → carried_where p s ≡ carried_as (level_or0 p) n
+where_ok None s n q e = absurd (never (sym q))
+where_ok (Some v) s n q e = rw e
 
 -- copied once more, nothing changes
 copied_sized : (xs out : List ℕ) → length (copied xs out) ≡ length out
@@ -81,9 +81,9 @@ copied_twice xs out =
       | no u ↦ drop_of_length-le (copied xs out) {i = length xs} (omega (arith, copied_sized xs out)) ∙ sym (drop_of_length-le out {i = length xs} (omega arith))
     ]
 
-whole_numbered : (b : Bool) (x : Searched) (n : ℕ) → x ≡ cond b (searched_to true n) (searched_to false 0) → x.whole ≡ true → b ≡ true
-whole_numbered true x n e w = refl
-whole_numbered false x n e w = sym (ap (λ (z : Searched). z.whole) e) ∙ w
+found_numbered : (b : Bool) (x : Option ℕ) (n m : ℕ) → x ≡ cond b (Some n) None → x ≡ Some m → b ≡ true
+found_numbered true x n m e w = refl
+found_numbered false x n m e w = absurd (missing_not m (sym e ∙ w))
 
 -- the ways of a verdict
 same_ways : {A : Type 0} (b z : Bool) (r x y t : A) → (z ≡ true → x ≡ y) → t ≡ r → cond b r (cond z x r) ≡ cond b r (cond z y t)
@@ -108,7 +108,7 @@ module _ (r : Verdict) (domain leaving : ℕ) (t : Lent) (ls : List (List ℕ)) 
   abbrev there : Bool
   there = eqb t.from domain && eqb t.to leaving
 
-  abbrev found : Searched
+  abbrev found : Option ℕ
   found = searched_of (used_rows t) runs (length far)
 
   number_is : to ≡ partner_number p
@@ -117,7 +117,7 @@ module _ (r : Verdict) (domain leaving : ℕ) (t : Lent) (ls : List (List ℕ)) 
   partner_is : partner_from to ≡ p
   partner_is = partners_listed.partner t ls was r.level s long small
 
-  carried_is : r.number ≡ 0 → carry_of runs r.level t ls (length far) ≡ cond (known p && found.whole) (record { number = 0; level = level_or0 p; count = found.count }) (not_carried 16)
+  carried_is : r.number ≡ 0 → carry_of runs r.level t ls (length far) ≡ carried_where p found
   carried_is n = search_carries.carried t ls runs r.level (length far) s (formed n) room
 
   same_verdict : acts r domain leaving t ls own was far ≡ crossed_by r domain leaving t ls own (length far)
@@ -128,36 +128,36 @@ module _ (r : Verdict) (domain leaving : ℕ) (t : Lent) (ls : List (List ℕ)) 
       (cond (leads r there partners) (carried_verdict found to) (stopped 16 3 9 0))
       (numbered_by (carry_of runs r.level t ls (length far)) (eqb t.from domain) (eqb t.to leaving))
       (cond (leb r.number 2 || table_sound t ls) r (stopped 2 0 0 0))
-      (λ e. sym (ap (λ (c : Carried). numbered_by c (eqb t.from domain) (eqb t.to leaving)) (carried_is (eqb-true _ _ e)) ∙ numbered_search p to found (eqb t.from domain) (eqb t.to leaving) number_is partner_is))
+      (λ e. sym (ap (λ (c : CarryAnswer). numbered_by c (eqb t.from domain) (eqb t.to leaving)) (carried_is (eqb-true _ _ e)) ∙ numbered_search p to found (eqb t.from domain) (eqb t.to leaving) number_is partner_is))
       (rw w)
 
   -- the keys where the search was made and found every category's number
-  found_keys : r.number ≡ 0 → leb to 255 ≡ true → found.whole ≡ true → (keys : List ℕ) → keys ≡ searched_keys (used_rows t) runs far
+  found_keys : (n : ℕ) → r.number ≡ 0 → leb to 255 ≡ true → found ≡ Some n → (keys : List ℕ) → keys ≡ searched_keys (used_rows t) runs far
       → keys ≡ carried_keys (carry_of runs r.level t ls (length keys)) (image_of t runs) keys
-  found_keys n l w keys e =
+  found_keys k n l w keys e =
       let z : length keys ≡ length far = ap length e ∙ search_carries.sized (used_rows t) runs far in
       let q : known p ≡ true = ap known (sym partner_is) ∙ rw l in
-      let c : (carry_of runs r.level t ls (length keys)).number ≡ 0 = ap (λ (k : ℕ). (carry_of runs r.level t ls k).number) z ∙ ap (λ (x : Carried). x.number) (carried_is n) ∙ rw (q, w) in
+      let c : carry_of runs r.level t ls (length keys) ≡ carried_as (level_or0 p) k = ap (carry_of runs r.level t ls) z ∙ carried_is n ∙ where_ok p found k q w in
       let a = search_carries.carries t ls runs s (formed n) in
-      let m : numbered (used_rows t) runs ≡ true = whole_numbered (numbered (used_rows t) runs) found (length (image_of t runs)) (a.answer (length far) room) w in
+      let m : numbered (used_rows t) runs ≡ true = found_numbered (numbered (used_rows t) runs) found (length (image_of t runs)) k (a.answer (length far) room) w in
       let h : take (length (image_of t runs)) keys ≡ map run_key (image_of t runs) = ap (take (length (image_of t runs))) e ∙ a.keys far room m in
       sym (take-append-drop (length (image_of t runs)) keys)
       ∙ ap (λ (x : List ℕ). x ++ drop (length (image_of t runs)) keys) h
-      ∙ sym (carried_keys_lem (carry_of runs r.level t ls (length keys)) (image_of t runs) keys c)
+      ∙ sym (carried_keys_lem (image_of t runs) keys (carry_of runs r.level t ls (length keys)) _ c)
 
   same_keys : (acts r domain leaving t ls own was far).number ≡ 0 → keys r domain leaving t ls own was far ≡ crossed_keys r domain leaving t ls own (keys r domain leaving t ls own was far)
   unfolding crossed_acts acts_keys crossed_keys
-  same_keys = go (eqb domain leaving) (eqb r.number 0) (leads r there partners) found.whole refl refl refl
+  same_keys = go (eqb domain leaving) (eqb r.number 0) (leads r there partners) found refl refl refl
     where
       at : (b z l : Bool) → List ℕ
       at b z l = cond b (copied own far) (cond z (cond l (searched_keys (used_rows t) runs far) far) far)
 
-      go : (b z l w : Bool) → eqb r.number 0 ≡ z → leads r there partners ≡ l → found.whole ≡ w
-          → (cond b r (cond z (cond l (cond w (going (to % 256) found.count) (stopped 16 3 9 0)) (stopped 16 3 9 0)) r)).number ≡ 0
+      go : (b z l : Bool) (w : Option ℕ) → eqb r.number 0 ≡ z → leads r there partners ≡ l → found ≡ w
+          → (cond b r (cond z (cond l (carried_verdict w to) (stopped 16 3 9 0)) r)).number ≡ 0
           → at b z l ≡ cond b (copied own (at b z l)) (cond z (carried_keys (carry_of runs r.level t ls (length (at b z l))) (image_of t runs) (at b z l)) (at b z l))
       go true z l w ez el ew h = copied_twice own far
-      go false true true true ez el ew h = found_keys (eqb-true _ _ ez) (and_right there _ el) ew (searched_keys (used_rows t) runs far) refl
-      go false true true false ez el ew h = absurd (omega arith)
+      go false true true (Some n) ez el ew h = found_keys n (eqb-true _ _ ez) (and_right there _ el) ew (searched_keys (used_rows t) runs far) refl
+      go false true true None ez el ew h = absurd (omega arith)
       go false true false w ez el ew h = absurd (omega arith)
       go false false l w ez el ew h = absurd (never (sym (eq-eqb _ _ h) ∙ ez))
 

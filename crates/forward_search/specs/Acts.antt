@@ -1,16 +1,16 @@
 -- What crossing under a table that was checked once answers, of whatever it is given, and what the lent keys hold then. `specs/Theorems.antt` says what that is of a sound table.
-use Rattle.std.specs.Prelude.{Bool, cond, ◌&&◌, List, ℕ, ◌%◌, leb, eqb, take, get_or}
+use Rattle.std.specs.Prelude.{Bool, cond, ◌&&◌, List, ℕ, ◌%◌, leb, eqb, take, get_or, Option, None, Some}
 use Rattle.lists.specs.Lists.{copied}
 use Rattle.label_keys.specs.Keys.{key_runs}
 use Rattle.table.specs.declared.Row.{Row}
-use Rattle.renumber_search.specs.declared.Searched.{Searched}
 use Rattle.renumber_search.specs.Search.{searched_of, searched_keys}
 use Rattle.decision.specs.declared.Verdict.{Verdict}
 use Rattle.decision.specs.Verdict.{stopped, going}
 
 -- what the search says, of a level with a partner
-abbrev pub carried_verdict : Searched → ℕ → Verdict
-carried_verdict s to = cond s.whole (going (to % 256) s.count) (stopped 16 3 9 0)
+abbrev pub carried_verdict : Option ℕ → ℕ → Verdict
+carried_verdict None to = stopped 16 3 9 0
+carried_verdict (Some n) to = going (to % 256) n
 
 -- there is a table for the two domains, and the level has a partner
 abbrev pub leads : Verdict → Bool → List ℕ → Bool

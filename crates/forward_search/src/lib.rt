@@ -8,10 +8,10 @@ ghost use Rattle.table.specs.Table.{rows_from};
 ghost use Rattle.renumber_search.specs.Search.{searched_of};
 ghost use Rattle.forward_search.specs.Acts.{carried_verdict, crossed_acts, acts_keys};
 
-use decision::{Verdict, go_on, stop};
-use lists::copy_keys;
+use decision::{NETWORK_PROHIBITED, Verdict, barred, go_on};
+use lists::copy_list;
 use renumber_partners::partner_at;
-use renumber_search::{Searched, carry_rows};
+use renumber_search::carry_rows;
 
 // With equal domains (`same`) the verdict stays, and the keys are copied. Else, where no check applies: 16 where no table is for the two domains (`there`), or the level or a category has no
 // number; else the keys of the far domain.
@@ -28,7 +28,7 @@ pub fn cross_checked(
     ensures far_after { far.new ≡ acts_keys arrived same there partners.now (rows_from rows.now) own.now far.old }
 {
     if same {
-        copy_keys(own, far);
+        copy_list(own, far);
         return arrived;
     }
     if arrived.number != 0 {
@@ -37,18 +37,17 @@ pub fn cross_checked(
     let to = partner_at(partners, arrived.level);
     let known = to <= 255;
     if !(there & known) {
-        return stop(16, 3, 9, 0);
+        return barred(16, NETWORK_PROHIBITED);
     }
-    let searched = carry_rows(own, arrived.count, rows, far);
-    verdict_of(searched, to)
+    verdict_of(carry_rows(own, arrived.count, rows, far), to)
 }
 
 // What the search says, of a level with a partner.
-fn verdict_of(searched: Searched, to: u16) -> Verdict
-    ensures { result ≡ carried_verdict searched to }
+fn verdict_of(runs: Option<usize>, to: u16) -> Verdict
+    ensures { result ≡ carried_verdict runs to }
 {
-    if !searched.whole {
-        return stop(16, 3, 9, 0);
+    match runs {
+        None => barred(16, NETWORK_PROHIBITED),
+        Some(count) => go_on((to % 256) as u8, count),
     }
-    go_on((to % 256) as u8, searched.count)
 }

@@ -8,7 +8,6 @@ use area::AREA_OCTETS;
 use area_leaving::{count_kept, write_rest};
 use decision::{NETWORK_PROHIBITED, Verdict, barred};
 use label::Label;
-use lists::lesser;
 use option::Spellings;
 use option_form::keys_length;
 use option_write::write_keys;
@@ -44,7 +43,7 @@ pub fn fit(
     if unlabelled {
         return held;
     }
-    let m = lesser(n, keys.len());
+    let m = n.min(keys.len());
     let size = keys_length(&keys[..m], permitted);
     if !has_room(size, kept) {
         return barred(18, NETWORK_PROHIBITED);
@@ -82,7 +81,7 @@ pub fn write_area(
     if verdict.number != 0 {
         return 0;
     }
-    let n = lesser(verdict.count, keys.len());
+    let n = verdict.count.min(keys.len());
     let level = verdict.level;
     let size = put_option(
         unlabelled,

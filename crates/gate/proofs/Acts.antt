@@ -17,16 +17,14 @@ use Rattle.label.specs.Label.{used, label_of}
 use Rattle.label.proofs.Labels.{used_of}
 use Rattle.label_keys.specs.Keys.{key_run, key_runs, run_key, keys_fit, with_keys}
 use Rattle.label_keys.specs.Range.{answered, look_of, runs_between}
-use Rattle.option_read.specs.declared.Reading.{Reading}
-use Rattle.option_read.specs.declared.KeyReading.{KeyReading}
+use Rattle.option_read.specs.Reading.{Reading}
+use Rattle.option_read.specs.Keys.{KeyReading}
 use Rattle.option_read.specs.Reading.{reading_for}
 use Rattle.option_read.specs.Keys.{keyed, labelled, key_reading_for, keys_after, ReadsKeys}
 use Rattle.option_slack.specs.Strict.{stops_slack}
 use Rattle.option_slack.proofs.Strict.{strict_else, strict_stops}
-use Rattle.area.specs.declared.Place.{Place}
-use Rattle.area.specs.declared.Place.TheVariants.{Nowhere, At}
-use Rattle.area.specs.declared.Walk.{Walk}
-use Rattle.area.specs.declared.Walk.TheVariants.{Sound, Refused}
+use Rattle.std.specs.Prelude.{Ok, Err, Some, None}
+use Rattle.area.specs.Kinds.{Place, Walk, places, fault}
 use Rattle.area.specs.Area.{bad_area, walk_of}
 use Rattle.area.proofs.Laws.{area_refused, off_nowhere, slice_is}
 use Rattle.port.specs.declared.Port.{Port}
@@ -52,7 +50,7 @@ key_back (k ∷ ks) =
     let t = key_back ks in
     λ i. e i ∷ t i
 
-pub acts_required : (p : Port) (area keys : List ℕ) (code : ℕ) → p.required ≡ true → ActsAt Nowhere p area code keys keys (stopped 6 12 1 134)
+pub acts_required : (p : Port) (area keys : List ℕ) (code : ℕ) → p.required ≡ true → ActsAt None p area code keys keys (stopped 6 12 1 134)
 acts_required p area keys code e = record { answer = rw e; left = rw e; stands = λ z h. absurd (omega arith) }
 
 -- the assigned label, given by its keys
@@ -60,7 +58,7 @@ module _ (p : Port) (area keys : List ℕ) (code : ℕ) (d v : ℕ) (given : Lis
   count_is : (label_of d v (key_runs given)).count ≡ length given
   count_is = length-map given key_run
 
-  going_is : going v (length given) ≡ verdict_of (first_of (place_acts Nowhere p area code)) (label_by Nowhere p area).level (label_by Nowhere p area).count
+  going_is : going v (length given) ≡ verdict_of (first_of (place_acts None p area code)) (label_by None p area).level (label_by None p area).count
   going_is = rw e ((λ i. going v (sym count_is i)) ∙ sym (ap (λ (l : Label). going l.level l.count) is))
 
   over_keys : 120 < length given → with_keys (label_of d v (key_runs given)) keys ≡ keys
@@ -73,7 +71,7 @@ module _ (p : Port) (area keys : List ℕ) (code : ℕ) (d v : ℕ) (given : Lis
       rw (used_of d v (key_runs given), key_back given, count_is, le-leb (length given) 120 h, le-leb (length given) (length keys) (omega arith))
       (sym (copied_whole given keys (omega arith)))
 
-  pub acts_over : 120 < length given → ActsAt Nowhere p area code keys keys (going v (length given))
+  pub acts_over : 120 < length given → ActsAt None p area code keys keys (going v (length given))
   acts_over h =
       record {
         answer = going_is;
@@ -81,7 +79,7 @@ module _ (p : Port) (area keys : List ℕ) (code : ℕ) (d v : ℕ) (given : Lis
         stands = λ z w. absurd (omega (arith, rw (is, count_is) at w));
       }
 
-  pub acts_assigned : (keys' : List ℕ) → length given ≤ 120 → keys' ≡ copied given keys → ActsAt Nowhere p area code keys keys' (going v (length given))
+  pub acts_assigned : (keys' : List ℕ) → length given ≤ 120 → keys' ≡ copied given keys → ActsAt None p area code keys keys' (going v (length given))
   acts_assigned keys' h w =
       record {
         answer = going_is;
@@ -97,7 +95,7 @@ module _ (p : Port) (area keys keys' : List ℕ) (at code : ℕ) (r : KeyReading
   abbrev whole : Reading
   whole = labelled p.domain r keys'
 
-  left_is : keys' ≡ keys_by (At at) p area keys
+  left_is : keys' ≡ keys_by (Some at) p area keys
   left_is = is.left ∙ ap (λ (o : List ℕ). keys_after p.domain o keys) (slice_is at area)
 
   answer_is : r ≡ keyed (reading_for p.domain (option_at at area))
@@ -122,11 +120,11 @@ module _ (p : Port) (area keys keys' : List ℕ) (at code : ℕ) (r : KeyReading
   stops_is : (b : Bool) → stops ≡ b → stops_slack p.strict (reading_for p.domain (option_at at area)).number (option_at at area) ≡ b
   stops_is b e = (λ i. stops_slack p.strict (sym reading_is i).number (sym (slice_is at area) i)) ∙ e
 
-  pub acts_slack : stops ≡ true → ActsAt (At at) p area code keys keys' (stopped 23 12 0 (20 + (at + 10)))
+  pub acts_slack : stops ≡ true → ActsAt (Some at) p area code keys keys' (stopped 23 12 0 (20 + (at + 10)))
   acts_slack e =
       record {
         answer = sym
-            (ap (λ (x : Reading). read_acts (outside (At at) p area) x (reading_for p.domain (option_at at area)))
+            (ap (λ (x : Reading). read_acts (outside (Some at) p area) x (reading_for p.domain (option_at at area)))
             (strict_stops p.strict p.domain (option_at at area) (stops_is true e)));
         left = left_is;
         stands = λ z w. absurd (omega arith);
@@ -135,12 +133,12 @@ module _ (p : Port) (area keys keys' : List ℕ) (at code : ℕ) (r : KeyReading
   strict_is : stops ≡ false → read_at p (option_at at area) ≡ reading_for p.domain (option_at at area)
   strict_is e = strict_else p.strict p.domain (option_at at area) (stops_is false e)
 
-  pub acts_refused : stops ≡ false → (r.number ≡ 0 → ⊥) → ActsAt (At at) p area code keys keys' (stopped r.number 12 0 (20 + (at + r.pointer)))
+  pub acts_refused : stops ≡ false → (r.number ≡ 0 → ⊥) → ActsAt (Some at) p area code keys keys' (stopped r.number 12 0 (20 + (at + r.pointer)))
   acts_refused passed h =
-      let q : read_acts (outside (At at) p area) whole whole ≡ stopped r.number 12 0 (20 + (at + r.pointer)) = rw (ne_eqb r.number 0 h) in
+      let q : read_acts (outside (Some at) p area) whole whole ≡ stopped r.number 12 0 (20 + (at + r.pointer)) = rw (ne_eqb r.number 0 h) in
       record {
-        answer = sym q ∙ ap (λ (x : Reading). read_acts (outside (At at) p area) x x) reading_is
-            ∙ sym (ap (λ (x : Reading). read_acts (outside (At at) p area) x (reading_for p.domain (option_at at area))) (strict_is passed));
+        answer = sym q ∙ ap (λ (x : Reading). read_acts (outside (Some at) p area) x x) reading_is
+            ∙ sym (ap (λ (x : Reading). read_acts (outside (Some at) p area) x (reading_for p.domain (option_at at area))) (strict_is passed));
         left = left_is;
         stands = λ z w. absurd (h z);
       }
@@ -149,19 +147,19 @@ module _ (p : Port) (area keys keys' : List ℕ) (at code : ℕ) (r : KeyReading
     used_is : used whole.label ≡ key_runs (take r.count keys')
     used_is = used_of (cond (eqb r.number 0) p.domain 0) r.level (key_runs (take r.count keys'))
 
-    held_is : held_between p.lowest p.highest (going r.level r.count) keys' ≡ label_between p.lowest p.highest (label_by (At at) p area)
+    held_is : held_between p.lowest p.highest (going r.level r.count) keys' ≡ label_between p.lowest p.highest (label_by (Some at) p area)
     held_is =
         ap (λ (rs : List Run). answered (look_of p.lowest p.highest r.level rs) (runs_between p.lowest p.highest rs)) (sym used_is)
         ∙ ap (λ (x : Reading). label_between p.lowest p.highest x.label) reading_is
 
-    counted : going r.level r.count ≡ going (label_by (At at) p area).level (label_by (At at) p area).count
+    counted : going r.level r.count ≡ going (label_by (Some at) p area).level (label_by (Some at) p area).count
     counted = ap (λ (x : KeyReading). going x.level x.count) answer_is
 
     number_is : eqb (read_at p (option_at at area)).number 0 ≡ true
     number_is = ap (λ (x : Reading). eqb x.number 0) (strict_is passed ∙ sym reading_is) ∙ eq-eqb r.number 0 z
 
     pub acts_held : (b : Bool) → b ≡ held_between p.lowest p.highest (going r.level r.count) keys'
-        → ActsAt (At at) p area code keys keys' (cond b (going r.level r.count) (stopped 14 3 code 0))
+        → ActsAt (Some at) p area code keys keys' (cond b (going r.level r.count) (stopped 14 3 code 0))
     acts_held true e =
         record {
           answer = counted ∙ sym (rw (number_is, sym (e ∙ held_is)));
@@ -177,18 +175,18 @@ module _ (p : Port) (area keys keys' : List ℕ) (at code : ℕ) (r : KeyReading
 
 -- 3. Check 1, the walk, and 19 to 21 between.
 
-pub acts_walk : (p : Port) (area : List ℕ) (code n at : ℕ) → walk_at p area ≡ Refused n at → first_of (acts_checks p area code) ≡ some (faulty n at)
+pub acts_walk : (p : Port) (area : List ℕ) (code n at : ℕ) → walk_at p area ≡ Err (fault n at) → first_of (acts_checks p area code) ≡ some (faulty n at)
 unfolding walk_check
 acts_walk p area code n at e = rw e
 
-pub acts_placed : (p : Port) (area : List ℕ) (code : ℕ) (l b : Place) → walk_at p area ≡ Sound l b
+pub acts_placed : (p : Port) (area : List ℕ) (code : ℕ) (l b : Place) → walk_at p area ≡ Ok (places l b)
     → (first_of (acts_checks p area code)
     ≡ first_of ((required_by l p ∷ option_by l p area ∷ []) ++ (basic_checks b p.basic.on p.basic.receiving area code ++ (when (outside l p area) (barred 14 code) ∷ []))))
     × (arriving_label p area ≡ label_by l p area)
 unfolding walk_check required_check option_check bad_basic_check missing_basic_check basic_range_check arriving_basic arriving_label
 acts_placed p area code l b e = (rw e, rw e)
 
-label_early : (p : Port) (area : List ℕ) (code : ℕ) (l b : Place) → walk_at p area ≡ Sound l b → Early (required_by l p) × Early (option_by l p area)
+label_early : (p : Port) (area : List ℕ) (code : ℕ) (l b : Place) → walk_at p area ≡ Ok (places l b) → Early (required_by l p) × Early (option_by l p area)
 unfolding required_check option_check
 label_early p area code l b e =
     let a = arrival_early p area code in
@@ -200,7 +198,7 @@ module _ (p : Port) (area keys : List ℕ) (code : ℕ) where
   acts_sized e = record { answer = rw e; left = rw e; stands = λ z h. absurd (omega arith) }
 
   module _ (sized : (bad_area area || ltb (length keys) 120) ≡ false) where
-    pub acts_walked : (n at : ℕ) → walk_at p area ≡ Refused n at → Acts p area code keys keys (stopped n 12 0 (20 + at))
+    pub acts_walked : (n at : ℕ) → walk_at p area ≡ Err (fault n at) → Acts p area code keys keys (stopped n 12 0 (20 + at))
     unfolding acts_of acts_keys
     acts_walked n at e =
         record {
@@ -209,7 +207,7 @@ module _ (p : Port) (area keys : List ℕ) (code : ℕ) where
           stands = λ z h. absurd (omega (arith, (area_refused p.basic.on area n at e).0));
         }
 
-    acts_between : (l b : Place) (keys' : List ℕ) (r : Verdict) → walk_at p area ≡ Sound l b → ActsAt l p area code keys keys' r
+    acts_between : (l b : Place) (keys' : List ℕ) (r : Verdict) → walk_at p area ≡ Ok (places l b) → ActsAt l p area code keys keys' r
         → Acts p area code keys keys' (before_range r (first_of (basic_checks b p.basic.on p.basic.receiving area code)))
     unfolding acts_of acts_keys
     acts_between l b keys' r e w =
@@ -232,15 +230,15 @@ module _ (p : Port) (area keys : List ℕ) (code : ℕ) where
         }
 
     -- where the port does not read option 130 there is none
-    pub acts_off : (l b : Place) (keys' : List ℕ) (r : Verdict) → walk_at p area ≡ Sound l b → p.basic.on ≡ false → ActsAt l p area code keys keys' r
+    pub acts_off : (l b : Place) (keys' : List ℕ) (r : Verdict) → walk_at p area ≡ Ok (places l b) → p.basic.on ≡ false → ActsAt l p area code keys keys' r
         → Acts p area code keys keys' r
     acts_off l b keys' r e f w =
-        let q : b ≡ Nowhere = off_nowhere area l b (ap (λ (x : Bool). walk_of x area) (sym f) ∙ e) in
+        let q : b ≡ None = off_nowhere area l b (ap (λ (x : Bool). walk_of x area) (sym f) ∙ e) in
         let o : first_of (basic_checks b p.basic.on p.basic.receiving area code) ≡ none = rw (q, f) in
         subst (Acts p area code keys keys') (ap (before_range r) o ∙ before_none r) (acts_between l b keys' r e w)
 
     -- where it does, they are asked
-    pub acts_on : (l b : Place) (keys' : List ℕ) (r v : Verdict) → walk_at p area ≡ Sound l b → p.basic.on ≡ true → ActsAt l p area code keys keys' r
+    pub acts_on : (l b : Place) (keys' : List ℕ) (r v : Verdict) → walk_at p area ≡ Ok (places l b) → p.basic.on ≡ true → ActsAt l p area code keys keys' r
         → v ≡ before_range r (first_of (basic_checks b true p.basic.receiving area code)) → Acts p area code keys keys' v
     acts_on l b keys' r v e f w g =
         subst (Acts p area code keys keys')

@@ -17,10 +17,8 @@ use Rattle.option.proofs.Octets.{octets_part}
 use Rattle.option_read.specs.Reading.{reading_for}
 use Rattle.option_read.proofs.Theorems.{reads}
 use Rattle.option_slack.proofs.Strict.{strictly_reads}
-use Rattle.area.specs.declared.Place.{Place}
-use Rattle.area.specs.declared.Place.TheVariants.{Nowhere, At}
-use Rattle.area.specs.declared.Walk.{Walk}
-use Rattle.area.specs.declared.Walk.TheVariants.{Sound, Refused}
+use Rattle.std.specs.Prelude.{Ok, Err, Some, None}
+use Rattle.area.specs.Kinds.{Place, Walk}
 use Rattle.area.specs.declared.Kind.TheVariants.{Cipso}
 use Rattle.area.specs.Area.{bad_area, placed_within, WholeAt}
 use Rattle.area.proofs.Laws.{sound_placed}
@@ -48,9 +46,9 @@ module _ (p : Port) (area : List ℕ) (code : ℕ) (s : port_sound p ≡ true) (
 
   -- a label that was read: its level and runs lie in the range exactly when it does
   read_within : (i : ℕ) → WholeAt Cipso area i → (reading_for p.domain (option_at i area)).number ≡ 0
-      → label_between p.lowest p.highest (label_by (At i) p area) ≡ in_range p.lowest p.highest (label_by (At i) p area)
+      → label_between p.lowest p.highest (label_by (Some i) p area) ≡ in_range p.lowest p.highest (label_by (Some i) p area)
   read_within i o z =
-      let l : Label = label_by (At i) p area in
+      let l : Label = label_by (Some i) p area in
       let d = sound p s in
       let g = d.range in
       let oct : Octets (option_at i area) = octets_part (get_or area (i + 1) 0) i area octet in
@@ -63,23 +61,24 @@ module _ (p : Port) (area : List ℕ) (code : ℕ) (s : port_sound p ≡ true) (
 
   -- so 14 is given of one exactly when it is of the other, if it is asked
   at_place : (l b : Place) → placed_within Cipso l area → rest l b (outside l p area) ≡ rest l b (beyond l)
-  at_place Nowhere b o = go p.required refl
+  at_place None b o = go p.required refl
     where
-      go : (t : Bool) → p.required ≡ t → rest Nowhere b false ≡ rest Nowhere b (beyond Nowhere)
+      go : (t : Bool) → p.required ≡ t → rest None b false ≡ rest None b (beyond None)
       go true e = rw e
-      go false e = ap (λ (x : Bool). rest Nowhere b (not x)) (sym ((sound p s).assigned e))
-  at_place (At i) b o = go (eqb (read_at p (option_at i area)).number 0) refl
+      go false e = ap (λ (x : Bool). rest None b (not x)) (sym ((sound p s).assigned e))
+  at_place (Some i) b o = go (eqb (read_at p (option_at i area)).number 0) refl
     where
-      go : (t : Bool) → eqb (read_at p (option_at i area)).number 0 ≡ t → rest (At i) b (outside (At i) p area) ≡ rest (At i) b (beyond (At i))
-      go true e = ap (λ (x : Bool). rest (At i) b (not x)) (read_within i o ((strictly_reads.exactly p.strict p.domain (option_at i area)).0 (eqb-true _ _ e)).0)
+      go : (t : Bool) → eqb (read_at p (option_at i area)).number 0 ≡ t → rest (Some i) b (outside (Some i) p area) ≡ rest (Some i) b (beyond (Some i))
+      go true e = ap (λ (x : Bool). rest (Some i) b (not x)) (read_within i o ((strictly_reads.exactly p.strict p.domain (option_at i area)).0 (eqb-true _ _ e)).0)
       go false e = rw e
 
   pub same_checks : first_of (acts_checks p area code) ≡ first_of (arrival_checks p area code)
   same_checks = go (walk_at p area) refl
     where
       go : (w : Walk) → walk_at p area ≡ w → first_of (acts_checks p area code) ≡ first_of (arrival_checks p area code)
-      go (Refused n at) e = acts_walk p area code n at e ∙ sym (arrival_refused p area code n at e)
-      go (Sound l b) e = (acts_placed p area code l b e).0 ∙ at_place l b (sound_placed p.basic.on area l b e).0 ∙ sym (arrival_placed p area code l b e).0
+      go (Err r) e = acts_walk p area code r.number r.at e ∙ sym (arrival_refused p area code r.number r.at e)
+      go (Ok m) e =
+          (acts_placed p area code m.label m.basic e).0 ∙ at_place m.label m.basic (sound_placed p.basic.on area m.label m.basic e).0 ∙ sym (arrival_placed p area code m.label m.basic e).0
 
   none_of : (o : Option Refusal) (v n : ℕ) → Real o → (verdict_of o v n).number ≡ 0 → o ≡ none
   none_of none v n h z = refl

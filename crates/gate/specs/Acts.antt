@@ -6,8 +6,8 @@ use Rattle.label.specs.declared.Label.{Label}
 use Rattle.label.specs.Label.{used}
 use Rattle.label_keys.specs.Keys.{key_runs}
 use Rattle.label_keys.specs.Range.{answered, look_of, runs_between}
-use Rattle.area.specs.declared.Place.{Place}
-use Rattle.area.specs.declared.Place.TheVariants.{Nowhere, At}
+use Rattle.std.specs.Prelude.{Some, None}
+use Rattle.area.specs.Kinds.{Place}
 use Rattle.port.specs.declared.Port.{Port}
 use Rattle.decision.specs.declared.Verdict.{Verdict}
 use Rattle.decision.specs.Decision.{Refusal}
@@ -22,8 +22,8 @@ label_between lowest highest l = answered (look_of lowest highest l.level (used 
 
 -- 14: a label that was read lies outside the range. The assigned label of a sound port lies in it, and is not looked at
 abbrev pub outside : Place → Port → List ℕ → Bool
-outside Nowhere port area = false
-outside (At p) port area = not (label_between port.lowest port.highest (label_by (At p) port area))
+outside None port area = false
+outside (Some p) port area = not (label_between port.lowest port.highest (label_by (Some p) port area))
 
 abbrev pub acts_checks : Port → List ℕ → ℕ → List (Option Refusal)
 acts_checks port area code =

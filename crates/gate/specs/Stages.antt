@@ -3,7 +3,7 @@ use Rattle.std.specs.Prelude.{List, [], ◌∷◌, ◌≡◌, ℕ, ◌≤◌, ta
 use Rattle.std.proofs.Math.Option.{Option}
 use Rattle.label.specs.Label.{used}
 use Rattle.label_keys.specs.Keys.{key_runs}
-use Rattle.area.specs.declared.Place.{Place}
+use Rattle.area.specs.Kinds.{Place}
 use Rattle.port.specs.declared.Port.{Port}
 use Rattle.decision.specs.declared.Verdict.{Verdict}
 use Rattle.decision.specs.Decision.{Refusal}

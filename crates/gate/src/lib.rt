@@ -2,30 +2,29 @@
 // asked here of whether a port is sound: what these functions answer is said of any numbers, and of a sound port it is the port's own checks.
 #![tactic(auto)]
 
-ghost use Rattle.std.specs.Prelude.{◌≡◌, true, cond, List, [], ℕ, ◌≤◌, eqb, length};
-ghost use Rattle.std.proofs.Math.Option.{some};
+ghost use Rattle.std.specs.Prelude.{◌≡◌, true, cond, List, [], ℕ, ◌≤◌, length, Some};
 ghost use Rattle.area.specs.Area.{walk_of, octets_at, placed_within, WholeAt};
 ghost use Rattle.area.specs.declared.Kind.TheVariants.{Basic, Cipso};
-ghost use Rattle.area.specs.declared.Place.TheVariants.{At};
 ghost use Rattle.basic.specs.Alone.{basic_reading};
 ghost use Rattle.basic.specs.Settings.{among, passes_way};
 ghost use Rattle.port.specs.Port.{lowest_out, highest_out};
-ghost use Rattle.arrive.specs.Checks.{barred, first_of, basic_in, option_at};
+ghost use Rattle.arrive.specs.Checks.{first_of, basic_in, option_at};
 ghost use Rattle.arrive.specs.Stages.{basic_checks, before_range, basic_read};
 ghost use Rattle.forward_leave.specs.Departure.{sent_by, held_by_range};
 ghost use Rattle.gate.specs.Gate.{gate_of, way_of, port_in};
 ghost use Rattle.gate.specs.Acts.{Acts};
 ghost use Rattle.gate.specs.Stages.{ActsAt};
 
-use area::{Place, Walk, bad_area, walk_area};
+use area::{bad_area, walk_area};
 use arrive::{find_basic, is_open};
-use basic::{BASIC_TYPE, BasicReading, at_most, read_basic};
+use basic::{BAD_BASIC, BASIC_TYPE, BasicReading, at_most, read_basic};
 use decision::{
     HEADER_OCTETS, NETWORK_PROHIBITED, Verdict, barred, faulty, go_on, missing, silent,
 };
+use forward_leave::bar_basic;
 use label::Label;
 use label_between::lies_between;
-use lists::copy_keys;
+use lists::copy_list;
 use option::{CATEGORIES_AT, OPTION_TYPE, Spellings};
 use option_read::read_keys;
 use option_slack::stops_slack;
@@ -99,14 +98,16 @@ pub fn arrive_gate(
     }
     let on = gate.on;
     match walk_area(area, on) {
-        Walk::Refused(number, at) => faulty(number, (HEADER_OCTETS + at) as u8),
-        Walk::Sound(label, basic) => {
-            let arrived = arrive_at(gate, lows, highs, given, area, label, code, keys);
+        Err(fault) => faulty(fault.number, (HEADER_OCTETS + fault.at) as u8),
+        Ok(met) => {
+            let arrived = arrive_at(gate, lows, highs, given, area, met.label, code, keys);
             if !on {
                 // no option 130 was met
                 return arrived;
             }
-            check_basic(arrived, gate.least, gate.most, fields, area, basic, code)
+            check_basic(
+                arrived, gate.least, gate.most, fields, area, met.basic, code,
+            )
         }
     }
 }
@@ -118,7 +119,7 @@ fn arrive_at(
     highs: &[u32],
     given: &[u32],
     area: &[u8],
-    place: Place,
+    place: Option<usize>,
     code: u8,
     keys: &mut [u32],
 ) -> Verdict
@@ -128,17 +129,17 @@ fn arrive_at(
     ensures { (only receives sends : List ℕ) → ActsAt place (port_in gate lows.now highs.now given.now only receives sends) area.now code keys.old keys.new result }
 {
     match place {
-        Place::Nowhere => {
+        None => {
             if gate.required {
                 return missing(6, OPTION_TYPE);
             }
             if Label::MAX_RUNS < given.len() {
                 return go_on(gate.given, given.len());
             }
-            copy_keys(given, keys);
+            copy_list(given, keys);
             go_on(gate.given, given.len())
         }
-        Place::At(at) => read_at(gate, lows, highs, area, at, code, keys),
+        Some(at) => read_at(gate, lows, highs, area, at, code, keys),
     }
 }
 
@@ -155,30 +156,32 @@ fn read_at(
     requires area_len_bound { length area.now ≤ 40 }
     requires whole_at { WholeAt Cipso area.now at }
     requires in_bounds { 120 ≤ length keys.old }
-    ensures { (given only receives sends : List ℕ) → ActsAt (At at) (port_in gate lows.now highs.now given only receives sends) area.now code keys.old keys.new result }
+    ensures { (given only receives sends : List ℕ) → ActsAt (Some at) (port_in gate lows.now highs.now given only receives sends) area.now code keys.old keys.new result }
 {
     let next = at + 1;
     let n = area[next] as usize;
     let end = at + n;
     let read = read_keys(&area[at..end], gate.domain, &mut keys[..]);
-    if stops_slack(gate.strict, read.number, &area[at..end]) {
+    if stops_slack(gate.strict, read, &area[at..end]) {
         return faulty(23, (HEADER_OCTETS + (at + CATEGORIES_AT)) as u8);
     }
-    if read.number != 0 {
-        return faulty(read.number, (HEADER_OCTETS + (at + read.pointer)) as u8);
+    match read {
+        Err(fault) => faulty(fault.number, (HEADER_OCTETS + (at + fault.at)) as u8),
+        Ok(held) => {
+            if !lies_between(
+                &keys[..],
+                held.count,
+                held.level,
+                gate.low,
+                lows,
+                gate.high,
+                highs,
+            ) {
+                return barred(14, code);
+            }
+            go_on(held.level, held.count)
+        }
     }
-    if !lies_between(
-        &keys[..],
-        read.count,
-        read.level,
-        gate.low,
-        lows,
-        gate.high,
-        highs,
-    ) {
-        return barred(14, code);
-    }
-    go_on(read.level, read.count)
 }
 
 // Checks 19 to 21 of a gate that reads option 130, which come before 14, with the place of the option 130.
@@ -188,7 +191,7 @@ fn check_basic(
     high: u8,
     fields: &[u16],
     area: &[u8],
-    place: Place,
+    place: Option<usize>,
     code: u8,
 ) -> Verdict
     requires area_len_bound { length area.now ≤ 40 }
@@ -199,12 +202,11 @@ fn check_basic(
         return arrived;
     }
     match place {
-        Place::Nowhere => missing(20, BASIC_TYPE),
-        Place::At(at) => {
-            let read = read_basic_at(area, at);
-            if read.number != 0 {
-                return faulty(19, (HEADER_OCTETS + at) as u8);
-            }
+        None => missing(20, BASIC_TYPE),
+        Some(at) => {
+            let Some(read) = read_basic_at(area, at) else {
+                return faulty(BAD_BASIC, (HEADER_OCTETS + at) as u8);
+            };
             if !passes_fields(low, high, fields, read.level, read.flags) {
                 return barred(21, code);
             }
@@ -214,7 +216,7 @@ fn check_basic(
 }
 
 // Reads the option 130 at an octet.
-fn read_basic_at(area: &[u8], at: usize) -> BasicReading
+fn read_basic_at(area: &[u8], at: usize) -> Option<BasicReading>
     requires { WholeAt Basic area.now at }
     ensures { result ≡ basic_reading (option_at at area.now) }
 {
@@ -245,21 +247,10 @@ pub fn bar_gate(
     if !on {
         return bar_basic(ready);
     }
-    let read = find_basic(area);
-    if passes_fields(low, high, fields, read.level, read.flags) {
-        return ready;
+    match find_basic(area) {
+        Some(read) if passes_fields(low, high, fields, read.level, read.flags) => ready,
+        _ => bar_basic(ready),
     }
-    bar_basic(ready)
-}
-
-// 21, where no check before it applies.
-fn bar_basic(ready: Verdict) -> Verdict
-    ensures { result ≡ before_range ready (some (barred 21 9)) }
-{
-    if !is_open(ready.number) {
-        return ready;
-    }
-    barred(21, NETWORK_PROHIBITED)
 }
 
 // Check 17 toward a gate: toward unlabelled hosts the range is the default label alone.
@@ -321,19 +312,9 @@ fn passes_fields(low: u8, high: u8, fields: &[u16], level: u8, flags: u16) -> bo
 fn has_field(fields: &[u16], flags: u16) -> bool
     ensures { result ≡ among fields.now flags }
 {
-    let n = fields.len();
     let mut found = false;
-    let mut i: usize = 0;
-    while i < n {
-        found = found | same_field(fields[i], flags);
-        i += 1;
+    for field in fields {
+        found = found | (*field == flags);
     }
     found
-}
-
-// Flag fields are held against each other whole.
-fn same_field(permitted: u16, flags: u16) -> bool
-    ensures { result ≡ eqb permitted flags }
-{
-    permitted == flags
 }

@@ -10,7 +10,6 @@ use lib.Dec.{leb, eqb}
 use lib.ListN.{length, get_or, take, drop, get_elem?, length-append, length-drop, take-append-drop}
 use lib.Seq.{get_or-append-add, drop-append-add, take-append_seam, get_or-drop, drop-drop, length-take-le}
 use Rattle.decision.specs.declared.Decision.{Decision}
-use Rattle.inspect_claim.specs.declared.compare.Finding.{Finding}
 use Rattle.inspect_claim.specs.Claim.{Claim, fact_octet, fact_octets, octets_of, claimed_octets, Listed, claimed_at, leaving_length, parses, facts_in, claimed_in, claim_of, no_record, recorded_of}
 use Rattle.inspect_claim.specs.declared.parse.Recorded.{Recorded}
 use Rattle.inspect_claim.specs.Compare.{said_of, agreeing, differing_at, find_from, finding_of, FirstDifference}
@@ -22,7 +21,7 @@ clash : true ≡ false → ⊥
 clash e = let z : ◌≡◌ {A = ℕ} 0 1 = cc in omega arith
 
 no_finding : (k : ℕ) → differing_at k ≡ agreeing → ⊥
-no_finding k e = clash (sym (ap (λ (f : Finding). f.agrees) e))
+no_finding k e = cc
 
 agrees_from : (k : ℕ) (a b : List ℕ) → find_from k a b ≡ agreeing → a ≡ b
 agrees_from k [] [] e = refl
@@ -48,7 +47,7 @@ nothing : (x : ℕ) → ◌≡◌ {A = Option ℕ} (some x) none → ⊥
 nothing x e = let z : ◌≡◌ {A = ℕ} 0 1 = cc in omega arith
 
 same_place : (k n : ℕ) → differing_at k ≡ differing_at n → n ≡ k
-same_place k n e = sym (ap (λ (f : Finding). f.place) e)
+same_place k n e = cc
 
 found_here : (k n : ℕ) (a b : List ℕ) → n ≡ k → (get_elem? a 0 ≡ get_elem? b 0 → ⊥) → Found k n a b
 found_here k n a b e h =
@@ -62,7 +61,7 @@ found_behind k n x y a b e f = record { behind = suc f.behind; at = omega (arith
     before (suc i) l = f.first.before i (omega arith)
 
 found_from : (k n : ℕ) (a b : List ℕ) → find_from k a b ≡ differing_at n → Found k n a b
-found_from k n [] [] e = absurd (clash (ap (λ (f : Finding). f.agrees) e))
+found_from k n [] [] e = absurd (no_finding n (sym e))
 found_from k n [] (y ∷ b) e = found_here k n [] (y ∷ b) (same_place k n e) (λ (z : none ≡ some y). nothing y (sym z))
 found_from k n (x ∷ a) [] e = found_here k n (x ∷ a) [] (same_place k n e) (λ (z : some x ≡ none). nothing x z)
 found_from k n (x ∷ a) (y ∷ b) e = go (eqb x y) refl e (found_from (suc k) n a b)
@@ -301,22 +300,6 @@ unparsed ports o r e f = go (parses ports o) refl e
     go true t e = absurd (clash (sym (ap (λ (x : Recorded). x.parsed) e) ∙ f))
     go false t e = t
 
--- a finding that agrees is the one that says so and nothing else
-agrees_only : (k : ℕ) (a b : List ℕ) → (find_from k a b).agrees ≡ true → find_from k a b ≡ agreeing
-agrees_only k [] [] e = refl
-agrees_only k [] (y ∷ b) e = absurd (clash (sym e))
-agrees_only k (x ∷ a) [] e = absurd (clash (sym e))
-agrees_only k (x ∷ a) (y ∷ b) e = go (eqb x y) e (agrees_only (suc k) a b)
-  where
-    go : (t : Bool) → (cond t (find_from (suc k) a b) (differing_at k)).agrees ≡ true → ((find_from (suc k) a b).agrees ≡ true → find_from (suc k) a b ≡ agreeing)
-        → cond t (find_from (suc k) a b) (differing_at k) ≡ agreeing
-    go true f h = h f
-    go false f h = absurd (clash (sym f))
-
-pub agrees_whole : (a b : List ℕ) → (finding_of a b).agrees ≡ true → finding_of a b ≡ agreeing
-unfolding finding_of
-agrees_whole a b e = agrees_only 0 a b e
-
 -- the ports' numbers, also where nothing was read, are below every limit that the ports of the file keep to
 pub listed_below : (ports most : ℕ) (o : List ℕ) (r : Recorded) → r ≡ recorded_of ports o → ports ≤ most → 0 < most → (r.arriving < most) × (r.leaving < most)
 unfolding recorded_of
@@ -335,12 +318,12 @@ listed_below ports most o r e h p = go (parses ports o) refl e
         (omega arith, omega arith)
 
 -- the place that is found is one of what the box says, or the one behind it
-pub place_within : (k : ℕ) (a b : List ℕ) → (find_from k a b).place ≤ k + length a
-place_within k [] [] = omega arith
-place_within k [] (y ∷ b) = omega arith
-place_within k (x ∷ a) [] = omega arith
-place_within k (x ∷ a) (y ∷ b) = go (eqb x y) (place_within (suc k) a b)
+pub place_within : (k n : ℕ) (a b : List ℕ) → find_from k a b ≡ differing_at n → n ≤ k + length a
+place_within k n [] [] e = absurd (no_finding n (sym e))
+place_within k n [] (y ∷ b) e = omega (arith, same_place k n e)
+place_within k n (x ∷ a) [] e = omega (arith, same_place k n e)
+place_within k n (x ∷ a) (y ∷ b) e = go (eqb x y) e (place_within (suc k) n a b)
   where
-    go : (t : Bool) → (find_from (suc k) a b).place ≤ suc k + length a → (cond t (find_from (suc k) a b) (differing_at k)).place ≤ k + suc (length a)
-    go true h = omega arith
-    go false h = omega arith
+    go : (t : Bool) → cond t (find_from (suc k) a b) (differing_at k) ≡ differing_at n → (find_from (suc k) a b ≡ differing_at n → n ≤ suc k + length a) → n ≤ k + suc (length a)
+    go true f h = omega (arith, h f)
+    go false f h = omega (arith, same_place k n f)

@@ -1,18 +1,21 @@
 -- Document 02, Wish 14: "`AGREES`, or `DIFFERS` and the first place that differs (0 to 3 the decision, 4 the leaving length, 5 on its octets)".
-use Rattle.std.specs.Prelude.{ℕ, suc, ◌<◌, ◌≡◌, true, false, cond, List, [], ◌∷◌, eqb, take}
+use Rattle.std.specs.Prelude.{ℕ, suc, ◌<◌, ◌≡◌, cond, List, [], ◌∷◌, Option, None, Some, eqb, take}
 use Rattle.std.proofs.Math.ListN.{get_elem?}
 use Rattle.decision.specs.declared.Decision.{Decision}
-use Rattle.inspect_claim.specs.declared.compare.Finding.{Finding}
 
 -- What the box says, in the places of a claim: the decision's number, type, code and pointer, the leaving length, and the octets of the leaving area.
 abbrev pub said_of : Decision → List ℕ → List ℕ
 said_of d out = d.number ∷ d.kind ∷ d.code ∷ d.pointer ∷ d.count ∷ take d.count out
 
+-- the first place that differs, where one does
+abbrev pub Finding : Type 0
+Finding = Option ℕ
+
 abbrev pub agreeing : Finding
-agreeing = record { agrees = true; place = 0 }
+agreeing = None
 
 abbrev pub differing_at : ℕ → Finding
-differing_at k = record { agrees = false; place = k }
+differing_at k = Some k
 
 -- place after place from k on: the first at which one has another octet, or none
 abbrev pub find_from : ℕ → List ℕ → List ℕ → Finding

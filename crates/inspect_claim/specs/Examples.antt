@@ -1,6 +1,6 @@
 -- Document 02, Wish 14: records in octets, and what they say. Version, ports, the five facts, the arriving area behind its length, number, type, code and pointer, the leaving
 -- area behind its length.
-use Rattle.std.specs.Prelude.{◌≡◌, true, false, List, [], ◌∷◌, ℕ}
+use Rattle.std.specs.Prelude.{◌≡◌, true, false, List, [], ◌∷◌, ℕ, None, Some}
 use Rattle.inspect_claim.specs.Claim.{parses, claim_of, octets_of, claimed_in}
 use Rattle.inspect_claim.specs.Compare.{finding_of}
 
@@ -59,10 +59,10 @@ pub record WorkedClaims : Type 0 where
   pub long : parses 4 (1 ∷ 2 ∷ 3 ∷ 0 ∷ 0 ∷ 0 ∷ 0 ∷ 0 ∷ 0 ∷ 0 ∷ 0 ∷ 0 ∷ 0 ∷ 0 ∷ 0 ∷ []) ≡ false
   pub none : parses 4 [] ≡ false
   -- places: the pointer is 3, the leaving length 4, its first octet 5, its second 6; one octet more, or one fewer, is found behind the last
-  pub agrees : finding_of (14 ∷ 4 ∷ 5 ∷ 6 ∷ 2 ∷ 134 ∷ 12 ∷ []) (14 ∷ 4 ∷ 5 ∷ 6 ∷ 2 ∷ 134 ∷ 12 ∷ []) ≡ record { agrees = true; place = 0 }
-  pub number : finding_of (14 ∷ 4 ∷ 5 ∷ 6 ∷ 2 ∷ 134 ∷ 12 ∷ []) (15 ∷ 4 ∷ 5 ∷ 6 ∷ 2 ∷ 134 ∷ 13 ∷ []) ≡ record { agrees = false; place = 0 }
-  pub pointer : finding_of (14 ∷ 4 ∷ 5 ∷ 6 ∷ 2 ∷ 134 ∷ 12 ∷ []) (14 ∷ 4 ∷ 5 ∷ 7 ∷ 2 ∷ 134 ∷ 12 ∷ []) ≡ record { agrees = false; place = 3 }
-  pub length : finding_of (14 ∷ 4 ∷ 5 ∷ 6 ∷ 2 ∷ 134 ∷ 12 ∷ []) (14 ∷ 4 ∷ 5 ∷ 6 ∷ 1 ∷ 134 ∷ []) ≡ record { agrees = false; place = 4 }
-  pub octet : finding_of (14 ∷ 4 ∷ 5 ∷ 6 ∷ 2 ∷ 134 ∷ 12 ∷ []) (14 ∷ 4 ∷ 5 ∷ 6 ∷ 2 ∷ 135 ∷ 12 ∷ []) ≡ record { agrees = false; place = 5 }
-  pub last : finding_of (14 ∷ 4 ∷ 5 ∷ 6 ∷ 2 ∷ 134 ∷ 12 ∷ []) (14 ∷ 4 ∷ 5 ∷ 6 ∷ 2 ∷ 134 ∷ 13 ∷ []) ≡ record { agrees = false; place = 6 }
-  pub behind : finding_of (14 ∷ 4 ∷ 5 ∷ 6 ∷ 2 ∷ 134 ∷ 12 ∷ []) (14 ∷ 4 ∷ 5 ∷ 6 ∷ 2 ∷ 134 ∷ 12 ∷ 0 ∷ []) ≡ record { agrees = false; place = 7 }
+  pub agrees : finding_of (14 ∷ 4 ∷ 5 ∷ 6 ∷ 2 ∷ 134 ∷ 12 ∷ []) (14 ∷ 4 ∷ 5 ∷ 6 ∷ 2 ∷ 134 ∷ 12 ∷ []) ≡ None
+  pub number : finding_of (14 ∷ 4 ∷ 5 ∷ 6 ∷ 2 ∷ 134 ∷ 12 ∷ []) (15 ∷ 4 ∷ 5 ∷ 6 ∷ 2 ∷ 134 ∷ 13 ∷ []) ≡ Some 0
+  pub pointer : finding_of (14 ∷ 4 ∷ 5 ∷ 6 ∷ 2 ∷ 134 ∷ 12 ∷ []) (14 ∷ 4 ∷ 5 ∷ 7 ∷ 2 ∷ 134 ∷ 12 ∷ []) ≡ Some 3
+  pub length : finding_of (14 ∷ 4 ∷ 5 ∷ 6 ∷ 2 ∷ 134 ∷ 12 ∷ []) (14 ∷ 4 ∷ 5 ∷ 6 ∷ 1 ∷ 134 ∷ []) ≡ Some 4
+  pub octet : finding_of (14 ∷ 4 ∷ 5 ∷ 6 ∷ 2 ∷ 134 ∷ 12 ∷ []) (14 ∷ 4 ∷ 5 ∷ 6 ∷ 2 ∷ 135 ∷ 12 ∷ []) ≡ Some 5
+  pub last : finding_of (14 ∷ 4 ∷ 5 ∷ 6 ∷ 2 ∷ 134 ∷ 12 ∷ []) (14 ∷ 4 ∷ 5 ∷ 6 ∷ 2 ∷ 134 ∷ 13 ∷ []) ≡ Some 6
+  pub behind : finding_of (14 ∷ 4 ∷ 5 ∷ 6 ∷ 2 ∷ 134 ∷ 12 ∷ []) (14 ∷ 4 ∷ 5 ∷ 6 ∷ 2 ∷ 134 ∷ 12 ∷ 0 ∷ []) ≡ Some 7

@@ -1,7 +1,7 @@
 // A recorded case without the two octets of its length: version 1, the arriving and the leaving port's number, the five facts, the arriving area led by its length; the
 // claimed number, type, code and pointer, and the leaving area led by its length.
-ghost use Rattle.std.specs.Prelude.{◌≡◌, not, ◌&&◌, ◌+◌, ◌≤◌, leb, ltb, eqb, length, get_or};
-ghost use Rattle.inspect_claim.specs.Claim.{are_facts, parses, facts_in, no_record, recorded_of};
+ghost use Rattle.std.specs.Prelude.{◌≡◌, ◌&&◌, ◌+◌, ◌≤◌, Some, None, cond, leb, ltb, eqb, length, get_or};
+ghost use Rattle.inspect_claim.specs.Claim.{are_facts, claimed_at, leaving_length, said, facts_in, no_record, recorded_of};
 
 use decision::Facts;
 
@@ -22,27 +22,27 @@ pub struct Recorded {
 pub fn read_record(octets: &[u8], ports: usize) -> Recorded
     ensures { result ≡ recorded_of ports octets.now }
 {
-    if !is_record(octets, ports) {
-        return no_record();
-    }
-    Recorded {
-        parsed: true,
-        arriving: wide(octet_at(octets, 1)),
-        leaving: wide(octet_at(octets, 2)),
-        facts: read_facts(octets),
-        claimed: claimed_at(octet_at(octets, 8)),
+    match read_facts(octets) {
+        Some(facts) if is_framed(octets, ports) => Recorded {
+            parsed: true,
+            arriving: octet_at(octets, 1) as usize,
+            leaving: octet_at(octets, 2) as usize,
+            facts: facts,
+            claimed: claimed_at(octet_at(octets, 8)),
+        },
+        _ => no_record(),
     }
 }
 
-// Whether the version is 1, both ports are in the file, the facts are 0 or 1, and the fields fill the record exactly.
-fn is_record(octets: &[u8], ports: usize) -> bool
-    ensures { result ≡ parses ports octets.now }
+// Whether the version is 1, both ports are in the file, and the fields fill the record exactly.
+fn is_framed(octets: &[u8], ports: usize) -> bool
+    ensures { result ≡ (eqb (get_or octets.now 0 0) 1 && (ltb (get_or octets.now 1 0) ports && (ltb (get_or octets.now 2 0) ports && eqb (length octets.now) (claimed_at octets.now + 5 + leaving_length octets.now)))) }
 {
     let begins = claimed_at(octet_at(octets, 8));
     (octet_at(octets, 0) == 1)
         & (is_listed(octet_at(octets, 1), ports)
             & (is_listed(octet_at(octets, 2), ports)
-                & (are_facts(octets) & fills(octets.len(), begins, octet_at(octets, begins + 4)))))
+                & fills(octets.len(), begins, octet_at(octets, begins + 4))))
 }
 
 // A port of this number is in a file of so many.
@@ -50,15 +50,6 @@ fn is_listed(port: u8, ports: usize) -> bool
     ensures { result ≡ ltb port ports }
 {
     (port as usize) < ports
-}
-
-fn are_facts(octets: &[u8]) -> bool
-    ensures { result ≡ are_facts octets.now }
-{
-    (octet_at(octets, 3) <= MAX_FACT)
-        & ((octet_at(octets, 4) <= MAX_FACT)
-            & ((octet_at(octets, 5) <= MAX_FACT)
-                & ((octet_at(octets, 6) <= MAX_FACT) & (octet_at(octets, 7) <= MAX_FACT))))
 }
 
 // The leaving area ends where the record ends.
@@ -69,16 +60,30 @@ fn fills(size: usize, begins: usize, leaving: u8) -> bool
     size == begins + 5 + leaving as usize
 }
 
-fn read_facts(octets: &[u8]) -> Facts
-    ensures { result ≡ facts_in octets.now }
+// The five facts, where each is 0 or 1.
+fn read_facts(octets: &[u8]) -> Option<Facts>
+    ensures { result ≡ cond (are_facts octets.now) (Some (facts_in octets.now)) None }
 {
-    Facts {
-        error: octet_at(octets, 3) != 0,
-        group: octet_at(octets, 4) != 0,
-        link: octet_at(octets, 5) != 0,
-        fragment: octet_at(octets, 6) != 0,
-        source: octet_at(octets, 7) != 0,
-    }
+    let error = fact_at(octets, 3)?;
+    let group = fact_at(octets, 4)?;
+    let link = fact_at(octets, 5)?;
+    let fragment = fact_at(octets, 6)?;
+    let source = fact_at(octets, 7)?;
+    Some(Facts {
+        error: error,
+        group: group,
+        link: link,
+        fragment: fragment,
+        source: source,
+    })
+}
+
+// The fact that the octet at a place says.
+fn fact_at(octets: &[u8], i: usize) -> Option<bool>
+    ensures { result ≡ cond (leb (get_or octets.now i 0) 1) (Some (said octets.now i)) None }
+{
+    let x = octet_at(octets, i);
+    if x <= MAX_FACT { Some(x != 0) } else { None }
 }
 
 // Where the claimed decision begins, by the arriving area's length.
@@ -88,20 +93,11 @@ fn claimed_at(area: u8) -> usize
     9 + area as usize
 }
 
-fn wide(x: u8) -> usize
-    ensures { result ≡ x }
-{
-    x as usize
-}
-
 // The octet at a place; 0 past the end.
 fn octet_at(octets: &[u8], i: usize) -> u8
     ensures { result ≡ get_or octets.now i 0 }
 {
-    if i < octets.len() {
-        return octets[i];
-    }
-    0
+    octets.get(i).copied().unwrap_or(0)
 }
 
 fn no_record() -> Recorded

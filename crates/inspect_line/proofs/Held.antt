@@ -5,16 +5,17 @@ use mathlib.Core.List.{List, [], ◌∷◌, ◌++◌, append_assoc, append-nil}
 use native.Mathlib.Omega.{arith}
 use lib.ListN.{length, take, drop, length-drop}
 use lib.Seq.{drop-drop, take-nil}
-use Rattle.text.specs.Put.{Puts}
-use Rattle.text.proofs.Laws.{puts_then, puts_none}
+use Rattle.text.specs.declared.Line.{Line}
+use Rattle.text.specs.Put.{Writes}
+use Rattle.text.proofs.Laws.{writes_then, writes_none}
 use Rattle.inspect_split.specs.Records.{whole_of, Split, split_from, records_of, kept_of, lines_of}
 use Rattle.inspect_split.proofs.Laws.{whole_within, whole_two, split_more, split_end}
 use Rattle.file_set.specs.declared.Set.{Set}
 use Rattle.inspect_line.specs.Lines.{record_line, Inspects}
 
 -- up to the place `at` nothing is held, and the lines of the records before it are put
-pub record Going (line : List ℕ → List ℕ) (held before : List ℕ) (n : ℕ) (out : List ℕ) (at k size : ℕ) : Type 0 where
-  pub lines : Puts before n (lines_of line (records_of (take at held))) out k
+pub record Going (line : List ℕ → List ℕ) (held : List ℕ) (before out : Line) (at size : ℕ) : Type 0 where
+  pub lines : Writes before (lines_of line (records_of (take at held))) out
   pub clean : kept_of (take at held) ≡ []
   pub next : size ≡ whole_of (drop at held)
 
@@ -36,16 +37,16 @@ sized s (suc w) e = let h : 0 < whole_of s = omega arith in omega (arith, whole_
 pub inside : (s : List ℕ) (at w : ℕ) → at ≤ length s → w ≡ whole_of (drop at s) → at + w ≤ length s
 inside s at w h e = omega (arith, whole_within (drop at s), length-drop at s)
 
-pub start : (line : List ℕ → List ℕ) (held out : List ℕ) (n size : ℕ) → size ≡ whole_of held → Going line held out n out 0 n size
+pub start : (line : List ℕ → List ℕ) (held : List ℕ) (out : Line) (size : ℕ) → size ≡ whole_of held → Going line held out out 0 size
 unfolding split_from
-start line held out n size e = record { lines = puts_none; clean = refl; next = e }
+start line held out size e = record { lines = writes_none; clean = refl; next = e }
 
-pub more : (line : List ℕ → List ℕ) (held before : List ℕ) (n : ℕ) (out : List ℕ) (at k size : ℕ) (after : List ℕ) (k' size' : ℕ)
-    → Going line held before n out at k size → 0 < size
-    → Puts out k (line (take (at + size - (at + 2)) (drop (at + 2) held))) after k'
+pub more : (line : List ℕ → List ℕ) (held : List ℕ) (before out : Line) (at size : ℕ) (after : Line) (size' : ℕ)
+    → Going line held before out at size → 0 < size
+    → Writes out (line (take (at + size - (at + 2)) (drop (at + 2) held))) after
     → size' ≡ whole_of (drop (at + size) held)
-    → Going line held before n after (at + size) k' size'
-more line held before n out at k size after k' size' g h p e =
+    → Going line held before after (at + size) size'
+more line held before out at size after size' g h p e =
     let h' : 0 < whole_of (drop at held) = omega (arith, g.next) in
     let two : 2 ≤ whole_of (drop at held) = whole_two (drop at held) h' in
     let w = split_more held at g.clean h' in
@@ -58,14 +59,14 @@ more line held before n out at k size after k' size' g h p e =
     let ls : lines_of line (records_of (take (at + size) held)) ≡ lines_of line (records_of (take at held)) ++ line (take (at + size - (at + 2)) (drop (at + 2) held))
     = ap (lines_of line) rs ∙ lines_append line (records_of (take at held)) (take (at + size - (at + 2)) (drop (at + 2) held)) in
     record {
-      lines = rw ls (puts_then g.lines p);
+      lines = rw ls (writes_then g.lines p);
       clean = ap (λ (i : ℕ). kept_of (take i held)) q ∙ ap (λ (x : Split). x.kept) w;
       next = e;
     }
 
-pub done : (s : Set) (rows held before : List ℕ) (n : ℕ) (out : List ℕ) (at k size : ℕ) → Going (record_line s rows) held before n out at k size → size ≡ 0 → at ≤ length held
-    → Inspects s rows held before n out (record { used = at; place = k })
-done s rows held before n out at k size g z h =
+pub done : (s : Set) (rows held : List ℕ) (before out : Line) (at size : ℕ) → Going (record_line s rows) held before out at size → size ≡ 0 → at ≤ length held
+    → Inspects s rows held before out at
+done s rows held before out at size g z h =
     let e = split_end held at g.clean (sym g.next ∙ z) in
     record {
       lines = rw (ap (λ (x : Split). lines_of (record_line s rows) x.records) e) g.lines;

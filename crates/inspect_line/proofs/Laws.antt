@@ -1,14 +1,13 @@
 -- Laws of the inspector.
-use Prim.Native.Nat.{ℕ, zero, suc, ◌-◌, ◌≤◌, ◌<◌}
+use Prim.Native.Nat.{ℕ, min, zero, suc, ◌-◌, ◌<◌}
 use mathlib.Core.Path.{◌≡◌, refl, sym, ap, subst, ◌∙◌}
 use mathlib.Core.Bool.{Bool, true, false, cond}
 use mathlib.Core.List.{List, [], ◌∷◌}
 use native.Mathlib.Omega.{arith}
-use borrow.Author.Tests.{leb-true, leb-false}
-use lib.Dec.{leb}
-use lib.ListN.{length, get_or, take, drop, replicate}
-use lib.Seq.{take_all, length-take-le, get_or-take}
-use Rattle.text.specs.Put.{Puts}
+use lib.ListN.{length, get_or, take, drop, replicate, length-take}
+use lib.Seq.{get_or-take}
+use Rattle.text.specs.declared.Line.{Line}
+use Rattle.text.specs.Put.{Writes}
 use Rattle.text.specs.Line.{broken_line}
 use Rattle.decision.specs.declared.Decision.{Decision}
 use Rattle.port.specs.declared.Port.{Port}
@@ -20,11 +19,10 @@ use Rattle.file_set.specs.Set.{tables_in}
 use Rattle.route_ports.specs.Ports.{unlisted_port, port_at}
 use Rattle.route_decide.specs.Routing.{between}
 use Rattle.inspect_claim.specs.declared.parse.Recorded.{Recorded}
-use Rattle.inspect_claim.specs.declared.compare.Finding.{Finding}
 use Rattle.inspect_claim.specs.Claim.{claim_of, recorded_of}
-use Rattle.inspect_claim.specs.Compare.{said_of, finding_of}
+use Rattle.inspect_claim.specs.Compare.{Finding, said_of, finding_of}
 use Rattle.inspect_claim.proofs.Theorems.{reads, parsed, unparsed}
-use Rattle.inspect_line.specs.Lines.{ports_in, finding_by, finding_for, agrees_line, differs_line, finding_line, record_line}
+use Rattle.inspect_line.specs.Lines.{ports_in, finding_by, finding_for, finding_line, record_line}
 use Rattle.inspect_line.specs.Stages.{line_by}
 
 -- an element inside does not depend on what stands for those past the end
@@ -40,24 +38,9 @@ unfolding finding_by
 found_by f g d out claimed r e p q h = e ∙ ap (λ (x : Decision). finding_of (said_of x out) claimed) p ∙ ap (λ (x : List ℕ). finding_of (said_of (forward_of f) x) claimed) q
     ∙ ap (λ (x : Forwarding). finding_of (said_of (forward_of x) (output_of x (replicate 40 0))) claimed) h
 
-pub agrees_line_lem : (f : Finding) → f.agrees ≡ true → finding_line f ≡ agrees_line
-unfolding finding_line
-agrees_line_lem f e = rw e
-
-pub differs_line_lem : (f : Finding) → f.agrees ≡ false → finding_line f ≡ differs_line f.place
-unfolding finding_line
-differs_line_lem f e = rw e
-
 -- the ports that a set counts, and has
-pub counted : {A : Type 0} (n r most : ℕ) (ps : List A) → length ps ≡ most → (n ≤ most → r ≡ n) → (most ≤ n → r ≡ most) → r ≡ length (take n ps)
-counted n r most ps l f g = go (leb n most) refl
-  where
-    go : (t : Bool) → leb n most ≡ t → r ≡ length (take n ps)
-    go true e = let h : n ≤ most = leb-true n most e in f h ∙ sym (length-take-le n ps (omega arith))
-    go false e =
-        let h : most < n = leb-false n most e in
-        let k : most ≤ n = omega arith in
-        g k ∙ sym l ∙ ap length (sym (take_all n ps (omega arith)))
+pub counted : {A : Type 0} (n r most : ℕ) (ps : List A) → length ps ≡ most → r ≡ min n most → r ≡ length (take n ps)
+counted n r most ps l e = e ∙ ap (min n) (sym l) ∙ sym (length-take n ps)
 
 -- the port of a number that the file has
 below : (n : ℕ) (ps : List Port) (i : ℕ) → i < length (take n ps) → (i < n) × (i < length ps)
@@ -106,6 +89,6 @@ line_is s ns o r n d e en er = go r.parsed refl
         parsed_line (get_or s.ports r.arriving d) (get_or s.ports r.leaving e) (tables_in s) ns r o (finding_for s ns (claim_of o)) t (sym same)
         ∙ sym (ap (λ (b : Bool). cond b (finding_line (finding_for s ns (claim_of o))) broken_line) p.good)
 
-pub put_is : (s : Set) (ns o : List ℕ) (r : Recorded) (n : ℕ) (d e : Port) {out : List ℕ} {k : ℕ} {after : List ℕ} {m : ℕ} → n ≡ length (ports_in s) → r ≡ recorded_of n o
-    → Puts out k (line_by (get_or s.ports r.arriving d) (get_or s.ports r.leaving e) (tables_in s) ns r o) after m → Puts out k (record_line s ns o) after m
-put_is s ns o r n d e {out} {k} {after} {m} en er p = subst (λ (x : List ℕ). Puts out k x after m) (line_is s ns o r n d e en er) p
+pub put_is : (s : Set) (ns o : List ℕ) (r : Recorded) (n : ℕ) (d e : Port) {before after : Line} → n ≡ length (ports_in s) → r ≡ recorded_of n o
+    → Writes before (line_by (get_or s.ports r.arriving d) (get_or s.ports r.leaving e) (tables_in s) ns r o) after → Writes before (record_line s ns o) after
+put_is s ns o r n d e {before} {after} en er p = subst (λ (x : List ℕ). Writes before x after) (line_is s ns o r n d e en er) p

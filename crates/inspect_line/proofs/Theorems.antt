@@ -1,23 +1,22 @@
 -- The theorems of `specs/Theorems.antt`.
 use Prim.Native.Nat.{ℕ, ◌*◌, ◌^◌, ◌≤◌, ◌<◌}
 use mathlib.Core.Path.{◌≡◌, refl, sym, ap, ◌∙◌}
-use mathlib.Core.Bool.{Bool, true, false, cond}
+use mathlib.Core.Bool.{Bool, true, false}
 use mathlib.Core.List.{List, [], ◌∷◌, ◌++◌}
 use native.Mathlib.Omega.{arith}
 use lib.ListN.{length, get_or, length-append}
+use Rattle.std.specs.Prelude.{None, Some}
 use Rattle.text.specs.Line.{broken_line}
 use Rattle.area_leaving.proofs.Laws.{take_short}
 use Rattle.file_set.specs.declared.Set.{Set}
 use Rattle.inspect_split.specs.Records.{whole_of, records_of, lines_of}
 use Rattle.inspect_split.proofs.Theorems.{cuts, bounds}
-use Rattle.inspect_claim.specs.declared.compare.Finding.{Finding}
 use Rattle.inspect_claim.specs.Claim.{Claim, claimed_octets, octets_of, Listed, parses, claim_of}
-use Rattle.inspect_claim.specs.Compare.{said_of, agreeing, differing_at, finding_of, FirstDifference}
+use Rattle.inspect_claim.specs.Compare.{Finding, said_of, agreeing, differing_at, finding_of, FirstDifference}
 use Rattle.inspect_claim.specs.Theorems.{Same}
-use Rattle.inspect_claim.proofs.Theorems.{reads, finds, agreement, agrees_whole, place_within}
+use Rattle.inspect_claim.proofs.Theorems.{reads, finds, agreement, place_within}
 use Rattle.inspect_line.specs.Lines.{ports_in, forwarding_for, decision_for, output_for, finding_by, finding_for, agrees_line, differs_line, finding_line, record_line}
 use Rattle.inspect_line.specs.Theorems.{Claims, RecordLines, Pieces, Room}
-use Rattle.inspect_line.proofs.Laws.{agrees_line_lem, differs_line_lem}
 use Rattle.inspect_line.proofs.Outputs.{leaves}
 use Rattle.inspect_line.proofs.Digits.{apart, short_line}
 
@@ -33,10 +32,10 @@ claims =
     }
 
 -- what the box says has at most 45 places
-place_small : (s : Set) (rows : List ℕ) (c : Claim) → (finding_for s rows c).place ≤ 45
+place_small : (s : Set) (rows : List ℕ) (c : Claim) (k : ℕ) → finding_for s rows c ≡ differing_at k → k ≤ 45
 unfolding finding_by finding_of
-place_small s rows c =
-    omega (arith, place_within 0 (said_of (decision_for s rows c) (output_for s rows c)) (claimed_octets c), take_short (decision_for s rows c).count (output_for s rows c), (leaves (forwarding_for s rows c)).most)
+place_small s rows c k e =
+    omega (arith, place_within 0 k (said_of (decision_for s rows c) (output_for s rows c)) (claimed_octets c) e, take_short (decision_for s rows c).count (output_for s rows c), (leaves (forwarding_for s rows c)).most)
 
 differs_first : (k : ℕ) → get_or (differs_line k) 0 0 ≡ 68
 unfolding differs_line
@@ -56,62 +55,37 @@ written_line s rows c l =
     line_of s rows (octets_of c) w.0 ∙ ap (λ (x : Claim). finding_line (finding_for s rows x)) w.1
 
 -- a finding's line is not BROKEN, and it is AGREES only where all agrees
-finding_first : (f : Finding) (b : Bool) → f.agrees ≡ b → get_or (finding_line f) 0 0 ≡ cond b 65 68
-finding_first f true e = ap (λ (l : List ℕ). get_or l 0 0) (agrees_line_lem f e)
-finding_first f false e = ap (λ (l : List ℕ). get_or l 0 0) (differs_line_lem f e) ∙ differs_first f.place
-
 not_broken : (f : Finding) → finding_line f ≡ broken_line → ⊥
-not_broken f e = go f.agrees refl
-  where
-    first : get_or (finding_line f) 0 0 ≡ 66
-    first = ap (λ (l : List ℕ). get_or l 0 0) e
+unfolding finding_line
+not_broken None e = let z : ◌≡◌ {A = ℕ} 65 66 = ap (λ (l : List ℕ). get_or l 0 0) e in omega arith
+not_broken (Some k) e = let z : ◌≡◌ {A = ℕ} 68 66 = sym (differs_first k) ∙ ap (λ (l : List ℕ). get_or l 0 0) e in omega arith
 
-    go : (b : Bool) → f.agrees ≡ b → ⊥
-    go true h = let z : ◌≡◌ {A = ℕ} 65 66 = sym (finding_first f true h) ∙ first in omega arith
-    go false h = let z : ◌≡◌ {A = ℕ} 68 66 = sym (finding_first f false h) ∙ first in omega arith
-
-agreed_line : (f : Finding) → finding_line f ≡ agrees_line → f.agrees ≡ true
-agreed_line f e = go f.agrees refl
-  where
-    first : get_or (finding_line f) 0 0 ≡ 65
-    first = ap (λ (l : List ℕ). get_or l 0 0) e
-
-    go : (b : Bool) → f.agrees ≡ b → f.agrees ≡ true
-    go true h = h
-    go false h = absurd (let z : ◌≡◌ {A = ℕ} 68 65 = sym (finding_first f false h) ∙ first in omega arith)
-
-whole : (s : Set) (rows : List ℕ) (c : Claim) → (finding_for s rows c).agrees ≡ true → finding_for s rows c ≡ agreeing
-unfolding finding_by
-whole s rows c e = agrees_whole (said_of (decision_for s rows c) (output_for s rows c)) (claimed_octets c) e
+agreed_line : (f : Finding) → finding_line f ≡ agrees_line → f ≡ agreeing
+unfolding finding_line
+agreed_line None e = refl
+agreed_line (Some k) e = absurd (let z : ◌≡◌ {A = ℕ} 68 65 = sym (differs_first k) ∙ ap (λ (l : List ℕ). get_or l 0 0) e in omega arith)
 
 -- a line of a difference is that of its own place
-differed_line : (f : Finding) (k : ℕ) → f.place ≤ 45 → k < 10 ^ 20 → finding_line f ≡ differs_line k → f ≡ differing_at k
-differed_line f k small h e = go f.agrees refl
-  where
-    first : get_or (finding_line f) 0 0 ≡ 68
-    first = ap (λ (l : List ℕ). get_or l 0 0) e ∙ differs_first k
-
-    go : (b : Bool) → f.agrees ≡ b → f ≡ differing_at k
-    go true t = absurd (let z : ◌≡◌ {A = ℕ} 65 68 = sym (finding_first f true t) ∙ first in omega arith)
-    go false t =
-        let p : f.place ≡ k = apart f.place k (omega arith) h (sym (differs_line_lem f t) ∙ e) in
-        (λ i. record { agrees = t i; place = p i })
+differed_line : (f : Finding) (k : ℕ) → ((n : ℕ) → f ≡ differing_at n → n ≤ 45) → k < 10 ^ 20 → finding_line f ≡ differs_line k → f ≡ differing_at k
+unfolding finding_line
+differed_line None k small h e = absurd (let z : ◌≡◌ {A = ℕ} 65 68 = ap (λ (l : List ℕ). get_or l 0 0) e ∙ differs_first k in omega arith)
+differed_line (Some n) k small h e = ap differing_at (apart n k (omega (arith, small n refl)) h e)
 
 pub record_lines : RecordLines
+unfolding finding_line
 record_lines = record { agrees = agrees_of; differs = differs_of; agreed = agreed_of; differed = differed_of; broken = broken_of; unparsed = unparsed_of }
   where
     agrees_of : (s : Set) (rows : List ℕ) (c : Claim) → Listed (length (ports_in s)) c → finding_for s rows c ≡ agreeing → record_line s rows (octets_of c) ≡ agrees_line
-    agrees_of s rows c l e = written_line s rows c l ∙ agrees_line_lem (finding_for s rows c) (ap (λ (f : Finding). f.agrees) e)
+    agrees_of s rows c l e = written_line s rows c l ∙ ap finding_line e
 
     differs_of : (s : Set) (rows : List ℕ) (c : Claim) (k : ℕ) → Listed (length (ports_in s)) c → finding_for s rows c ≡ differing_at k → record_line s rows (octets_of c) ≡ differs_line k
-    differs_of s rows c k l e =
-        written_line s rows c l ∙ differs_line_lem (finding_for s rows c) (ap (λ (f : Finding). f.agrees) e) ∙ ap differs_line (ap (λ (f : Finding). f.place) e)
+    differs_of s rows c k l e = written_line s rows c l ∙ ap finding_line e
 
     agreed_of : (s : Set) (rows o : List ℕ) → record_line s rows o ≡ agrees_line → (parses (length (ports_in s)) o ≡ true) × (finding_for s rows (claim_of o) ≡ agreeing)
     agreed_of s rows o e = go (parses (length (ports_in s)) o) refl
       where
         go : (b : Bool) → parses (length (ports_in s)) o ≡ b → (parses (length (ports_in s)) o ≡ true) × (finding_for s rows (claim_of o) ≡ agreeing)
-        go true h = (h, whole s rows (claim_of o) (agreed_line (finding_for s rows (claim_of o)) (sym (line_of s rows o h) ∙ e)))
+        go true h = (h, agreed_line (finding_for s rows (claim_of o)) (sym (line_of s rows o h) ∙ e))
         go false h = absurd (let z : ◌≡◌ {A = ℕ} 66 65 = ap (λ (l : List ℕ). get_or l 0 0) (sym (broken_of s rows o h) ∙ e) in omega arith)
 
     differed_of : (s : Set) (rows o : List ℕ) (k : ℕ) → k < 10 ^ 20 → record_line s rows o ≡ differs_line k → (parses (length (ports_in s)) o ≡ true) × (finding_for s rows (claim_of o) ≡ differing_at k)
@@ -132,14 +106,12 @@ pub pieces : Pieces
 pieces s rows ps = cuts.lines (record_line s rows) broken_line ps
 
 line_short : (s : Set) (rows o : List ℕ) → length (record_line s rows o) ≤ 11
+unfolding finding_line
 line_short s rows o = go (parses (length (ports_in s)) o) refl
   where
-    found : (f : Finding) → f.place ≤ 45 → length (finding_line f) ≤ 11
-    found f h = by f.agrees refl
-      where
-        by : (b : Bool) → f.agrees ≡ b → length (finding_line f) ≤ 11
-        by true e = omega (arith, ap length (agrees_line_lem f e))
-        by false e = let k : f.place < 100 = omega arith in omega (arith, ap length (differs_line_lem f e), short_line f.place k)
+    found : (f : Finding) → ((k : ℕ) → f ≡ differing_at k → k ≤ 45) → length (finding_line f) ≤ 11
+    found None h = omega arith
+    found (Some k) h = short_line k (omega (arith, h k refl))
 
     go : (b : Bool) → parses (length (ports_in s)) o ≡ b → length (record_line s rows o) ≤ 11
     go true h = omega (arith, ap length (line_of s rows o h), found (finding_for s rows (claim_of o)) (place_small s rows (claim_of o)))

@@ -1,6 +1,7 @@
 -- Document 02, Wish 14: what the inspector prints of recorded traffic, by the ports and tables of a gateway file, whose rows are lent beside it.
-use Rattle.std.specs.Prelude.{ℕ, ◌≤◌, ◌≡◌, cond, List, [], ◌∷◌, ◌++◌, length, take, drop, replicate}
-use Rattle.text.specs.Put.{Puts}
+use Rattle.std.specs.Prelude.{ℕ, ◌≤◌, ◌≡◌, cond, List, [], ◌∷◌, ◌++◌, None, Some, length, take, drop, replicate}
+use Rattle.text.specs.declared.Line.{Line}
+use Rattle.text.specs.Put.{Writes}
 use Rattle.text.specs.Text.{next}
 use Rattle.text.specs.Line.{broken_line}
 use Rattle.port.specs.declared.Port.{Port}
@@ -11,11 +12,9 @@ use Rattle.file_set.specs.declared.Set.{Set}
 use Rattle.file_set.specs.Set.{tables_in}
 use Rattle.route_ports.specs.Ports.{port_at}
 use Rattle.route_decide.specs.Routing.{between}
-use Rattle.inspect_claim.specs.declared.compare.Finding.{Finding}
 use Rattle.inspect_claim.specs.Claim.{Claim, claimed_octets, parses, claim_of}
-use Rattle.inspect_claim.specs.Compare.{said_of, finding_of}
+use Rattle.inspect_claim.specs.Compare.{Finding, said_of, finding_of}
 use Rattle.inspect_split.specs.Records.{split_from, records_of, kept_of, lines_of, printed_by}
-use Rattle.inspect_line.specs.declared.Inspected.{Inspected}
 
 -- 1. What the box does with the datagram of a claim.
 
@@ -60,7 +59,8 @@ unfoldable pub differs_line : ℕ → List ℕ
 differs_line k = differs_word ++ next k ++ (10 ∷ [])
 
 unfoldable pub finding_line : Finding → List ℕ
-finding_line f = cond f.agrees agrees_line (differs_line f.place)
+finding_line None = agrees_line
+finding_line (Some k) = differs_line k
 
 -- the line of a record without the two octets of its length; BROKEN where it does not parse
 unfoldable pub record_line : Set → List ℕ → List ℕ → List ℕ
@@ -71,7 +71,7 @@ abbrev pub printed_of : Set → List ℕ → List ℕ → List ℕ
 printed_of s rows input = printed_by (record_line s rows) broken_line (split_from [] input)
 
 -- 4. What is held of the input at one time: the lines of its whole records are put, and what is kept stands behind the octets that were used.
-pub record Inspects (s : Set) (rows held before : List ℕ) (n : ℕ) (after : List ℕ) (r : Inspected) : Type 0 where
-  pub lines : Puts before n (lines_of (record_line s rows) (records_of held)) after r.place
-  pub within : r.used ≤ length held
-  pub kept : drop r.used held ≡ kept_of held
+pub record Inspects (s : Set) (rows held : List ℕ) (before after : Line) (used : ℕ) : Type 0 where
+  pub lines : Writes before (lines_of (record_line s rows) (records_of held)) after
+  pub within : used ≤ length held
+  pub kept : drop used held ≡ kept_of held

@@ -2,7 +2,7 @@
 #![tactic(auto)]
 
 ghost use Rattle.std.specs.Prelude.{◌≡◌, true, ◌-◌, ◌≤◌, length, take, drop};
-ghost use Rattle.text.specs.Put.{Puts};
+ghost use Rattle.text.specs.Put.{Writes};
 ghost use Rattle.route_decide.specs.Routing.{between};
 ghost use Rattle.inspect_line.specs.Lines.{finding_by, differs_line, finding_line, Inspects};
 ghost use Rattle.inspect_line.specs.Stages.{line_by};
@@ -10,36 +10,29 @@ ghost use Rattle.inspect_line.specs.Stages.{line_by};
 use decision::Facts;
 use file_set::{MAX_PORTS, Set};
 use forward::forward;
-use inspect_claim::{Finding, Recorded, compare_claim, read_record};
+use inspect_claim::{Recorded, compare_claim, read_record};
 use inspect_split::{LEAD, measure_first};
 use port::Port;
 use table::levels_of;
 use table_choose::{Tables, first_table};
-use text::{put_broken, put_next, put_octet, put_word};
+use text::Line;
 
 // Where the arriving area begins in a record.
 const AREA: usize = 9;
 
-// How many octets of what is held were used, and the place behind the lines that were put.
-#[derive(Clone, Copy)]
-pub struct Inspected {
-    pub used: usize,
-    pub place: usize,
-}
-
-// The lines of all whole records of what is held, put from place n on. What stands behind the octets used is kept: it is no whole record. The two ports of a record are picked where
-// they lie, so that the set is not copied for each.
-pub fn inspect_held(set: Set, rows: &[u16], held: &[u8], out: &mut [u8], n: usize) -> Inspected
-    ensures { Inspects set rows.now held.now out.old n out.new result }
+// The lines of all whole records of what is held, put behind those that wait; answers how many octets of what is held were used. What stands behind them is kept: it is no whole
+// record. The two ports of a record are picked where they lie, so that the set is not copied for each.
+pub fn inspect_held(set: Set, rows: &[u16], held: &[u8], lines: &mut Line) -> usize
+    ensures { Inspects set rows.now held.now lines.old lines.new result }
 {
     let kept = set.tables;
     let tables = Tables {
         count: set.tablecount,
         items: kept,
     };
-    let ports = listed(set.portcount);
+    // only the ports of a set that have a place
+    let ports = set.portcount.min(MAX_PORTS);
     let mut at: usize = 0;
-    let mut k = n;
     let mut size = measure_first(held);
     while size > 0 {
         let from = at + LEAD;
@@ -49,33 +42,22 @@ pub fn inspect_held(set: Set, rows: &[u16], held: &[u8], out: &mut [u8], n: usiz
         let l = said.leaving;
         let arriving = set.ports[a];
         let leaving = set.ports[l];
-        k = put_line(
+        put_line(
             arriving,
             leaving,
             tables,
             rows,
             said,
             &held[from..to],
-            out,
-            k,
+            lines,
         );
         at = to;
         size = measure_first(&held[at..]);
     }
-    Inspected { used: at, place: k }
+    at
 }
 
-// How many ports of a set have a place: its count, and at most 16.
-fn listed(count: usize) -> usize
-    ensures { (result ≤ count) × (result ≤ 16) × (count ≤ 16 → result ≡ count) × (16 ≤ count → result ≡ 16) }
-{
-    if MAX_PORTS < count {
-        return MAX_PORTS;
-    }
-    count
-}
-
-// The line of a record that was read, put from place n on: AGREES, DIFFERS and the first place that differs, or BROKEN where it does not parse.
+// The line of a record that was read: AGREES, DIFFERS and the first place that differs, or BROKEN where it does not parse.
 fn put_line(
     a: Port,
     l: Port,
@@ -83,17 +65,17 @@ fn put_line(
     rows: &[u16],
     said: Recorded,
     octets: &[u8],
-    out: &mut [u8],
-    n: usize,
-) -> usize
+    line: &mut Line,
+)
     requires { said.parsed ≡ true → (9 ≤ said.claimed) × (said.claimed ≤ length octets.now) }
-    ensures { Puts out.old n (line_by a l tables rows.now said octets.now) out.new result }
+    ensures { Writes line.old (line_by a l tables rows.now said octets.now) line.new }
 {
     if !said.parsed {
-        return put_broken(out, n);
+        line.put_broken();
+        return;
     }
     let finding = find_claimed(a, l, tables, rows, said.facts, octets, said.claimed);
-    put_finding(out, n, finding)
+    put_finding(line, finding);
 }
 
 // The areas of a record whose claimed decision begins at a place: the arriving one up to there, the claim from there on.
@@ -105,7 +87,7 @@ fn find_claimed(
     facts: Facts,
     octets: &[u8],
     at: usize,
-) -> Finding
+) -> Option<usize>
     requires { (9 ≤ at) × (at ≤ length octets.now) }
     ensures { result ≡ finding_by (between a l tables rows.now facts (take (at - 9) (drop 9 octets.now)) 40) (drop at octets.now) }
 {
@@ -121,7 +103,7 @@ fn find_difference(
     facts: Facts,
     area: &[u8],
     claimed: &[u8],
-) -> Finding
+) -> Option<usize>
     ensures { result ≡ finding_by (between a l tables rows.now facts area.now 40) claimed.now }
 {
     let mut space = [0u8; 40];
@@ -142,20 +124,20 @@ fn find_difference(
     compare_claim(d, &space, claimed)
 }
 
-// A finding's line.
-fn put_finding(out: &mut [u8], n: usize, finding: Finding) -> usize
-    ensures { Puts out.old n (finding_line finding) out.new result }
+// The line of what was found: the first place that differs, or None where all agree.
+fn put_finding(line: &mut Line, finding: Option<usize>)
+    ensures { Writes line.old (finding_line finding) line.new }
 {
-    if finding.agrees {
-        return put_word(out, n, b"AGREES\n");
+    match finding {
+        None => line.word(b"AGREES\n"),
+        Some(place) => put_differs(line, place),
     }
-    put_differs(out, n, finding.place)
 }
 
-fn put_differs(out: &mut [u8], n: usize, place: usize) -> usize
-    ensures { Puts out.old n (differs_line place) out.new result }
+fn put_differs(line: &mut Line, place: usize)
+    ensures { Writes line.old (differs_line place) line.new }
 {
-    let named = put_word(out, n, b"DIFFERS");
-    let placed = put_next(out, named, place as u64);
-    put_octet(out, placed, b'\n')
+    line.word(b"DIFFERS");
+    line.next(place as u64);
+    line.octet(b'\n');
 }

@@ -1,14 +1,13 @@
 -- How many categories spaced runs have: the sum over the runs is the number of categories that they cover.
-use Prim.Native.Nat.{ℕ, zero, suc, ◌+◌, ◌-◌, ◌≤◌, ◌<◌}
-use mathlib.Core.Path.{◌≡◌, refl, ap, sym, ◌∙◌}
+use Prim.Native.Nat.{ℕ, zero, suc, ◌+◌, ◌-◌, ◌≤◌}
+use mathlib.Core.Path.{◌≡◌, refl, sym, ◌∙◌}
 use mathlib.Core.List.{List, [], ◌∷◌}
-use mathlib.Core.Bool.{Bool, true, false, cond, ◌&&◌, ◌||◌, and-false, true≢false}
-use lib.Dec.{leb}
+use mathlib.Core.Bool.{Bool, true, false, cond, ◌||◌, and-false, true≢false}
 use native.Mathlib.Omega.{arith}
 use native.Mathlib.Decide.{dec_le}
 use borrow.Author.Tests.{le-leb, lt-leb}
 use Rattle.label.specs.declared.Run.{Run}
-use Rattle.label.specs.Runs.{run, in_run, covers, count_below, count_of}
+use Rattle.label.specs.Runs.{in_run, covers, count_below, count_of}
 use Rattle.label.proofs.Canon.{Canon, Below, clear}
 
 pub count_none : (n : ℕ) → count_below n (λ c. false) ≡ 0

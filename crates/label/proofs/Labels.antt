@@ -1,11 +1,11 @@
 -- Laws of labels: the parts of well-formedness, a well-formed label is that of its runs, and what A ≤ B says over membership.
 use mathlib.Core.Path.{◌≡◌, refl, sym, ◌∙◌, ap}
-use mathlib.Core.Bool.{true, not, ◌&&◌, and-true}
+use mathlib.Core.Bool.{true, cond, not, ◌&&◌, and-true}
 use mathlib.Core.List.{List, [], ◌∷◌, ◌++◌, append_assoc}
 use Prim.Native.Nat.{ℕ, suc, ◌+◌, ◌-◌, ◌≤◌, ◌<◌}
 use native.Mathlib.Omega.{arith}
 use lib.Dec.{leb, eqb}
-use lib.ListN.{length, drop, replicate, set, length-append, length-drop, length-replicate, take-append-drop}
+use lib.ListN.{length, get_or, drop, replicate, set, length-append, length-drop, length-replicate, take-append-drop}
 use lib.Seq.{set-append_seam, length-take-le, take-append_seam, drop-append_seam}
 use borrow.Author.Tests.{leb-true, eqb-false, eqb-true, not-true, le-leb, ne_eqb, eq-eqb}
 use Rattle.label.specs.declared.Run.{Run}
@@ -16,6 +16,7 @@ use Rattle.label.specs.Theorems.{AtMost}
 use Rattle.label.proofs.Bools.{and_left, and_right}
 use Rattle.label.proofs.Runs.{Sub, subset_sub, sub_subset, one_form}
 use Rattle.label.proofs.Pass.{passes_subset}
+use Rattle.label.proofs.Places.{first_alone}
 
 -- The parts of well-formedness.
 pub record Formed (l : Label) : Type 0 where
@@ -172,3 +173,16 @@ compared_at_most a b wa wb =
     let f = formed a wa in
     let g = formed b wb in
     rw (le-leb _ _ f.held, le-leb _ _ g.held, passes_subset (used a) (used b) f.runs g.runs)
+
+pub formed_held : (l : Label) → well_formed l ≡ true → l.count ≤ 120
+formed_held l e = (formed l e).held
+
+-- what a pass tells of well-formed labels
+pub leq_compared : (a b : Label) → well_formed a ≡ true → well_formed b ≡ true → compared a b ≡ leq a b
+leq_compared a b e f = compared_at_most a b e f ∙ sym (leq_at_most a b e f)
+
+-- a label of at most one run: its first place tells, and that the others are zero
+pub first_formed : (l : Label) → (l.domain ≡ 0 → ⊥) → l.count ≤ 1 → l.domain ≤ 4294967295 → l.level ≤ 255 → length l.runs ≡ 120 →
+    let r = get_or l.runs 0 no_run in
+    well_formed l ≡ (cond (eqb l.count 0) (eqb r.low 0 && eqb r.high 0) (leb r.low r.high && leb r.high 65534) && unused (drop 1 l.runs))
+first_formed l e h d v n = well_formed_runs l e (omega arith) (typed_yes l d v n) ∙ first_alone l.count l.runs h (omega arith)

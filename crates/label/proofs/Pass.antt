@@ -1,8 +1,8 @@
 -- Laws of one pass over two lists of runs: what a turn leaves, and that of spaced lists it is the subset test.
--- Assumes nothing.
 use mathlib.Core.Path.{◌≡◌, refl, sym, ◌∙◌}
 use mathlib.Core.Bool.{Bool, true, false, cond, ◌&&◌}
-use mathlib.Core.List.{List, [], ◌∷◌}
+use mathlib.Core.List.{List, [], ◌∷◌, map}
+use Rattle.std.proofs.lemmas.List.{map-id}
 use Prim.Native.Nat.{ℕ, ◌+◌, ◌≤◌, ◌<◌}
 use native.Mathlib.Omega.{arith}
 use native.Mathlib.Decide.{dec_le}
@@ -19,44 +19,8 @@ module _ (x y : Run) (xs ys : List Run) where
   pub passes_over : y.high < x.low → passes (x ∷ xs) (y ∷ ys) ≡ passes (x ∷ xs) ys
   passes_over h = simp (lt-leb x.low y.high h)
 
-  pub passes_before : x.low ≤ y.high → x.low < y.low → passes (x ∷ xs) (y ∷ ys) ≡ false
-  passes_before h k = simp (le-leb x.low y.high h, lt-leb y.low x.low k)
-
-  pub passes_past : x.low ≤ y.high → y.low ≤ x.low → y.high < x.high → passes (x ∷ xs) (y ∷ ys) ≡ false
-  passes_past h k l = simp (le-leb x.low y.high h, le-leb y.low x.low k, lt-leb x.high y.high l)
-
   pub passes_in : x.low ≤ y.high → y.low ≤ x.low → x.high ≤ y.high → passes (x ∷ xs) (y ∷ ys) ≡ passes xs (y ∷ ys)
   passes_in h k l = simp (le-leb x.low y.high h, le-leb y.low x.low k, le-leb x.high y.high l)
-
--- Where a pass stands: what is left of the two lists passes exactly when the whole lists do.
-pub record Stands (xs ys as' bs' : List Run) : Type 0 where
-  pub same : passes xs ys ≡ passes as' bs'
-
-pub stands_start : {xs ys : List Run} → Stands xs ys xs ys
-stands_start = record { same = refl }
-
--- what is left, said in another way
-pub stands_by : {xs ys as' bs' cs' ds' : List Run} → as' ≡ cs' → bs' ≡ ds' → Stands xs ys as' bs' → Stands xs ys cs' ds'
-stands_by a b s = record { same = s.same ∙ (λ i. passes (a i) (b i)) }
-
-pub stands_none : {xs ys : List Run} {x : Run} {as' : List Run} → Stands xs ys (x ∷ as') [] → passes xs ys ≡ false
-stands_none s = s.same
-
-pub stands_done : {xs ys bs' : List Run} → Stands xs ys [] bs' → passes xs ys ≡ true
-stands_done s = s.same
-
-module _ {xs ys : List Run} {x : Run} {as' : List Run} {y : Run} {bs' : List Run} (s : Stands xs ys (x ∷ as') (y ∷ bs')) where
-  pub stands_over : y.high < x.low → Stands xs ys (x ∷ as') bs'
-  stands_over h = record { same = s.same ∙ passes_over x y as' bs' h }
-
-  pub stands_in : x.low ≤ y.high → y.low ≤ x.low → x.high ≤ y.high → Stands xs ys as' (y ∷ bs')
-  stands_in h k l = record { same = s.same ∙ passes_in x y as' bs' h k l }
-
-  pub stands_before : x.low ≤ y.high → x.low < y.low → passes xs ys ≡ false
-  stands_before h k = s.same ∙ passes_before x y as' bs' h k
-
-  pub stands_past : x.low ≤ y.high → y.low ≤ x.low → y.high < x.high → passes xs ys ≡ false
-  stands_past h k l = s.same ∙ passes_past x y as' bs' h k l
 
 -- What passes is covered, spaced or not.
 pub passes_sub : (xs ys : List Run) → passes xs ys ≡ true → Sub xs ys
@@ -100,55 +64,6 @@ passes_subset xs ys d e =
     (λ h. sub_passes 0 0 xs ys d e (subset_sub xs ys h))
 
 -- A pass takes at most as many turns as the lists have runs together.
-module _ (x y : Run) (xs ys : List Run) where
-  pub rounds_over : y.high < x.low → rounds (x ∷ xs) (y ∷ ys) ≡ 1 + rounds (x ∷ xs) ys
-  rounds_over h = simp (lt-leb x.low y.high h)
-
-  pub rounds_in : x.low ≤ y.high → y.low ≤ x.low → x.high ≤ y.high → rounds (x ∷ xs) (y ∷ ys) ≡ 1 + rounds xs (y ∷ ys)
-  rounds_in h k l = simp (le-leb x.low y.high h, le-leb y.low x.low k, le-leb x.high y.high l)
-
-  pub rounds_before : x.low ≤ y.high → x.low < y.low → rounds (x ∷ xs) (y ∷ ys) ≡ 1
-  rounds_before h k = simp (le-leb x.low y.high h, lt-leb y.low x.low k)
-
-  pub rounds_past : x.low ≤ y.high → y.low ≤ x.low → y.high < x.high → rounds (x ∷ xs) (y ∷ ys) ≡ 1
-  rounds_past h k l = simp (le-leb x.low y.high h, le-leb y.low x.low k, lt-leb x.high y.high l)
-
--- Where a pass that counts its rounds stands: those gone and those left are all.
-pub record Counts (xs ys as' bs' : List Run) (k : ℕ) : Type 0 where
-  pub all : k + rounds as' bs' ≡ rounds xs ys
-
-pub counts_start : {xs ys : List Run} → Counts xs ys xs ys 0
-counts_start = record { all = omega arith }
-
-pub counts_by : {xs ys as' bs' cs' ds' : List Run} {k : ℕ} → as' ≡ cs' → bs' ≡ ds' → Counts xs ys as' bs' k → Counts xs ys cs' ds' k
-counts_by {k = k} a b c = record { all = sym (λ i. k + rounds (a i) (b i)) ∙ c.all }
-
-pub counts_none : {xs ys : List Run} {x : Run} {as' : List Run} {k : ℕ} → Counts xs ys (x ∷ as') [] k → k + 1 ≡ rounds xs ys
-counts_none c = c.all
-
-pub counts_done : {xs ys bs' : List Run} {k : ℕ} → Counts xs ys [] bs' k → k ≡ rounds xs ys
-counts_done c = omega (arith, c.all)
-
-module _ {xs ys : List Run} {x : Run} {as' : List Run} {y : Run} {bs' : List Run} {k : ℕ} (c : Counts xs ys (x ∷ as') (y ∷ bs') k) where
-  pub counts_over : y.high < x.low → Counts xs ys (x ∷ as') bs' (k + 1)
-  counts_over h = record { all = omega (arith, c.all, rounds_over x y as' bs' h) }
-
-  pub counts_in : x.low ≤ y.high → y.low ≤ x.low → x.high ≤ y.high → Counts xs ys as' (y ∷ bs') (k + 1)
-  counts_in h l m = record { all = omega (arith, c.all, rounds_in x y as' bs' h l m) }
-
-  pub counts_before : x.low ≤ y.high → x.low < y.low → k + 1 ≡ rounds xs ys
-  counts_before h l = omega (arith, c.all, rounds_before x y as' bs' h l)
-
-  pub counts_past : x.low ≤ y.high → y.low ≤ x.low → y.high < x.high → k + 1 ≡ rounds xs ys
-  counts_past h l m = omega (arith, c.all, rounds_past x y as' bs' h l m)
-
-module _ {x y : Run} {xs ys as' bs' : List Run} (a : as' ≡ x ∷ xs) (b : bs' ≡ y ∷ ys) where
-  pub fewer_over : y.high < x.low → rounds as' ys < rounds as' bs'
-  fewer_over h = rw (a, b) (omega (arith, rounds_over x y xs ys h))
-
-  pub fewer_in : x.low ≤ y.high → y.low ≤ x.low → x.high ≤ y.high → rounds xs bs' < rounds as' bs'
-  fewer_in h k l = rw (a, b) (omega (arith, rounds_in x y xs ys h k l))
-
 pub rounds_most : (xs ys : List Run) → rounds xs ys ≤ length xs + length ys
 rounds_most [] ys = omega arith
 rounds_most (x ∷ xs) [] = omega arith
@@ -159,3 +74,7 @@ rounds_most (x ∷ xs) (y ∷ ys) = go (leb x.low y.high) (leb y.low x.low && le
     go true true on over = omega arith
     go true false on over = omega arith
     go false t on over = omega arith
+
+-- runs stand for themselves
+pub same_runs : (xs ys : List Run) → passes (map (λ r. r) xs) (map (λ r. r) ys) ≡ passes xs ys
+same_runs xs ys = rw (map-id xs, map-id ys)

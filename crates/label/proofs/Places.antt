@@ -2,7 +2,7 @@
 -- and the highest category by the last run alone.
 -- Assumes nothing.
 use mathlib.Core.Path.{◌≡◌, refl, sym}
-use mathlib.Core.Bool.{Bool, true, false, cond, ◌&&◌, ◌||◌, and-true, and-false}
+use mathlib.Core.Bool.{Bool, true, false, cond, ◌&&◌, and-true, and-false}
 use mathlib.Core.List.{List, [], ◌∷◌}
 use mathlib.Core.Logic.{⊎_elim}
 use Prim.Native.Nat.{ℕ, zero, suc, ◌+◌, ◌*◌, ◌≤◌, ◌<◌}
@@ -15,6 +15,7 @@ use Rattle.label.specs.declared.Run.{Run}
 use Rattle.label.specs.Runs.{spaced, unused}
 use Rattle.label.specs.Label.{no_run}
 use Rattle.label.proofs.Bools.{less_or}
+use Rattle.label.proofs.Steps.{next}
 
 -- an OR is zero exactly when both are
 pub zero_or : (a b : ℕ) → bit_or a b ≡ 0 → (a ≡ 0) × (b ≡ 0)
@@ -26,6 +27,10 @@ or_step zero zero zero u = refl
 or_step zero zero (suc h) u = simp (eqb-suc-zero h, ne_eqb (bit_or zero (zero + suc h * 65536)) 0 (λ e. omega (arith, (zero_or zero (zero + suc h * 65536) e).1)))
 or_step zero (suc l) h u = simp (eqb-suc-zero l, ne_eqb (bit_or zero (suc l + h * 65536)) 0 (λ e. omega (arith, (zero_or zero (suc l + h * 65536) e).1)))
 or_step (suc s) l h u = simp (eqb-suc-zero s, ne_eqb (bit_or (suc s) (l + h * 65536)) 0 (λ e. omega (arith, (zero_or (suc s) (l + h * 65536) e).0)))
+
+pub unused_next : (s : ℕ) (rs : List Run) (i : ℕ) → i < length rs → let r = get_or rs i no_run in
+    (eqb s 0 && unused (drop i rs)) ≡ (eqb (bit_or s (r.low + r.high * 65536)) 0 && unused (drop (i + 1) rs))
+unused_next s rs i h = rw (next no_run rs i h) (or_step s _ _ _)
 
 -- Spaced from f on, with the highest category looked at once, at the end.
 abbrev pub rises : ℕ → List Run → Bool
@@ -67,16 +72,3 @@ first_alone zero rs h k = unused_first rs k
 first_alone (suc zero) [] h k = absurd (omega arith)
 first_alone (suc zero) (r ∷ rs) h k = simp (le-leb 0 r.low (omega arith), and-true)
 first_alone (suc (suc n)) rs h k = absurd (omega arith)
-
--- the first place of a label of at most one run
-pub one_formed_lem : (n low high : ℕ)
-    → ((eqb n 0 && (eqb low 0 && eqb high 0)) || (eqb n 1 && (leb low high && leb high 65534)))
-    ≡ (leb n 1 && cond (eqb n 0) (eqb low 0 && eqb high 0) (leb low high && leb high 65534))
-one_formed_lem zero low high = or_none (eqb low 0 && eqb high 0)
-  where
-    or_none : (a : Bool) → (a || false) ≡ a
-    or_none true = refl
-    or_none false = refl
-one_formed_lem (suc zero) low high = refl
-one_formed_lem (suc (suc n)) low high =
-    simp (ne_eqb (suc (suc n)) 0 (λ e. omega arith), ne_eqb (suc (suc n)) 1 (λ e. omega arith), lt-leb (suc (suc n)) 1 (omega arith))

@@ -7,6 +7,7 @@ use Prim.Native.Nat.{ℕ, ◌+◌, ◌-◌, ◌≤◌, ◌<◌}
 use native.Mathlib.Omega.{arith}
 use lib.Dec.{leb}
 use borrow.Author.Tests.{leb-true, le-leb, lt-leb}
+use Rattle.std.specs.List.{list_any}
 use Rattle.label.specs.declared.Run.{Run}
 use Rattle.label.specs.Runs.{in_run, covers, spaced, all_below, subset}
 use Rattle.label.proofs.Form.{Canon, unique}
@@ -159,3 +160,8 @@ sub_subset (r ∷ rs) ys h =
 pub covers_append : (xs ys : List Run) (c : ℕ) → covers (xs ++ ys) c ≡ (covers xs c || covers ys c)
 covers_append [] ys c = refl
 covers_append (r ∷ xs) ys c = rw (covers_append xs ys c) (sym (or_assoc (in_run r c) (covers xs c) (covers ys c)))
+
+-- some run of the list covers the category
+pub covers_any : (rs : List Run) (c : ℕ) → covers rs c ≡ list_any (λ r. in_run r c) rs
+covers_any [] c = refl
+covers_any (r ∷ rs) c = rw (covers_any rs c)

@@ -1,5 +1,5 @@
 -- Document 01, "Labels": what a label is, what it says of a category, and when one is at most another.
-use Rattle.std.specs.Prelude.{Bool, cond, not, ◌&&◌, List, ◌++◌, ℕ, ◌+◌, ◌-◌, leb, eqb, length, take, drop, replicate}
+use Rattle.std.specs.Prelude.{Bool, cond, not, ◌&&◌, List, ◌++◌, ℕ, ◌-◌, leb, eqb, length, take, drop, replicate}
 use Rattle.label.specs.declared.Run.{Run}
 use Rattle.label.specs.declared.Label.{Label}
 use Rattle.label.specs.Runs.{run, covers, spaced, unused, subset, passes}

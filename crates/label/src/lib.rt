@@ -1,8 +1,9 @@
 // Labels: a domain, a level and a set of categories, held as ascending runs (document 01, "Labels").
 #![tactic(auto)]
 
-ghost use Rattle.std.specs.Prelude.{◌≡◌, ◌&&◌, cond, ◌+◌, ◌*◌, ◌≤◌, leb, eqb, drop};
-ghost use Rattle.label.specs.Runs.{spaced, unused, covers, passes, rounds};
+ghost use Rattle.std.specs.Prelude.{◌≡◌, ◌&&◌, cond, ◌+◌, ◌*◌, ◌/◌, ◌%◌, ◌^◌, ◌<◌, ◌≤◌, leb, eqb, drop, map, length};
+ghost use Rattle.std.specs.List.{list_any};
+ghost use Rattle.label.specs.Runs.{run, in_run, spaced, unused, covers, passes, rounds};
 ghost use Rattle.label.specs.Label.{used, well_formed, empty_of, member, is_zero, leq, in_range, compared};
 
 // The categories from low to high, both included.
@@ -57,6 +58,7 @@ impl Label {
     }
 
     // Whether the label is in the one form of its set of categories, with a domain that is not 0.
+    #[tactic(auto, unfolding(crate::specs::Label::well_formed, crate::specs::Label::label_typed))]
     pub fn well_formed(self) -> bool
         ensures { result ≡ well_formed self }
     {
@@ -67,7 +69,7 @@ impl Label {
         if n <= 1 {
             // no place is indexed by a number that is not fixed, so that the label is not copied
             let run = self.runs[0];
-            return one_formed(n, run.low, run.high) & unused_after_first(self);
+            return one_formed(n, run.low, run.high) & all_unused(&self.runs[1..]);
         }
         if Label::MAX_RUNS < n {
             return false;
@@ -76,6 +78,7 @@ impl Label {
     }
 
     // Whether the label has the category; an ill-formed label has none.
+    #[tactic(auto, unfolding(crate::specs::Label::member), using(crate::proofs::Labels::formed_held, crate::proofs::Runs::covers_any))]
     pub fn contains(self, category: u16) -> bool
         ensures { result ≡ member self category }
     {
@@ -86,24 +89,16 @@ impl Label {
     }
 
     // Whether the label is all zero.
+    #[tactic(auto, unfolding(crate::specs::Label::is_zero))]
     pub fn is_zero(self) -> bool
         ensures { result ≡ is_zero self }
     {
-        if self.domain != 0 {
-            return false;
-        }
-        if self.level != 0 {
-            return false;
-        }
-        if self.count != 0 {
-            return false;
-        }
-        let run = self.runs[0];
-        (run.low == 0) & (run.high == 0) & unused_after_first(self)
+        self.domain == 0 && self.level == 0 && self.count == 0 && all_unused(&self.runs)
     }
 
     // Whether the label is at most the other: the same domain, no higher level, and no category that the other lacks.
     // An ill-formed label is at most none, and none is at most it.
+    #[tactic(auto, unfolding(crate::specs::Label::leq), using(crate::proofs::Labels::leq_compared))]
     pub fn within(self, other: Label) -> bool
         ensures { result ≡ leq self other }
     {
@@ -117,6 +112,7 @@ impl Label {
     }
 
     // The same, without a look at the form of either: for labels that are known to be well formed.
+    #[tactic(auto, unfolding(crate::specs::Label::compared))]
     pub fn at_most(self, other: Label) -> bool
         ensures { result ≡ compared self other }
     {
@@ -135,11 +131,11 @@ impl Label {
         if self.count == 0 {
             return true;
         }
-        let passed = runs_within(self, other);
-        passed.within
+        used_within(self, other)
     }
 
     // Whether the label lies in the range from the lowest to the highest.
+    #[tactic(auto, unfolding(crate::specs::Label::in_range))]
     pub fn in_range(self, lowest: Label, highest: Label) -> bool
         ensures { result ≡ in_range lowest highest self }
     {
@@ -150,86 +146,135 @@ impl Label {
     }
 }
 
+// A run as its key.
+impl From<Run> for u32 {
+    ghost from_gives = { λ r k. k ≡ r.low * 65536 + r.high };
+
+    fn from(run: Run) -> u32 {
+        (run.low as u32) * Run::KEY_FACTOR + (run.high as u32)
+    }
+}
+
+// The run of a key.
+impl From<u32> for Run {
+    ghost from_gives = { λ k r. r ≡ run (k / 65536) (k % 65536) };
+
+    fn from(key: u32) -> Run {
+        Run {
+            low: key.low(),
+            high: key.high(),
+        }
+    }
+}
+
+// What stands for a run of categories: the run, or its key.
+pub trait AsRun: Copy {
+    ghost use Rattle.label.specs.declared.Run.{Run};
+
+    ghost as_run: { Self → Run };
+
+    fn low(self) -> u16
+        ensures { result ≡ (as_run self).low };
+
+    fn high(self) -> u16
+        ensures { result ≡ (as_run self).high };
+}
+
+impl AsRun for Run {
+    ghost as_run = { λ r. r };
+
+    fn low(self) -> u16 {
+        self.low
+    }
+
+    fn high(self) -> u16 {
+        self.high
+    }
+}
+
+impl AsRun for u32 {
+    ghost as_run = { λ k. run (k / 65536) (k % 65536) };
+
+    fn low(self) -> u16 {
+        (self / Run::KEY_FACTOR) as u16
+    }
+
+    fn high(self) -> u16 {
+        (self % Run::KEY_FACTOR) as u16
+    }
+}
+
 // What one pass over two lists of runs says, and how many rounds it took. The rounds are there for the contract alone: the caller drops them,
 // and with the call inlined the compiler drops their counting.
 #[derive(Clone, Copy)]
-struct Passed {
-    within: bool,
-    rounds: usize,
+pub struct Passed {
+    pub within: bool,
+    // no two lists have so many runs that it does not hold them
+    pub rounds: u128,
 }
 
-// Whether the runs of the first label pass in those of the second: one loop over both, with no loop inside or called. Its rounds are counted,
-// and `rounds` is at most as many as both labels have runs together.
-fn runs_within(a: Label, b: Label) -> Passed
-    requires count_bound { a.count ≤ 120 }
-    requires count_bound_2 { b.count ≤ 120 }
-    ensures { (result.within ≡ passes (used a) (used b)) × (result.rounds ≡ rounds (used a) (used b)) × (result.rounds ≤ a.count + b.count) }
+// Whether the runs of the first list pass in those of the second, each a list of runs or of keys: one loop over both, with no loop inside or called.
+// Its rounds are counted, and `rounds` is at most as many as both lists have runs together.
+pub fn runs_within<A: AsRun, B: AsRun>(a: &[A], b: &[B]) -> Passed
+    ensures within { result.within ≡ passes (map A.as_run a.now) (map B.as_run b.now) }
+    ensures rounds { result.rounds ≡ rounds (map A.as_run a.now) (map B.as_run b.now) }
+    ensures bounded { result.rounds ≤ length a.now + length b.now }
 {
-    let n = a.count;
-    let m = b.count;
-    let mut i: usize = 0;
-    let mut j: usize = 0;
-    let mut k: usize = 0;
-    while i < n {
-        k += 1; // one round more
-        if m <= j {
+    let mut left = a;
+    let mut right = b;
+    let mut rounds: u128 = 0;
+    while let [run, ..] = left {
+        rounds += 1;
+        let [over, ..] = right else {
             return Passed {
-                within: false, // no run of the second label is left
-                rounds: k,
+                within: false, // no run of the second list is left
+                rounds,
             };
-        }
-        let run = a.runs[i];
-        let over = b.runs[j];
-        if over.high < run.low {
-            j += 1; // the run of the second label ends before the first's begins
+        };
+        if over.high() < run.low() {
+            right = &right[1..]; // the run of the second list ends before the first's begins
+        } else if (over.low() <= run.low()) & (run.high() <= over.high()) {
+            left = &left[1..]; // the run of the first list lies in the second's
         } else {
-            if run.low < over.low {
-                return Passed {
-                    within: false,
-                    rounds: k,
-                };
-            }
-            if over.high < run.high {
-                return Passed {
-                    within: false,
-                    rounds: k,
-                };
-            }
-            i += 1; // the run of the first label lies in the second's
+            return Passed {
+                within: false,
+                rounds,
+            };
         }
     }
     Passed {
         within: true,
-        rounds: k,
+        rounds,
     }
+}
+
+// Whether the first label's runs pass in the second's: a call of its own, so that both labels are copied only where their runs are gone through.
+#[tactic(auto, using(crate::proofs::Pass::same_runs))]
+fn used_within(a: Label, b: Label) -> bool
+    requires count_bound { a.count ≤ 120 }
+    requires count_bound_2 { b.count ≤ 120 }
+    ensures { result ≡ passes (used a) (used b) }
+{
+    runs_within(&a.runs[..a.count], &b.runs[..b.count]).within
 }
 
 // Whether the used runs are ascending, within the highest category, with a gap between each two, and every other place is zero.
 // The highs ascend, so the last alone is held against the highest category. Neither pass ends early: a label is read faster whole than
 // with a branch at each place.
+#[tactic(auto, using(crate::proofs::Places::rises_spaced))]
 fn runs_formed(label: Label) -> bool
     requires { label.count ≤ 120 }
     ensures { result ≡ (spaced 0 (used label) && unused (drop label.count label.runs)) }
 {
-    let n = label.count;
     let mut good = true;
     let mut floor: u32 = 0;
-    let mut i: usize = 0;
-    while i < n {
-        let run = label.runs[i];
+    for &run in &label.runs[..label.count] {
         let low = run.low as u32;
         let high = run.high as u32;
         good = good & (floor <= low) & (low <= high);
         floor = high + 2;
-        i += 1;
     }
-    let mut rest: u32 = 0;
-    while i < Label::MAX_RUNS {
-        let run = label.runs[i];
-        rest = rest | word(run);
-        i += 1;
-    }
-    good & (floor <= Label::PAST_LAST) & (rest == 0)
+    good & (floor <= Label::PAST_LAST) & all_unused(&label.runs[label.count..])
 }
 
 // Whether a label has at most one run, and its first place is right for it.
@@ -240,16 +285,13 @@ pub fn one_formed(n: usize, low: u16, high: u16) -> bool
         | ((n == 1) & ((low <= high) & (high <= Label::MAX_CATEGORY)))
 }
 
-// Whether every place but the first is zero.
-fn unused_after_first(label: Label) -> bool
-    ensures { result ≡ unused (drop 1 label.runs) }
+// Whether every place is zero.
+fn all_unused(places: &[Run]) -> bool
+    ensures { result ≡ unused places.now }
 {
     let mut rest: u32 = 0;
-    let mut i: usize = 1;
-    while i < Label::MAX_RUNS {
-        let run = label.runs[i];
-        rest = rest | word(run);
-        i += 1;
+    for &run in places {
+        rest |= word(run);
     }
     rest == 0
 }
@@ -264,18 +306,9 @@ pub fn word(run: Run) -> u32
 // Whether some used run covers the category.
 fn used_covers(label: Label, category: u16) -> bool
     requires { label.count ≤ 120 }
-    ensures { result ≡ covers (used label) category }
+    ensures { result ≡ list_any (λ r. in_run r category) (used label) }
 {
-    let n = label.count;
-    let mut i: usize = 0;
-    while i < n {
-        let run = label.runs[i];
-        if run.low <= category {
-            if category <= run.high {
-                return true;
-            }
-        }
-        i += 1;
-    }
-    false
+    label.runs[..label.count]
+        .iter()
+        .any(|run| run.low <= category && category <= run.high)
 }

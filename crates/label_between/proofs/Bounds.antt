@@ -1,6 +1,6 @@
 -- Laws of a range whose ends are keys: it is that of any two labels with these levels and runs.
 use mathlib.Core.Path.{◌≡◌, refl, sym, ◌∙◌, ap}
-use mathlib.Core.Bool.{cond, ◌&&◌, and-false}
+use mathlib.Core.Bool.{Bool, true, false, cond, ◌&&◌, and-false}
 use mathlib.Core.List.{List, [], ◌∷◌}
 use Prim.Native.Nat.{ℕ, ◌+◌, ◌-◌, ◌/◌, ◌%◌, ◌≤◌, ◌<◌, min}
 use native.Mathlib.Omega.{arith}
@@ -10,6 +10,7 @@ use borrow.Author.Tests.{le-leb, lt-leb, ne_eqb}
 use Rattle.label.specs.declared.Run.{Run}
 use Rattle.label.specs.Label.{no_run, label_of}
 use Rattle.label.specs.Runs.{passes}
+use Rattle.label.proofs.Bools.{same_leb}
 use Rattle.label.proofs.Labels.{used_of}
 use Rattle.label_keys.specs.Keys.{key_run, key_runs}
 use Rattle.label_keys.specs.declared.Look.{Look}
@@ -45,6 +46,14 @@ end_first v (k ∷ ks) e = refl
 
 pub end_count : (v : ℕ) (ks : List ℕ) → (end v ks).count ≡ length ks
 end_count v ks = length-map ks key_run
+
+-- the answer by a single run
+told : (a : Bool) (x y : ℕ) (p : Bool) → answered (cond (a && leb (x + 1) (y + 1)) Within Outside) p ≡ (a && leb x y)
+told a x y p = rw (same_leb (x + 1) (y + 1) x y (λ h. omega arith) (λ h. omega arith)) (go (a && leb x y))
+  where
+    go : (t : Bool) → answered (cond t Within Outside) p ≡ t
+    go true = refl
+    go false = refl
 
 -- What a first look says, and what the answer is then.
 module _ (low : ℕ) (lows : List ℕ) (high : ℕ) (highs : List ℕ) (v : ℕ) (ks : List ℕ) (n : ℕ) where
@@ -84,3 +93,11 @@ module _ (low : ℕ) (lows : List ℕ) (high : ℕ) (highs : List ℕ) (v : ℕ)
     look_single h k =
         look_one (end low lows) (end high highs) v ks n m is a b (end_count low lows ∙ e) h (end_count high highs ∙ k)
         ∙ ap (λ (o : Run). cond (leb o.low (get_or ks 0 0 / 65536) && leb (get_or ks (m - 1) 0 % 65536 + 1) (o.high + 1)) Within Outside) (end_first high highs k)
+
+    -- one run above: the first low and the last high decide
+    pub lies_single : 0 < m → length highs ≡ 1
+        → lies_between low lows high highs v rs
+        ≡ (leb (get_or highs 0 0 / 65536) (get_or ks 0 0 / 65536) && leb (get_or ks (m - 1) 0 % 65536) (get_or highs 0 0 % 65536))
+    lies_single h k =
+        lies_look _ (look_single h k)
+        ∙ told (leb (get_or highs 0 0 / 65536) (get_or ks 0 0 / 65536)) (get_or ks (m - 1) 0 % 65536) (get_or highs 0 0 % 65536) (pass_between lows highs rs)

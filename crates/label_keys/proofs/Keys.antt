@@ -12,7 +12,8 @@ use lib.Seq.{take-suc, take_all, take-length, length-take-le, set-append_seam, d
 use borrow.Author.Tests.{le-leb, lt-leb}
 use Rattle.label.specs.declared.Run.{Run}
 use Rattle.label.specs.declared.Label.{Label}
-use Rattle.label.specs.Runs.{spaced, top_of}
+use Rattle.std.proofs.lemmas.List.{map-id}
+use Rattle.label.specs.Runs.{spaced, top_of, passes}
 use Rattle.label.specs.Label.{no_run, label_of}
 use Rattle.label_keys.specs.Keys.{key_run, key_runs, run_key, label_from}
 use Rattle.label.proofs.Bools.{less_or}
@@ -69,19 +70,27 @@ keys_next f xs ks i d h k =
     let b : map f (take (i + 1) xs) ≡ ys ++ (v ∷ []) = rw (add-one i, take-suc xs i d h) (map-append f (take i xs) (get_or xs i d ∷ [])) in
     a ∙ sym (ap (λ (z : List ℕ). z ++ drop (i + 1) ks) b ∙ append_assoc ys (v ∷ []) (drop (i + 1) ks))
 
--- a label takes one run more
-pub label_next : (d v : ℕ) (ks : List ℕ) (out : Label) (i : ℕ) → out ≡ label_of d v (key_runs (take i ks)) → i < length ks → i < 120
-    → ◌≡◌ {A = Label} (record { domain = out.domain; level = out.level; count = i + 1; runs = set out.runs i (key_run (get_or ks i 0)) }) (label_of d v (key_runs (take (i + 1) ks)))
-label_next d v ks out i e h l =
+-- a label of n runs, of which the first i are those of the keys and the others zero
+abbrev pub filled : ℕ → ℕ → ℕ → List ℕ → ℕ → Label
+filled d v n ks i = record { domain = d; level = v; count = n; runs = (label_of d v (key_runs (take i ks))).runs }
+
+filled_next : (d v n : ℕ) (ks : List ℕ) (i : ℕ) → i < length ks → i < 120
+    → set (filled d v n ks i).runs i (key_run (get_or ks i 0)) ≡ (filled d v n ks (i + 1)).runs
+filled_next d v n ks i h l =
     let x : Run = key_run (get_or ks i 0) in
     let rs : List Run = key_runs (take i ks) in
-    let n : length rs ≡ i = rw length-map (length-take-le i ks (omega arith)) in
+    let m : length rs ≡ i = rw length-map (length-take-le i ks (omega arith)) in
     let grown : rs ++ (x ∷ []) ≡ key_runs (take (i + 1) ks) =
     rw (add-one i, take-suc ks i 0 h) (sym (map-append key_run (take i ks) (get_or ks i 0 ∷ []))) in
-    let m : i + 1 ≡ length (rs ++ (x ∷ [])) = omega (arith, n, length-append rs (x ∷ [])) in
     let p : set (label_of d v rs).runs (length rs) x ≡ (label_of d v (rs ++ (x ∷ []))).runs = with_run_of rs x (omega arith) in
-    let q : set out.runs i x ≡ (label_of d v (rs ++ (x ∷ []))).runs = ap (λ (z : Label). set z.runs i x) e ∙ ap (λ (z : ℕ). set (label_of d v rs).runs z x) (sym n) ∙ p in
-    (λ j. record { domain = (e j).domain; level = (e j).level; count = m j; runs = q j }) ∙ ap (label_of d v) grown
+    ap (λ (z : ℕ). set (label_of d v rs).runs z x) (sym m) ∙ p ∙ ap (λ (z : List Run). (label_of d v z).runs) grown
+
+pub filled_more : (d v n : ℕ) (ks : List ℕ) (out : Label) (i : ℕ) (r : Run) → length ks ≤ 120 → i < length ks → out ≡ filled d v n ks i → r ≡ key_run (get_or ks i 0)
+    → ◌≡◌ {A = Label} (record { domain = out.domain; level = out.level; count = out.count; runs = set out.runs i r }) (filled d v n ks (i + 1))
+filled_more d v n ks out i r h l e q =
+    let t : set (filled d v n ks i).runs i (key_run (get_or ks i 0)) ≡ (filled d v n ks (i + 1)).runs = filled_next d v n ks i l (omega arith) in
+    (λ j. record { domain = (e j).domain; level = (e j).level; count = (e j).count; runs = set (e j).runs i (q j) })
+    ∙ (λ j. record { domain = d; level = v; count = n; runs = t j })
 
 -- the label of m keys, or the all-zero one
 module _ (d v : ℕ) (ks : List ℕ) (n m : ℕ) (is : m ≡ min n (length ks)) where
@@ -114,3 +123,10 @@ front_store xs was y h =
     let n : length (xs ++ y ∷ []) ≡ length xs + 1 = length-append xs (y ∷ []) in
     rw (n, add-one (length xs), drop-cons was (length xs) 0 h)
     (set_at xs (get_or was (length xs) 0) (drop (suc (length xs)) was) y (length xs) refl ∙ sym (append_assoc xs (y ∷ []) (drop (suc (length xs)) was)))
+
+-- a label's runs, which stand for themselves, and keys
+pub passes_used_keys : (xs : List Run) (ks : List ℕ) → passes (map (λ r. r) xs) (key_runs ks) ≡ passes xs (key_runs ks)
+passes_used_keys xs ks = rw map-id
+
+pub passes_keys_used : (ks : List ℕ) (xs : List Run) → passes (key_runs ks) (map (λ r. r) xs) ≡ passes (key_runs ks) xs
+passes_keys_used ks xs = rw map-id

@@ -8,8 +8,7 @@ ghost use Rattle.label.specs.Label.{used, label_of};
 ghost use Rattle.label_keys.specs.Keys.{run_key, key_runs, label_from, keys_fit, with_keys};
 ghost use Rattle.label_keys.specs.Range.{look_of, runs_between};
 
-use label::{Label, Run};
-use lists::lesser;
+use label::{AsRun, Label, Run, runs_within};
 
 // What a first look at a range says: the answer, or that the runs are to be gone through.
 #[derive(Clone, Copy)]
@@ -23,7 +22,7 @@ pub enum Look {
 pub fn to_label(keys: &[u32], n: usize, domain: u32, level: u8) -> Label
     ensures { result ≡ label_from domain level (key_runs (take n keys.now)) }
 {
-    let mut count = lesser(n, keys.len());
+    let mut count = n.min(keys.len());
     let mut owner = domain;
     let mut rank = level;
     // one call, so that the label is built where it is returned
@@ -32,36 +31,28 @@ pub fn to_label(keys: &[u32], n: usize, domain: u32, level: u8) -> Label
         owner = 0;
         rank = 0;
     }
-    fill_label(keys, count, owner, rank)
+    fill_label(&keys[..count], owner, rank)
 }
 
-// The same for as many keys as there are and a label holds.
-fn fill_label(keys: &[u32], n: usize, domain: u32, level: u8) -> Label
-    requires { (n ≤ 120) × (n ≤ length keys.now) }
-    ensures { result ≡ label_of domain level (key_runs (take n keys.now)) }
+// The same for no more keys than a label holds.
+fn fill_label(keys: &[u32], domain: u32, level: u8) -> Label
+    requires { length keys.now ≤ 120 }
+    ensures { result ≡ label_of domain level (key_runs keys.now) }
 {
     let mut out = Label {
         domain: domain,
         level: level,
-        count: 0,
+        count: keys.len(),
         runs: [Run { low: 0, high: 0 }; Label::MAX_RUNS],
     };
-    let mut i: usize = 0;
-    while i < n {
-        let k = keys[i];
-        let low = k / Run::KEY_FACTOR;
-        let high = k % Run::KEY_FACTOR;
-        out.runs[i] = Run {
-            low: low as u16,
-            high: high as u16,
-        };
-        i += 1;
-        out.count = i;
+    for (i, &key) in keys.iter().enumerate() {
+        out.runs[i] = Run::from(key);
     }
     out
 }
 
 // The label's runs as keys at the head of the list, and whether it has over 120 or more than the list has places for: then nothing is written.
+#[tactic(auto, unfolding(crate::specs::Keys::keys_fit, crate::specs::Keys::with_keys))]
 pub fn label_keys(label: Label, keys: &mut [u32]) -> bool
     ensures { (result ≡ keys_fit label keys.old) × (keys.new ≡ with_keys label keys.old) }
 {
@@ -80,12 +71,8 @@ fn write_keys(label: Label, keys: &mut [u32])
     requires { (label.count ≤ 120) × (label.count ≤ length keys.old) }
     ensures { keys.new ≡ map run_key (used label) ++ drop label.count keys.old }
 {
-    let n = label.count;
-    let mut i: usize = 0;
-    while i < n {
-        let run = label.runs[i];
-        keys[i] = run_key(run);
-        i += 1;
+    for (i, &run) in label.runs[..label.count].iter().enumerate() {
+        keys[i] = u32::from(run);
     }
 }
 
@@ -93,14 +80,14 @@ fn write_keys(label: Label, keys: &mut [u32])
 pub fn run_key(x: Run) -> u32
     ensures { (result ≡ run_key x) × (result / 65536 ≡ x.low) × (result % 65536 ≡ x.high) }
 {
-    key_of(x.low, x.high)
+    u32::from(x)
 }
 
 // The key of the run from low to high.
 pub fn key_of(low: u16, high: u16) -> u32
     ensures { result ≡ run_key (run low high) }
 {
-    (low as u32) * Run::KEY_FACTOR + (high as u32)
+    u32::from(Run { low, high })
 }
 
 // What shows without a loop of whether a level and the runs of the first n keys lie between two labels. A caller looks first and goes through
@@ -117,7 +104,7 @@ pub fn look_between(keys: &[u32], n: usize, level: u8, lowest: Label, highest: L
     if lowest.count != 0 {
         return Look::Open;
     }
-    let m = lesser(n, keys.len());
+    let m = n.min(keys.len());
     if m == 0 {
         return Look::Within;
     }
@@ -126,17 +113,18 @@ pub fn look_between(keys: &[u32], n: usize, level: u8, lowest: Label, highest: L
     }
     let over = highest.runs[0];
     let first = keys[0];
-    if first / Run::KEY_FACTOR < over.low as u32 {
+    if first.low() < over.low {
         return Look::Outside;
     }
     let last = keys[m - 1];
-    if (over.high as u32) < last % Run::KEY_FACTOR {
+    if over.high < last.high() {
         return Look::Outside;
     }
     Look::Within
 }
 
 // The runs of the first n keys gone through: whether those of the lowest label lie in them and they in those of the highest.
+#[tactic(auto, using(crate::proofs::Keys::take_min), unfolding(crate::specs::Range::runs_between))]
 pub fn runs_between(keys: &[u32], n: usize, lowest: Label, highest: Label) -> bool
     ensures { result ≡ runs_between lowest highest (key_runs (take n keys.now)) }
 {
@@ -146,73 +134,24 @@ pub fn runs_between(keys: &[u32], n: usize, lowest: Label, highest: Label) -> bo
     if Label::MAX_RUNS < highest.count {
         return false;
     }
-    let m = lesser(n, keys.len());
-    if !label_in_keys(lowest, keys, m) {
-        return false;
-    }
-    keys_in_label(keys, m, highest)
+    let keys = &keys[..n.min(keys.len())];
+    label_in_keys(lowest, keys) && keys_in_label(keys, highest)
 }
 
-// `runs_within` with keys for the second list.
-fn label_in_keys(label: Label, keys: &[u32], m: usize) -> bool
-    requires count_bound { label.count ≤ 120 }
-    requires m_in_bounds { m ≤ length keys.now }
-    ensures { result ≡ passes (used label) (key_runs (take m keys.now)) }
+// Whether the label's runs pass in those of the keys: a call of its own, so that the label is copied only where its runs are gone through.
+#[tactic(auto, using(crate::proofs::Keys::passes_used_keys))]
+fn label_in_keys(label: Label, keys: &[u32]) -> bool
+    requires { label.count ≤ 120 }
+    ensures { result ≡ passes (used label) (key_runs keys.now) }
 {
-    let n = label.count;
-    let mut i: usize = 0;
-    let mut j: usize = 0;
-    while i < n {
-        if m <= j {
-            return false;
-        }
-        let run = label.runs[i];
-        let low = run.low as u32;
-        let high = run.high as u32;
-        let over = keys[j];
-        if over % Run::KEY_FACTOR < low {
-            j += 1;
-        } else {
-            if low < over / Run::KEY_FACTOR {
-                return false;
-            }
-            if over % Run::KEY_FACTOR < high {
-                return false;
-            }
-            i += 1;
-        }
-    }
-    true
+    runs_within(&label.runs[..label.count], keys).within
 }
 
-// `runs_within` with keys for the first list.
-fn keys_in_label(keys: &[u32], n: usize, label: Label) -> bool
-    requires count_bound { label.count ≤ 120 }
-    requires n_in_bounds { n ≤ length keys.now }
-    ensures { result ≡ passes (key_runs (take n keys.now)) (used label) }
+// Whether the runs of the keys pass in the label's.
+#[tactic(auto, using(crate::proofs::Keys::passes_keys_used))]
+fn keys_in_label(keys: &[u32], label: Label) -> bool
+    requires { label.count ≤ 120 }
+    ensures { result ≡ passes (key_runs keys.now) (used label) }
 {
-    let m = label.count;
-    let mut i: usize = 0;
-    let mut j: usize = 0;
-    while i < n {
-        if m <= j {
-            return false;
-        }
-        let key = keys[i];
-        let over = label.runs[j];
-        let low = over.low as u32;
-        let high = over.high as u32;
-        if high < key / Run::KEY_FACTOR {
-            j += 1;
-        } else {
-            if key / Run::KEY_FACTOR < low {
-                return false;
-            }
-            if high < key % Run::KEY_FACTOR {
-                return false;
-            }
-            i += 1;
-        }
-    }
-    true
+    runs_within(keys, &label.runs[..label.count]).within
 }

@@ -1,12 +1,12 @@
 -- Laws of writing over a list.
 use Prim.Native.Nat.{ℕ, zero, suc, ◌+◌, ◌-◌, ◌≤◌, ◌<◌, min}
 use mathlib.Core.Path.{◌≡◌, refl, sym, ap, ◌∙◌}
-use mathlib.Core.List.{List, [], ◌∷◌, ◌++◌, append_assoc, append-nil}
+use mathlib.Core.List.{List, [], ◌∷◌, ◌++◌, append_assoc}
 use native.Mathlib.Nat.{add_assoc, add-zero}
 use native.Mathlib.Numerals.{add-one}
 use native.Mathlib.Decide.{dec_le}
 use native.Mathlib.Omega.{arith}
-use lib.ListN.{length, get_or, set, take, drop, replicate, length-drop, length-append, length-take, drop_of_length-le, take-append-drop}
+use lib.ListN.{length, get_or, set, take, drop, replicate, length-drop, length-append, drop_of_length-le, take-append-drop}
 use lib.Seq.{take_all, take-nil, take-suc, drop-cons, set_at, append_snoc, length-take-le, drop-drop, take_at, drop_at, drop-append-le}
 use Rattle.lists.specs.Lists.{paint, copied}
 

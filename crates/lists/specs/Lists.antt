@@ -6,5 +6,5 @@ abbrev pub paint : ℕ → List ℕ → List ℕ → List ℕ
 paint at xs out = take at out ++ (xs ++ drop (at + length xs) out)
 
 -- dst, with as many numbers of src at its start as both have
-abbrev pub copied : List ℕ → List ℕ → List ℕ
+abbrev pub copied : {T : Type 0} → List T → List T → List T
 copied src dst = take (length dst) src ++ drop (length src) dst

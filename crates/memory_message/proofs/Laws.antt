@@ -1,12 +1,13 @@
 -- Laws of complaints.
 use Prim.Native.Nat.{ℕ, ◌+◌, ◌*◌, ◌≤◌, ◌<◌}
-use mathlib.Core.Path.{◌≡◌, refl, ◌∙◌}
+use mathlib.Core.Path.{◌≡◌, refl, sym, ap, ◌∙◌}
 use mathlib.Core.Bool.{Bool, true, false, ◌&&◌}
 use mathlib.Core.List.{List}
 use native.Mathlib.Omega.{arith}
 use lib.Dec.{eqb}
 use lib.ListN.{length, get_or, take, drop, length-drop}
 use lib.Seq.{get_or-take, get_or-drop}
+use Rattle.std.specs.Prelude.{Option, Some, None}
 use Rattle.message.specs.declared.Parts.{Parts}
 use Rattle.message.specs.Message.{is_message, kind_in, code_in, pointer_in, header_length, header_in, parts_of}
 use Rattle.message.proofs.Laws.{Quote, quote, accepted, parts_none, parts_some}
@@ -14,19 +15,28 @@ use Rattle.memory.specs.declared.Memory.{Memory}
 use Rattle.memory.specs.Memory.{stands, unsound, note_of}
 use Rattle.memory_message.specs.Complaint.{complains, destination_in, unread, complaint_of}
 
--- what was read says whether it is a complaint
-pub read_complains : (o : List ℕ) (p : Parts) → p ≡ parts_of o
-    → (eqb p.number 0 && (eqb p.kind 12 && (eqb p.code 1 && eqb p.pointer 134))) ≡ complains o
+-- octets with no parts are no complaint
+pub read_none : (o : List ℕ) → parts_of o ≡ None → complains o ≡ false
+unfolding complains
+read_none o e = go (is_message o) refl
+  where
+    go : (b : Bool) → is_message o ≡ b → (b && (eqb (kind_in o) 12 && (eqb (code_in o) 1 && eqb (pointer_in o) 134))) ≡ false
+    go true h = absurd (let z : ◌≡◌ {A = ℕ} 0 1 = cc (parts_some o h) in omega arith)
+    go false h = refl
+
+-- the parts say whether it is a complaint
+pub read_complains : (o : List ℕ) (p : Parts) → parts_of o ≡ Some p → (eqb p.kind 12 && (eqb p.code 1 && eqb p.pointer 134)) ≡ complains o
 unfolding complains
 read_complains o p e = go (is_message o) refl
   where
-    says : Parts → Bool
-    says q = eqb q.number 0 && (eqb q.kind 12 && (eqb q.code 1 && eqb q.pointer 134))
+    says : Option Parts → Bool
+    says None = false
+    says (Some q) = eqb q.kind 12 && (eqb q.code 1 && eqb q.pointer 134)
 
     go : (b : Bool) → is_message o ≡ b
-        → (eqb p.number 0 && (eqb p.kind 12 && (eqb p.code 1 && eqb p.pointer 134))) ≡ (b && (eqb (kind_in o) 12 && (eqb (code_in o) 1 && eqb (pointer_in o) 134)))
-    go true h = rw (e ∙ parts_some o h)
-    go false h = rw (e ∙ parts_none o h)
+        → (eqb p.kind 12 && (eqb p.code 1 && eqb p.pointer 134)) ≡ (b && (eqb (kind_in o) 12 && (eqb (code_in o) 1 && eqb (pointer_in o) 134)))
+    go true h = ap says (sym e ∙ parts_some o h)
+    go false h = ap says (sym e ∙ parts_none o h)
 
 -- a complaint is a message
 pub complaint_message : (o : List ℕ) → complains o ≡ true → is_message o ≡ true

@@ -10,11 +10,12 @@ use borrow.Author.Tests.{le-leb, lt-leb, leb-true, leb-false, eq-eqb, ne_eqb, eq
 use lib.Dec.{leb, eqb}
 use lib.ListN.{length, get_or, take, drop, length-append, length-take, length-drop}
 use lib.Seq.{take_all, take_at, drop_at, length-take-le, get_or-take, drop-drop}
+use Rattle.std.specs.Prelude.{Some, None}
 use Rattle.lists.specs.Lists.{paint, copied}
 use Rattle.lists.proofs.Laws.{tail_is, copied_whole, paint_two, paint_length, Back, back_copied}
 use Rattle.message_checksum.specs.Checksum.{words_in, ones_from, checksum_of}
 use Rattle.message_checksum.proofs.Laws.{blank_checksum}
-use Rattle.message.specs.Message.{octets_with, message_of, reports, header_length, whole_header, kind_in, code_in, check_in, pointer_in, blanked, is_message, not_read, parts_of, written_of, message_after}
+use Rattle.message.specs.Message.{octets_with, message_of, reports, header_length, whole_header, kind_in, code_in, check_in, pointer_in, blanked, is_message, parts_of, written_of, message_after}
 use Rattle.message.specs.Stages.{whole_quote, three_zeros, check_set}
 
 -- The message with its checksum field zero, written by three copies.
@@ -213,12 +214,12 @@ module _ (o : List ℕ) where
   accepting a = message_by_lem a.long ∙ rw (a.report, a.check, a.zeros, a.quoted)
 
   -- the parts
-  pub parts_none : is_message o ≡ false → parts_of o ≡ not_read
+  pub parts_none : is_message o ≡ false → parts_of o ≡ None
   unfolding parts_of
   parts_none e = rw e
 
   pub parts_some : is_message o ≡ true
-      → parts_of o ≡ record { number = 0; kind = kind_in o; code = code_in o; pointer = pointer_in o; header = header_length (drop 8 o); payload = length o - 8 - header_length (drop 8 o) }
+      → parts_of o ≡ Some (record { kind = kind_in o; code = code_in o; pointer = pointer_in o; header = header_length (drop 8 o); payload = length o - 8 - header_length (drop 8 o) })
   unfolding parts_of
   parts_some e =
       let q = quote (drop 8 o) (accepted e).quoted in

@@ -1,5 +1,5 @@
 -- Document 02, Wish 9; RFC 792: an ICMP message that reports a refusal, by its octets: how it is built, and what its reader accepts.
-use Rattle.std.specs.Prelude.{ℕ, ◌+◌, ◌*◌, ◌%◌, Bool, cond, ◌&&◌, ◌||◌, List, ◌∷◌, ◌++◌, leb, eqb, length, get_or, take, drop}
+use Rattle.std.specs.Prelude.{ℕ, ◌+◌, ◌*◌, ◌%◌, Bool, cond, ◌&&◌, ◌||◌, List, ◌∷◌, ◌++◌, leb, eqb, length, get_or, take, drop, Option, Some, None}
 use Rattle.message_checksum.specs.Checksum.{checksum_of}
 use Rattle.message_checksum.specs.Theorems.{with_check}
 use Rattle.message.specs.declared.Parts.{Parts}
@@ -58,16 +58,12 @@ is_message o =
     && (whole_header (header_in o)
     && leb (length (payload_in o)) 8))))))
 
--- any other is 25
-abbrev pub not_read : Parts
-not_read = record { number = 25; kind = 0; code = 0; pointer = 0; header = 0; payload = 0 }
-
--- the parts of a message: the header stands from octet 8 on, the data behind it
-unfoldable pub parts_of : List ℕ → Parts
+-- the parts of a message: the header stands from octet 8 on, the data behind it; any other octets have none
+unfoldable pub parts_of : List ℕ → Option Parts
 parts_of o =
     cond (is_message o)
-    (record { number = 0; kind = kind_in o; code = code_in o; pointer = pointer_in o; header = length (header_in o); payload = length (payload_in o) })
-    not_read
+    (Some (record { kind = kind_in o; code = code_in o; pointer = pointer_in o; header = length (header_in o); payload = length (payload_in o) }))
+    None
 
 -- what the writer answers and leaves: the message, and the octets behind it as they were; or, where it does not fit, no octet
 unfoldable pub written_of : List ℕ → ℕ → ℕ

@@ -6,20 +6,22 @@ ghost use Rattle.message_checksum.specs.Checksum.{checksum_of};
 ghost use Rattle.message.specs.Message.{message_of, written_of, message_after, parts_of, is_message, reports, whole_header, check_in, blanked, octets_with};
 ghost use Rattle.message.specs.Stages.{whole_quote, three_zeros, check_set};
 
-use lists::{copy_octets, lesser};
+use lists::copy_list;
 use message_checksum::{add_octets, make_checksum};
 
-// What a message is read to: 0, its type (`kind`), code and pointer, and how many octets its header has, which stands from octet 8 on, and its data, which
-// stand behind the header; or 25, and all else 0.
+// What a message is read to: its type (`kind`), code and pointer, and how many octets its header has, which stands from octet 8 on, and its data, which
+// stand behind the header.
 #[derive(Clone, Copy)]
 pub struct Parts {
-    pub number: u8,
     pub kind: u8,
     pub code: u8,
     pub pointer: u8,
     pub header: usize,
     pub payload: usize,
 }
+
+// The refusal of octets that are no message that reports a refusal.
+pub const NO_MESSAGE: u8 = 25;
 
 // The places of a message's fields: type, code, the two octets of the checksum, pointer; three zeros from octet 5 on; the quoted header.
 const KIND_AT: usize = 0;
@@ -49,7 +51,7 @@ pub fn write_message(
     ensures value { result ≡ written_of (message_of kind code pointer header.now payload.now) (length out.old) }
     ensures out_after { out.new ≡ message_after (message_of kind code pointer header.now payload.now) out.old }
 {
-    let quoted = lesser(payload.len(), MOST_DATA);
+    let quoted = payload.len().min(MOST_DATA);
     let size = HEADER_AT + header.len() + quoted;
     if out.len() < size {
         return 0;
@@ -73,9 +75,9 @@ fn write_blank(kind: u8, code: u8, pointer: u8, header: &[u8], payload: &[u8], o
 {
     let front = [kind, code, 0, 0, pointer, 0, 0, 0];
     let behind = HEADER_AT + header.len();
-    copy_octets(&front, &mut out[..]);
-    copy_octets(header, &mut out[HEADER_AT..]);
-    copy_octets(payload, &mut out[behind..]);
+    copy_list(&front, &mut out[..]);
+    copy_list(header, &mut out[HEADER_AT..]);
+    copy_list(payload, &mut out[behind..]);
 }
 
 // The checksum of the first octets, written into its field.
@@ -88,29 +90,21 @@ fn fill_check(out: &mut [u8], size: usize)
     out[CHECK_LOW_AT] = (check % 256) as u8;
 }
 
-// Reads a message that reports a refusal: its parts, or 25 for any other octets.
-pub fn read_message(octets: &[u8]) -> Parts
+// Reads a message that reports a refusal: its parts, or none for any other octets.
+pub fn read_message(octets: &[u8]) -> Option<Parts>
     ensures { result ≡ parts_of octets.now }
 {
     if !is_message(octets) {
-        return Parts {
-            number: 25,
-            kind: 0,
-            code: 0,
-            pointer: 0,
-            header: 0,
-            payload: 0,
-        };
+        return None;
     }
     let header = length_by(octets[HEADER_AT]);
-    Parts {
-        number: 0,
+    Some(Parts {
         kind: octets[KIND_AT],
         code: octets[CODE_AT],
         pointer: octets[POINTER_AT],
-        header: header,
+        header,
         payload: octets.len() - HEADER_AT - header,
-    }
+    })
 }
 
 // Whether the header is four times its length field long, which is at least 5.

@@ -13,12 +13,14 @@ use Rattle.lists.proofs.Laws.{tail_is, copied_whole, Back, back_zeroed}
 use Rattle.area_leaving.specs.Kept.{round_up}
 use Rattle.message.specs.Message.{reports, whole_header, written_of}
 use Rattle.message.proofs.Laws.{message_length, written_room, written_none}
-use Rattle.message_reply.specs.declared.Reply.TheVariants.{Barred, Copied}
+use Rattle.std.specs.Prelude.{Some, None}
+use Rattle.message_reply.specs.Copied.{copy}
 use Rattle.message_reply.specs.Reply.{reply_of, reply_area, padded}
 use Rattle.message_reply.proofs.Theorems.{area_by}
 use Rattle.message_build.specs.declared.Report.{Report}
-use Rattle.message_build.specs.declared.Built.{Built}
-use Rattle.message_build.specs.Build.{silent, unsound, unanswered, area_of, sent, message_by, without, Outcome, refused, goes, room_for, outcome, built_of, message_left, options_left}
+use Rattle.message_build.specs.declared.BuildError.TheVariants.{Unsound, Short}
+use Rattle.message_build.specs.Answer.{Answer}
+use Rattle.message_build.specs.Build.{silent, unsound, unanswered, area_of, sent, message_by, Outcome, refused, quiet, goes, room_for, outcome, built_of, message_left, options_left}
 
 -- 2, by its tests
 module _ (r : Report) (header : List ℕ) where
@@ -53,12 +55,12 @@ module _ (r : Report) (header : List ℕ) where
 
 -- What is decided, by the tests.
 module _ (r : Report) (header payload : List ℕ) (room space : ℕ) where
-  pub out_unsound : unsound r header ≡ true → outcome r header payload room space ≡ refused 2
+  pub out_unsound : unsound r header ≡ true → outcome r header payload room space ≡ refused Unsound
   unfolding outcome
   out_unsound e = rw e
 
   module _ (u : unsound r header ≡ false) where
-    pub out_none : sent r header ≡ none → outcome r header payload room space ≡ refused 0
+    pub out_none : sent r header ≡ none → outcome r header payload room space ≡ quiet
     unfolding outcome
     out_none e = rw (u, e, outcome)
 
@@ -66,29 +68,29 @@ module _ (r : Report) (header payload : List ℕ) (room space : ℕ) where
     unfolding outcome
     out_some options e = rw (u, e, outcome)
 
-    pub out_quiet : (silent r || unanswered r.number) ≡ true → outcome r header payload room space ≡ refused 0
+    pub out_quiet : (silent r || unanswered r.number) ≡ true → outcome r header payload room space ≡ quiet
     out_quiet e = out_none (sent_quiet r header e)
 
     module _ (q : (silent r || unanswered r.number) ≡ false) where
-      pub out_barred : reply_of (take (length header - 20) (drop 20 header)) ≡ Barred → outcome r header payload room space ≡ refused 0
-      out_barred e = out_none (sent_reply r header q ∙ area_by (area_of header) Barred (rw tail_is at e))
+      pub out_barred : reply_of (take (length header - 20) (drop 20 header)) ≡ None → outcome r header payload room space ≡ quiet
+      out_barred e = out_none (sent_reply r header q ∙ area_by (area_of header) None (rw tail_is at e))
 
-      pub out_copied : (at n : ℕ) → reply_of (take (length header - 20) (drop 20 header)) ≡ Copied at n
+      pub out_copied : (at n : ℕ) → reply_of (take (length header - 20) (drop 20 header)) ≡ Some (copy at n)
           → outcome r header payload room space ≡ room_for (message_by r header payload) (padded (take (at + n - at) (drop at (take (length header - 20) (drop 20 header))))) room space
       out_copied at n e =
           let k : at + n - at ≡ n = omega arith in
-          rw (k, tail_is) (out_some (padded (take n (drop at (drop 20 header)))) (sent_reply r header q ∙ area_by (area_of header) (Copied at n) (rw tail_is at e)))
+          rw (k, tail_is) (out_some (padded (take n (drop at (drop 20 header)))) (sent_reply r header q ∙ area_by (area_of header) (Some (copy at n)) (rw tail_is at e)))
 
 -- Room for both, or not.
 module _ (message options : List ℕ) (room space : ℕ) where
-  pub no_space : space < length options → room_for message options room space ≡ refused 24
+  pub no_space : space < length options → room_for message options room space ≡ refused Short
   no_space h = go (ltb room (length message))
     where
-      go : (b : Bool) → cond (b || ltb space (length options)) (refused 24) (goes message options) ≡ refused 24
+      go : (b : Bool) → cond (b || ltb space (length options)) (refused Short) (goes message options) ≡ refused Short
       go true = refl
       go false = rw (lt-ltb space (length options) h)
 
-  pub no_room : room < length message → room_for message options room space ≡ refused 24
+  pub no_room : room < length message → room_for message options room space ≡ refused Short
   no_room h = rw (lt-ltb room (length message) h)
 
   pub both_fit : length message ≤ room → length options ≤ space → room_for message options room space ≡ goes message options
@@ -123,14 +125,8 @@ padded_written option out one part size es h eo ep =
     back_zeroed (length option) size one part option out refl n l o ep ∙ sym (append_assoc option (replicate (size - length option) 0) (drop size out))
     ∙ ap (λ (k : ℕ). (option ++ replicate (k - length option) 0) ++ drop size out) es
 
--- a refusal writes nothing, and its counts are 0
-pub refuses : (x : Outcome) (n : ℕ) (b : Built) (message options message' options' : List ℕ) → x ≡ refused n → b ≡ without n → message' ≡ message → options' ≡ options
-    → (b ≡ built_of x) × ((message' ≡ message_left x message) × (options' ≡ options_left x options))
-refuses x n b message options message' options' e eb em eo =
-    (eb ∙ sym (ap built_of e), (em ∙ sym (ap (λ (y : Outcome). message_left y message) e), eo ∙ sym (ap (λ (y : Outcome). options_left y options) e)))
-
 -- what is answered and left is that of an equal outcome
-pub same_outcome : (x y : Outcome) (b : Built) (message options message' options' : List ℕ) → x ≡ y
+pub same_outcome : (x y : Outcome) (b : Answer) (message options message' options' : List ℕ) → x ≡ y
     → (b ≡ built_of y) × ((message' ≡ message_left y message) × (options' ≡ options_left y options))
     → (b ≡ built_of x) × ((message' ≡ message_left x message) × (options' ≡ options_left x options))
 same_outcome x y b message options message' options' e h =

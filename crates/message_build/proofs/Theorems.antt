@@ -13,15 +13,17 @@ use Rattle.option.specs.Option.{good_body, valid}
 use Rattle.message_checksum.specs.Checksum.{ones_sum, checksum_of}
 use Rattle.message.specs.Message.{message_of, reports, whole_header}
 use Rattle.message.proofs.Theorems.{given_back}
-use Rattle.area.specs.declared.Place.{Place}
-use Rattle.area.specs.declared.Place.TheVariants.{Nowhere, At}
-use Rattle.area.specs.declared.Walk.TheVariants.{Sound}
+use Rattle.std.specs.Prelude.{Ok, Some, None}
+use Rattle.area.specs.Kinds.{Place, places}
 use Rattle.area.specs.Area.{met_from, met_of, open_walk, option_at}
+use Rattle.area.proofs.KindLaws.{same_places}
 use Rattle.message_reply.specs.Reply.{reply_of, reply_area}
 use Rattle.message_reply.specs.Theorems.{Bars, Carries, unlabelled, labelled}
 use Rattle.message_reply.proofs.Theorems.{replies}
 use Rattle.message_build.specs.declared.Report.{Report}
-use Rattle.message_build.specs.Build.{silent, unsound, unanswered, area_of, sent, message_by, Outcome, refused, goes, room_for, outcome, message_left, options_left}
+use Rattle.message_build.specs.declared.BuildError.{BuildError}
+use Rattle.message_build.specs.declared.BuildError.TheVariants.{Unsound, Short}
+use Rattle.message_build.specs.Build.{silent, unsound, unanswered, area_of, sent, message_by, Outcome, refused, quiet, goes, room_for, outcome, message_left, options_left}
 use Rattle.message_build.specs.Examples.{WorkedAnswers}
 use Rattle.message_build.specs.Theorems.{GoesOut, Labelled, Answers}
 use Rattle.message_build.proofs.Laws.{unsound_header, sound_silent, unsound_report, sound_header, sent_quiet, sent_reply, out_unsound, out_none, out_some}
@@ -78,14 +80,17 @@ module _ (r : Report) (header payload : List ℕ) (room space : ℕ) (message op
   fit : (m o : List ℕ) → room_for m o room space ≡ goes message options → (m ≡ message) × ((o ≡ options) × ((length m ≤ room) × (length o ≤ space)))
   fit m o e = go (ltb room (length m)) (ltb space (length o)) refl refl e
     where
-      go : (a b : Bool) → ltb room (length m) ≡ a → ltb space (length o) ≡ b → cond (a || b) (refused 24) (goes m o) ≡ goes message options
+      go : (a b : Bool) → ltb room (length m) ≡ a → ltb space (length o) ≡ b → cond (a || b) (refused Short) (goes m o) ≡ goes message options
           → (m ≡ message) × ((o ≡ options) × ((length m ≤ room) × (length o ≤ space)))
       go true b p q e = absurd (let z : ◌≡◌ {A = ℕ} 0 1 = cc in omega arith)
       go false true p q e = absurd (let z : ◌≡◌ {A = ℕ} 0 1 = cc in omega arith)
       go false false p q e = (cc, (cc, (ltb-false _ _ p, ltb-false _ _ q)))
 
-  never_refused : (n : ℕ) → outcome r header payload room space ≡ goes message options → outcome r header payload room space ≡ refused n → ⊥
-  never_refused n e f = let z : ◌≡◌ {A = ℕ} 0 1 = cc in omega arith
+  never_refused : (x : BuildError) → outcome r header payload room space ≡ goes message options → outcome r header payload room space ≡ refused x → ⊥
+  never_refused x e f = let z : ◌≡◌ {A = ℕ} 0 1 = cc in omega arith
+
+  never_quiet : outcome r header payload room space ≡ goes message options → outcome r header payload room space ≡ quiet → ⊥
+  never_quiet e f = let z : ◌≡◌ {A = ℕ} 0 1 = cc in omega arith
 
   goes_out : outcome r header payload room space ≡ goes message options → GoesOut r header payload room space message options
   goes_out e = by (unsound r header) (sent r header) refl refl
@@ -120,12 +125,12 @@ module _ (r : Report) (header payload : List ℕ) (room space : ℕ) (message op
       heard u o f false false p q = last u o f p q
 
       by : (a : Bool) (x : Option (List ℕ)) → unsound r header ≡ a → sent r header ≡ x → GoesOut r header payload room space message options
-      by true x u f = absurd (never_refused 2 e (out_unsound r header payload room space u))
-      by false none u f = absurd (never_refused 0 e (out_none r header payload room space u f))
+      by true x u f = absurd (never_refused Unsound e (out_unsound r header payload room space u))
+      by false none u f = absurd (never_quiet e (out_none r header payload room space u f))
       by false (some o) u f = heard u o f (silent r) (unanswered r.number) refl refl
 
   -- what the reply carries, by what the header's area has
-  carried_label : (at : ℕ) (basic : Place) → outcome r header payload room space ≡ goes message options → open_walk (area_of header) ≡ Sound (At at) basic
+  carried_label : (at : ℕ) (basic : Place) → outcome r header payload room space ≡ goes message options → open_walk (area_of header) ≡ Ok (places (Some at) basic)
       → Labelled (area_of header) at options
   carried_label at basic e w = go (replies.carries (area_of header) options reply)
     where
@@ -133,9 +138,9 @@ module _ (r : Report) (header payload : List ℕ) (room space : ℕ) (message op
       reply = (goes_out e).reply
 
       go : Carries (area_of header) options → Labelled (area_of header) at options
-      go (unlabelled b x y) = absurd (let k : Sound Nowhere b ≡ Sound (At at) basic = sym x ∙ w in let q : Nowhere ≡ At at = cc in let z : ◌≡◌ {A = ℕ} 0 1 = cc in omega arith)
+      go (unlabelled b x y) = absurd (let q : None ≡ Some at = (same_places None b (Some at) basic (sym x ∙ w)).0 in let z : ◌≡◌ {A = ℕ} 0 1 = cc in omega arith)
       go (labelled p b x v y s) =
-          let k : Sound (At p) b ≡ Sound (At at) basic = sym x ∙ w in
+          let k : Some p ≡ Some at = (same_places (Some p) b (Some at) basic (sym x ∙ w)).0 in
           let i : p ≡ at = cc in
           record {
             readable = subst (λ (j : ℕ). valid (option_at j (area_of header)) ≡ true) i v;
@@ -144,11 +149,12 @@ module _ (r : Report) (header payload : List ℕ) (room space : ℕ) (message op
             sized = replies.sized (area_of header) options reply;
           }
 
-  carried_none : (basic : Place) → outcome r header payload room space ≡ goes message options → open_walk (area_of header) ≡ Sound Nowhere basic → options ≡ []
+  carried_none : (basic : Place) → outcome r header payload room space ≡ goes message options → open_walk (area_of header) ≡ Ok (places None basic) → options ≡ []
   carried_none basic e w = let k : some options ≡ some [] = sym (goes_out e).reply ∙ replies.bare (area_of header) basic w in cc
 
-untouched_by : (o : Outcome) (n : ℕ) (message options : List ℕ) → o ≡ refused n → (message_left o message ≡ message) × (options_left o options ≡ options)
-untouched_by o n message options e = (ap (λ (x : Outcome). message_left x message) e, ap (λ (x : Outcome). options_left x options) e)
+untouched_by : (o : Outcome) (e : BuildError) (message options : List ℕ) → (o ≡ refused e) ⊎ (o ≡ quiet) → (message_left o message ≡ message) × (options_left o options ≡ options)
+untouched_by o e message options (inl p) = (ap (λ (x : Outcome). message_left x message) p, ap (λ (x : Outcome). options_left x options) p)
+untouched_by o e message options (inr p) = (ap (λ (x : Outcome). message_left x message) p, ap (λ (x : Outcome). options_left x options) p)
 
 pub answers : Answers
 answers =
@@ -163,4 +169,4 @@ answers =
 
 pub worked : WorkedAnswers
 unfolding ones_sum checksum_of message_of met_from met_of open_walk good_body valid reply_of reply_area unsound sent outcome
-worked = (refl, refl)
+worked = (refl, refl, (refl, refl))

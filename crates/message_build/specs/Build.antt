@@ -1,10 +1,12 @@
 -- Document 02, Wish 9: the ICMP message itself. What building answers, and what both outputs hold, for every report, header, data and output.
-use Rattle.std.specs.Prelude.{ℕ, Bool, cond, not, ◌&&◌, ◌||◌, List, ◌++◌, leb, ltb, eqb, length, drop}
+use Rattle.std.specs.Prelude.{ℕ, Bool, cond, not, ◌&&◌, ◌||◌, List, ◌++◌, leb, ltb, eqb, length, drop, Ok, Err, Some, None}
 use Rattle.std.proofs.Math.Option.{Option, none, some}
 use Rattle.message.specs.Message.{message_of, reports, whole_header}
 use Rattle.message_reply.specs.Reply.{reply_area}
 use Rattle.message_build.specs.declared.Report.{Report}
-use Rattle.message_build.specs.declared.Built.{Built}
+use Rattle.message_build.specs.declared.BuildError.{BuildError}
+use Rattle.message_build.specs.declared.BuildError.TheVariants.{Unsound, Short}
+use Rattle.message_build.specs.Answer.{Answer}
 
 -- silent: type, code and pointer all 0 (document 01)
 abbrev pub silent : Report → Bool
@@ -34,32 +36,32 @@ short room message space options = ltb room (length message) || ltb space (lengt
 abbrev pub message_by : Report → List ℕ → List ℕ → List ℕ
 message_by r header payload = message_of r.kind r.code r.pointer header payload
 
--- both counts are 0 for 2, where nothing is sent and for 24
-abbrev pub without : ℕ → Built
-without n = record { number = n; message = 0; options = 0 }
-
 -- what is decided: 2; then that nothing is sent; then 24; else the message and the reply's options area go out
 pub data Outcome : Type 0 where
-  refused : ℕ → Outcome
+  refused : BuildError → Outcome
+  quiet : Outcome
   goes : List ℕ → List ℕ → Outcome
 
 abbrev pub room_for : List ℕ → List ℕ → ℕ → ℕ → Outcome
-room_for message options room space = cond (short room message space options) (refused 24) (goes message options)
+room_for message options room space = cond (short room message space options) (refused Short) (goes message options)
 
 unfoldable pub outcome : Report → List ℕ → List ℕ → ℕ → ℕ → Outcome
 outcome r header payload room space =
-    cond (unsound r header) (refused 2)
-    (elim (sent r header) [ none ↦ refused 0 | some options ↦ room_for (message_by r header payload) options room space ])
+    cond (unsound r header) (refused Unsound)
+    (elim (sent r header) [ none ↦ quiet | some options ↦ room_for (message_by r header payload) options room space ])
 
--- what is answered, and what is written: octets behind what is written stay, and a refusal writes nothing
-abbrev pub built_of : Outcome → Built
-built_of (refused n) = without n
-built_of (goes message options) = record { number = 0; message = length message; options = length options }
+-- what is answered, and what is written: octets behind what is written stay, and nothing is written by a refusal and where nothing is sent
+abbrev pub built_of : Outcome → Answer
+built_of (refused e) = Err e
+built_of quiet = Ok None
+built_of (goes message options) = Ok (Some (record { message = length message; options = length options }))
 
 abbrev pub message_left : Outcome → List ℕ → List ℕ
-message_left (refused n) out = out
+message_left (refused e) out = out
+message_left quiet out = out
 message_left (goes message options) out = message ++ drop (length message) out
 
 abbrev pub options_left : Outcome → List ℕ → List ℕ
-options_left (refused n) out = out
+options_left (refused e) out = out
+options_left quiet out = out
 options_left (goes message options) out = options ++ drop (length options) out

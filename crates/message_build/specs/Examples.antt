@@ -1,7 +1,9 @@
 -- Worked answers, in one table: a report about a header, the room in both outputs, and what is decided.
 use Rattle.std.specs.Prelude.{ℕ, ◌≡◌, Bool, true, false, List, [], ◌∷◌, ◌++◌, map, take, drop}
 use Rattle.message_build.specs.declared.Report.{Report}
-use Rattle.message_build.specs.Build.{unanswered, Outcome, refused, goes, outcome}
+use Rattle.message_build.specs.declared.BuildError.TheVariants.{Unsound, Short}
+use Rattle.message_build.specs.Answer.{number_of}
+use Rattle.message_build.specs.Build.{unanswered, Outcome, refused, quiet, goes, outcome}
 
 pub record Example : Type 0 where
   pub report : Report
@@ -46,25 +48,25 @@ examples =
     ∷ example (report 17 3 9 0) longest 76 40 (goes (3 ∷ 9 ∷ 196 ∷ 223 ∷ 0 ∷ 0 ∷ 0 ∷ 0 ∷ (longest ++ data8)) (take 38 (drop 20 longest) ++ (0 ∷ 0 ∷ [])))
     ∷ example (report 22 3 0 0) bare 36 0 (goes (3 ∷ 0 ∷ 98 ∷ 89 ∷ 0 ∷ 0 ∷ 0 ∷ 0 ∷ (bare ++ data8)) [])
     -- nothing is sent: silent, refusals 3, 4, 8, 13 and 23, and an option 134 that is not valid; no output is asked for room
-    ∷ example (report 3 12 0 20) bare 0 0 (refused 0)
-    ∷ example (report 13 12 0 30) labelled 0 0 (refused 0)
-    ∷ example (report 17 0 0 0) labelled 0 0 (refused 0)
-    ∷ example (report 4 12 0 20) bare 0 0 (refused 0)
-    ∷ example (report 8 12 0 22) labelled 0 0 (refused 0)
-    ∷ example (report 23 12 0 30) labelled 0 0 (refused 0)
-    ∷ example (report 17 3 9 0) broken 0 0 (refused 0)
+    ∷ example (report 3 12 0 20) bare 0 0 quiet
+    ∷ example (report 13 12 0 30) labelled 0 0 quiet
+    ∷ example (report 17 0 0 0) labelled 0 0 quiet
+    ∷ example (report 4 12 0 20) bare 0 0 quiet
+    ∷ example (report 8 12 0 22) labelled 0 0 quiet
+    ∷ example (report 23 12 0 30) labelled 0 0 quiet
+    ∷ example (report 17 3 9 0) broken 0 0 quiet
     -- 2: a header cut off, type 11, type 0 with a code, type 3 with a pointer; before nothing is sent
-    ∷ example (report 6 12 1 134) cut 512 512 (refused 2)
-    ∷ example (report 6 11 0 0) bare 512 512 (refused 2)
-    ∷ example (report 6 0 1 0) bare 512 512 (refused 2)
-    ∷ example (report 4 3 9 1) bare 512 512 (refused 2)
-    ∷ example (report 6 0 0 1) bare 512 512 (refused 2)
+    ∷ example (report 6 12 1 134) cut 512 512 (refused Unsound)
+    ∷ example (report 6 11 0 0) bare 512 512 (refused Unsound)
+    ∷ example (report 6 0 1 0) bare 512 512 (refused Unsound)
+    ∷ example (report 4 3 9 1) bare 512 512 (refused Unsound)
+    ∷ example (report 6 0 0 1) bare 512 512 (refused Unsound)
     -- 2 comes before 24, and a silent refusal about a header cut off is 2
-    ∷ example (report 6 11 0 0) bare 0 0 (refused 2)
-    ∷ example (report 6 0 0 0) cut 0 0 (refused 2)
+    ∷ example (report 6 11 0 0) bare 0 0 (refused Unsound)
+    ∷ example (report 6 0 0 0) cut 0 0 (refused Unsound)
     -- 24: one octet short in either output
-    ∷ example (report 6 12 1 134) bare 35 512 (refused 24)
-    ∷ example (report 17 3 9 0) labelled 512 11 (refused 24)
+    ∷ example (report 6 12 1 134) bare 35 512 (refused Short)
+    ∷ example (report 17 3 9 0) labelled 512 11 (refused Short)
     ∷ []
 
 -- the refusals from 0 to 24 that are not answered
@@ -79,3 +81,4 @@ abbrev pub WorkedAnswers : Type 0
 WorkedAnswers =
     (map (λ (e : Example). outcome e.report e.header data8 e.room e.space) examples ≡ map (λ (e : Example). e.out) examples)
     × (map unanswered (0 ∷ 1 ∷ 2 ∷ 3 ∷ 4 ∷ 5 ∷ 6 ∷ 7 ∷ 8 ∷ 9 ∷ 10 ∷ 11 ∷ 12 ∷ 13 ∷ 14 ∷ 15 ∷ 16 ∷ 17 ∷ 18 ∷ 19 ∷ 20 ∷ 21 ∷ 22 ∷ 23 ∷ 24 ∷ []) ≡ not_answered)
+    × ((number_of Unsound ≡ 2) × (number_of Short ≡ 24))

@@ -1,3 +1,4 @@
+pub mod Answer
 pub mod Build
 pub mod Theorems
 pub mod Examples

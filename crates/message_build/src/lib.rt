@@ -4,11 +4,12 @@
 ghost use Rattle.std.specs.Prelude.{◌≡◌, true, ◌||◌, ◌++◌, ◌+◌, ◌≤◌, length, drop};
 ghost use Rattle.area_leaving.specs.Kept.{round_up};
 ghost use Rattle.message_reply.specs.Reply.{padded};
+ghost use Rattle.message_build.specs.Answer.{number_of};
 ghost use Rattle.message_build.specs.Build.{silent, unsound, unanswered, outcome, room_for, message_by, built_of, message_left, options_left};
 
-use lists::{copy_octets, zero_all};
+use lists::copy_list;
 use message::{reports_refusal, whole_header, write_message};
-use message_reply::{Reply, find_reply};
+use message_reply::find_reply;
 
 // A refusal as it is reported: its number, and its ICMP type (`kind`), code and pointer, all three 0 where it is silent.
 #[derive(Clone, Copy)]
@@ -19,58 +20,68 @@ pub struct Report {
     pub pointer: u8,
 }
 
-// What building answers: 0 and how many octets of both outputs were written, none where nothing is sent; or 2 or 24 and none.
+// What was built: how many octets of both outputs were written.
 #[derive(Clone, Copy)]
 pub struct Built {
-    pub number: u8,
     pub message: usize,
     pub options: usize,
 }
 
-// Builds the message of a refusal about a datagram with this header and data, and the options area of the reply: 2 for a header that is not whole or a
-// report that no message carries; then 0 with both counts 0 where nothing is sent; then 24 where an output is too short. All three leave both outputs as
-// they were; else octets behind what is written stay.
+// Why no message was built.
+#[derive(Clone, Copy)]
+pub enum BuildError {
+    // 2: a header that is not whole, or a report that no message carries
+    Unsound,
+    // 24: an output is too short
+    Short,
+}
+
+impl BuildError {
+    // The number of the refusal.
+    pub fn number(self) -> u8
+        ensures { result ≡ number_of self }
+    {
+        match self {
+            BuildError::Unsound => 2,
+            BuildError::Short => 24,
+        }
+    }
+}
+
+// Builds the message of a refusal about a datagram with this header and data, and the options area of the reply: an error for a header that is not whole or
+// a report that no message carries; then none where nothing is sent; then an error where an output is too short. All three leave both outputs as they were;
+// else octets behind what is written stay.
 pub fn build_message(
     report: Report,
     header: &[u8],
     payload: &[u8],
     message: &mut [u8],
     options: &mut [u8],
-) -> Built
+) -> Result<Option<Built>, BuildError>
     ensures value { result ≡ built_of (outcome report header.now payload.now (length message.old) (length options.old)) }
     ensures message_after { message.new ≡ message_left (outcome report header.now payload.now (length message.old) (length options.old)) message.old }
     ensures options_after { options.new ≡ options_left (outcome report header.now payload.now (length message.old) (length options.old)) options.old }
 {
     if is_unsound(report, header) {
-        return answer(2, 0, 0);
+        return Err(BuildError::Unsound);
     }
     if is_quiet(report) {
-        return answer(0, 0, 0);
+        return Ok(None);
     }
     let area = &header[20..];
     match find_reply(area) {
-        Reply::Barred => answer(0, 0, 0),
-        Reply::Copied(at, n) => {
-            let end = at + n;
+        None => Ok(None),
+        Some(copied) => {
+            let end = copied.at + copied.count;
             send(
                 report,
                 header,
                 payload,
-                &area[at..end],
+                &area[copied.at..end],
                 &mut message[..],
                 &mut options[..],
             )
         }
-    }
-}
-
-fn answer(number: u8, message: usize, options: usize) -> Built
-    ensures { result ≡ record { number = number; message = message; options = options } }
-{
-    Built {
-        number: number,
-        message: message,
-        options: options,
     }
 }
 
@@ -81,7 +92,7 @@ fn is_silent(report: Report) -> bool
     (report.kind == 0) & ((report.code == 0) & (report.pointer == 0))
 }
 
-// 2: a header that is not whole, or a report that is neither silent nor one that a message carries.
+// Whether the header is not whole, or the report neither silent nor one that a message carries.
 fn is_unsound(report: Report, header: &[u8]) -> bool
     ensures { result ≡ unsound report header.now }
 {
@@ -107,7 +118,7 @@ fn is_unanswered(number: u8) -> bool
     ((3 <= number) & (number <= 5)) | (((7 <= number) & (number <= 13)) | (number == 23))
 }
 
-// Writes the message, and the option with zeros to a multiple of 4; 24 where an output is too short.
+// Writes the message, and the option with zeros to a multiple of 4, where both outputs have room.
 fn send(
     report: Report,
     header: &[u8],
@@ -115,14 +126,14 @@ fn send(
     option: &[u8],
     message: &mut [u8],
     options: &mut [u8],
-) -> Built
+) -> Result<Option<Built>, BuildError>
     ensures value { result ≡ built_of (room_for (message_by report header.now payload.now) (padded option.now) (length message.old) (length options.old)) }
     ensures message_after { message.new ≡ message_left (room_for (message_by report header.now payload.now) (padded option.now) (length message.old) (length options.old)) message.old }
     ensures options_after { options.new ≡ options_left (room_for (message_by report header.now payload.now) (padded option.now) (length message.old) (length options.old)) options.old }
 {
     let size = (option.len() + 3) / 4 * 4;
     if options.len() < size {
-        return answer(24, 0, 0);
+        return Err(BuildError::Short);
     }
     let count = write_message(
         report.kind,
@@ -133,10 +144,13 @@ fn send(
         &mut message[..],
     );
     if count == 0 {
-        return answer(24, 0, 0);
+        return Err(BuildError::Short);
     }
     write_padded(option, size, &mut options[..]);
-    answer(0, count, size)
+    Ok(Some(Built {
+        message: count,
+        options: size,
+    }))
 }
 
 // Writes an option, and zeros up to a size.
@@ -145,6 +159,6 @@ fn write_padded(option: &[u8], size: usize, out: &mut [u8])
     ensures { out.new ≡ padded option.now ++ drop size out.old }
 {
     let n = option.len();
-    copy_octets(option, &mut out[..]);
-    zero_all(&mut out[n..size]);
+    copy_list(option, &mut out[..]);
+    out[n..size].fill(0);
 }

@@ -3,12 +3,14 @@ use Prim.Native.Nat.{ℕ, zero, suc, ◌+◌, ◌-◌, ◌*◌, ◌%◌, ◌≤�
 use mathlib.Core.Path.{◌≡◌, refl, sym, ap, ◌∙◌}
 use mathlib.Core.List.{List, [], ◌∷◌, ◌++◌}
 use mathlib.Core.Bool.{Bool, true, false, cond}
+use native.Mathlib.Nat.{add-zero, zero-mul, suc-mul}
 use native.Mathlib.Numerals.{add-one}
 use native.Mathlib.Omega.{arith}
 use borrow.Author.Tests.{lt-ltb, le-ltb, ltb-true, ltb-false, eqb-true, eqb-false, ne_eqb}
 use lib.Dec.{ltb, eqb}
-use lib.ListN.{length, get_or, take, drop, drop_of_length-le}
-use lib.Seq.{drop-drop}
+use lib.ListN.{length, get_or, take, drop}
+use lib.Seq.{drop-drop, get_or-drop, get_or-take}
+use Rattle.std.specs.Simd.{first_chunks}
 use Rattle.option.specs.Option.{Octets}
 use Rattle.message_checksum.specs.Checksum.{words_in, ones_add, ones_from, ones_sum, checksum_of}
 use Rattle.message_checksum.specs.Stages.{folded}
@@ -22,16 +24,6 @@ words_step l i h = let e : i + 2 ≡ suc (suc i) = omega arith in rw (e, add-one
     go (x ∷ []) zero u = refl
     go (x ∷ y ∷ l) zero u = refl
     go (x ∷ l) (suc i) u = go l i (omega arith)
-
-pub words_end : (l : List ℕ) (i : ℕ) → length l ≤ i → words_in (drop i l) ≡ []
-words_end l i h = rw (drop_of_length-le l h)
-
--- an odd last octet is padded
-pub words_last : (l : List ℕ) (i : ℕ) → i < length l → length l ≤ i + 1 → words_in (drop i l) ≡ (get_or l i 0 * 256 + 0) ∷ []
-words_last [] i h k = absurd (omega arith)
-words_last (x ∷ []) zero h k = refl
-words_last (x ∷ y ∷ l) zero h k = absurd (omega arith)
-words_last (x ∷ l) (suc i) h k = words_last l i (omega arith) (omega arith)
 
 positive : (s : ℕ) → (s ≡ 0 → ⊥) → 0 < s
 positive zero n = absurd (n refl)
@@ -117,13 +109,32 @@ pub ones_append : (ws vs : List ℕ) (s : ℕ) → ones_from s (ws ++ vs) ≡ on
 ones_append [] vs s = refl
 ones_append (w ∷ ws) vs s = ones_append ws vs (ones_add s w)
 
+-- a chunk of n octets
+pub chunk_at : (n k : ℕ) (l : List ℕ) (i : ℕ) (d : List ℕ) → i < k → get_or (first_chunks n k l) i d ≡ take n (drop (i * n) l)
+chunk_at n zero l i d h = absurd (omega arith)
+chunk_at n (suc k) l zero d h = rw (zero-mul n)
+chunk_at n (suc k) l (suc i) d h =
+    let e : i * n + n ≡ suc i * n = sym (suc-mul i n) in
+    chunk_at n k (drop n l) i d (omega arith) ∙ ap (take n) (drop-drop (i * n) n l ∙ ap (λ (j : ℕ). drop j l) (omega (arith, e)))
+
+pub chunk_in : (n k : ℕ) (l : List ℕ) (cs : List (List ℕ)) (i : ℕ) (d : List ℕ) → cs ≡ first_chunks n k l → length cs ≡ k → i < length cs
+    → get_or cs i d ≡ take n (drop (i * n) l)
+chunk_in n k l cs i d e m h = ap (λ (x : List (List ℕ)). get_or x i d) e ∙ chunk_at n k l i d (omega arith)
+
+-- the word of a chunk of two
+pub pair_word : (l p : List ℕ) (i w : ℕ) → p ≡ take 2 (drop i l) → w ≡ get_or p 0 0 * 256 + get_or p 1 0 → w ≡ get_or l i 0 * 256 + get_or l (i + 1) 0
+pair_word l p i w e q =
+    let a : get_or p 0 0 ≡ get_or l (i + 0) 0 = ap (λ (x : List ℕ). get_or x 0 0) e ∙ get_or-take 2 (drop i l) 0 0 (omega arith) ∙ get_or-drop i l 0 0 in
+    let b : get_or p 1 0 ≡ get_or l (i + 1) 0 = ap (λ (x : List ℕ). get_or x 1 0) e ∙ get_or-take 2 (drop i l) 1 0 (omega arith) ∙ get_or-drop i l 1 0 in
+    q ∙ rw (a, b, add-zero i)
+
 -- one block more is summed
-pub block_step : (l : List ℕ) (at end s : ℕ) → end ≡ at + 65536 → ones_from s (words_in (drop at l)) ≡ ones_from (ones_from s (words_in (take (end - at) (drop at l)))) (words_in (drop end l))
-block_step l at end s e =
-    let n : end - at ≡ 65536 = omega arith in
-    let c = words_cut (drop at l) 32768 in
-    rw n (ap (ones_from s) c ∙ ones_append (words_in (take 65536 (drop at l))) (words_in (drop 65536 (drop at l))) s
-    ∙ ap (λ (x : List ℕ). ones_from (ones_from s (words_in (take 65536 (drop at l)))) (words_in x)) (drop-drop 65536 at l ∙ ap (λ (i : ℕ). drop i l) (sym e)))
+pub block_step : (l : List ℕ) (i s : ℕ) → ones_from s (words_in (drop (i * 65536) l)) ≡ ones_from (ones_from s (words_in (take 65536 (drop (i * 65536) l)))) (words_in (drop ((i + 1) * 65536) l))
+block_step l i s =
+    let m : List ℕ = drop (i * 65536) l in
+    let n : i * 65536 + 65536 ≡ (i + 1) * 65536 = omega arith in
+    ap (ones_from s) (words_cut m 32768) ∙ ones_append (words_in (take 65536 m)) (words_in (drop 65536 m)) s
+    ∙ ap (λ (x : List ℕ). ones_from (ones_from s (words_in (take 65536 m))) (words_in x)) (drop-drop 65536 (i * 65536) l ∙ ap (λ (j : ℕ). drop j l) n)
 
 -- a turn of the loop over a block: what is left to be added
 pub sum_step : (l : List ℕ) (t s w i : ℕ) → i + 1 < length l → w ≡ get_or l i 0 * 256 + get_or l (i + 1) 0 → w ≤ 65535
@@ -131,14 +142,6 @@ pub sum_step : (l : List ℕ) (t s w i : ℕ) → i + 1 < length l → w ≡ get
 sum_step l t s w i h e k q =
     q ∙ ap (ones_from (folded s)) (words_step l i (omega arith)) ∙ ap (λ (x : ℕ). ones_from (ones_add (folded s) x) (words_in (drop (i + 2) l))) (sym e)
     ∙ ap (λ (x : ℕ). ones_from x (words_in (drop (i + 2) l))) (sym (fold_add s w k))
-
-pub sum_last : (l : List ℕ) (t s w i : ℕ) → i < length l → length l ≤ i + 1 → w ≡ get_or l i 0 * 256 + 0 → w ≤ 65535
-    → t ≡ ones_from (folded s) (words_in (drop i l)) → t ≡ folded (s + w)
-sum_last l t s w i h n e k q =
-    q ∙ ap (ones_from (folded s)) (words_last l i h n) ∙ ap (ones_add (folded s)) (sym e) ∙ sym (fold_add s w k)
-
-pub sum_end : (l : List ℕ) (t s i : ℕ) → length l ≤ i → t ≡ ones_from (folded s) (words_in (drop i l)) → t ≡ folded s
-sum_end l t s i h q = q ∙ ap (ones_from (folded s)) (words_end l i h)
 
 -- every number of the list is a word
 abbrev pub Words : List ℕ → Type 0

@@ -12,14 +12,12 @@ const BLOCK: usize = 65536;
 pub fn add_octets(sum: u16, octets: &[u8]) -> u16
     ensures { result ≡ ones_from sum (words_in octets.now) }
 {
+    let (blocks, rest) = octets.as_chunks::<BLOCK>();
     let mut s = sum;
-    let mut at: usize = 0;
-    while BLOCK < octets.len() - at {
-        let end = at + BLOCK;
-        s = add_block(s, &octets[at..end]);
-        at = end;
+    for block in blocks {
+        s = add_block(s, block);
     }
-    add_block(s, &octets[at..])
+    add_block(s, rest)
 }
 
 // The checksum of octets whose checksum field is zero.
@@ -34,18 +32,15 @@ fn add_block(sum: u16, octets: &[u8]) -> u16
     requires { length octets.now ≤ 65536 }
     ensures { result ≡ ones_from sum (words_in octets.now) }
 {
-    let n = octets.len();
-    let mut s = widen(sum);
-    let mut i: usize = 0;
-    while 1 < n - i {
-        let next = i + 1;
-        s = s + word(octets[i], octets[next]);
-        i += 2;
+    let (pairs, last) = octets.as_chunks::<2>();
+    let mut s = u32::from(sum);
+    for pair in pairs {
+        s = s + word(pair[0], pair[1]);
     }
-    if i < n {
-        return fold(s + word(octets[i], 0));
+    match last.first() {
+        Some(octet) => fold(s + word(*octet, 0)),
+        None => fold(s),
     }
-    fold(s)
 }
 
 // The carries brought back: what is left when 65535 is taken away as often as it leaves more than nothing.
@@ -62,11 +57,5 @@ fn fold(s: u32) -> u16
 fn word(high: u8, low: u8) -> u32
     ensures { (result ≡ high * 256 + low) × (result ≤ 65535) }
 {
-    high as u32 * 256 + low as u32
-}
-
-fn widen(x: u16) -> u32
-    ensures { (result ≡ x) × (result ≤ 65535) }
-{
-    x as u32
+    u32::from(high) * 256 + u32::from(low)
 }

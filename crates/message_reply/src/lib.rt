@@ -1,50 +1,49 @@
 // The options area of a reply (document 02, Wish 9): which octets of the offending header's area are copied.
 #![tactic(auto)]
 
-ghost use Rattle.std.specs.Prelude.{◌≡◌, true, ◌≤◌, ◌<◌, length};
+ghost use Rattle.std.specs.Prelude.{◌≡◌, true, ◌≤◌, ◌<◌, length, Some};
 ghost use Rattle.area.specs.declared.Kind.TheVariants.{Cipso};
 ghost use Rattle.area.specs.Area.{WholeAt};
-ghost use Rattle.area.specs.declared.Place.TheVariants.{At};
 ghost use Rattle.option.specs.Option.{domain_of, valid};
 ghost use Rattle.option_read.specs.Reading.{framed};
 ghost use Rattle.message_reply.specs.Reply.{reply_at, reply_of};
 
-use area::{Place, Walk, walk_open};
+use area::walk_open;
 use option_read::read_keys;
 
-// What is copied: nothing is sent at all, or the octets from a place of the area on, none where the header has no option 134.
+// What is copied: `count` octets from a place of the area on, none where the header has no option 134.
 #[derive(Clone, Copy)]
-pub enum Reply {
-    Barred,
-    Copied(usize, usize),
+pub struct Copied {
+    pub at: usize,
+    pub count: usize,
 }
 
 // What the reply to a datagram copies of the options area of its header: its option 134, if it is valid; nothing is sent where it is not, or where the
 // walk, check 4 left out, meets 3 or 5.
-pub fn find_reply(area: &[u8]) -> Reply
+pub fn find_reply(area: &[u8]) -> Option<Copied>
     ensures { result ≡ reply_of area.now }
 {
     match walk_open(area) {
-        Walk::Refused(_, _) => Reply::Barred,
-        Walk::Sound(label, _) => match label {
-            Place::Nowhere => Reply::Copied(0, 0),
-            Place::At(at) => copy_at(area, at),
+        Err(_) => None,
+        Ok(met) => match met.label {
+            None => Some(Copied { at: 0, count: 0 }),
+            Some(at) => copy_at(area, at),
         },
     }
 }
 
 // The option 134 at an octet, if it is valid.
-fn copy_at(area: &[u8], at: usize) -> Reply
+fn copy_at(area: &[u8], at: usize) -> Option<Copied>
     requires { WholeAt Cipso area.now at }
-    ensures { result ≡ reply_at (At at) area.now }
+    ensures { result ≡ reply_at (Some at) area.now }
 {
     let next = at + 1;
     let n = area[next] as usize;
     let end = at + n;
     if is_valid(&area[at..end]) {
-        return Reply::Copied(at, n);
+        return Some(Copied { at, count: n });
     }
-    Reply::Barred
+    None // nothing is sent
 }
 
 // Whether an option that begins with 134 and fills its octets is valid, whatever its domain.
@@ -56,8 +55,7 @@ fn is_valid(octets: &[u8]) -> bool
         return false;
     }
     let mut keys = [0u32; 120];
-    let read = read_keys(octets, domain_in(octets), &mut keys);
-    read.number == 0
+    read_keys(octets, domain_in(octets), &mut keys).is_ok()
 }
 
 fn widen(x: u8) -> u32

@@ -1,12 +1,13 @@
 -- Laws of keys in place of runs: the choice by the first and the last key, the form of a list of keys, and its spelling.
-use Prim.Native.Nat.{ℕ, ◌+◌, ◌-◌, ◌*◌, ◌/◌, ◌%◌, ◌≤◌, ◌<◌}
-use mathlib.Core.Path.{◌≡◌, ap, sym, ◌∙◌}
+use Prim.Native.Nat.{ℕ, zero, suc, ◌+◌, ◌-◌, ◌*◌, ◌/◌, ◌%◌, ◌≤◌, ◌<◌}
+use mathlib.Core.Path.{◌≡◌, refl, ap, sym, ◌∙◌}
 use mathlib.Core.Bool.{cond}
 use mathlib.Core.List.{List, [], ◌∷◌}
 use mathlib.Core.Option.{none, some}
-use lib.ListN.{length, get_or, drop, length-map, drop_of_length-le}
+use lib.ListN.{length, get_or, take, drop, length-map, drop_of_length-le}
 use lib.Dec.{eqb}
 use native.Mathlib.Omega.{arith}
+use native.Mathlib.Numerals.{add-one}
 use native.Mathlib.Decide.{dec_le}
 use borrow.Author.Tests.{le-leb, lt-leb}
 use Rattle.label.specs.declared.Run.{Run}
@@ -30,6 +31,18 @@ next_key ks i h = next no_run (key_runs ks) i (omega (arith, length-map ks key_r
 
 pub keys_up : (ks : List ℕ) (i : ℕ) → length ks ≤ i → drop i (key_runs ks) ≡ []
 keys_up ks i h = drop_of_length-le (key_runs ks) {i = i} (omega (arith, length-map ks key_run))
+
+-- the categories of the first keys, of one more, and of the others
+pub count_more : (ks : List ℕ) (i : ℕ) → i < length ks
+    → count_of (key_runs (take (i + 1) ks)) ≡ count_of (key_runs (take i ks)) + (get_or ks i 0 % 65536 + 1 - get_or ks i 0 / 65536)
+count_more [] i h = absurd (omega arith)
+count_more (k ∷ ks) zero h = omega arith
+count_more (k ∷ ks) (suc i) h = let more = rw add-one at (count_more ks i (omega arith)) in rw add-one (omega (arith, more))
+
+pub count_split : (n : ℕ) (ks : List ℕ) → count_of (key_runs (take n ks)) + count_of (key_runs (drop n ks)) ≡ count_of (key_runs ks)
+count_split zero ks = omega arith
+count_split (suc n) [] = refl
+count_split (suc n) (k ∷ ks) = omega (arith, count_split n ks)
 
 -- the choice by the first and the last key
 pub choice_keys : (p : Spellings) (ks : List ℕ) (n : ℕ) → n ≡ length ks → 0 < n

@@ -1,5 +1,5 @@
 -- Laws of the choice: a capped count serves as well, and the sizes by the first and the last run.
-use Prim.Native.Nat.{ℕ, zero, suc, ◌+◌, ◌-◌, ◌*◌, ◌/◌, ◌%◌, ◌≤◌, ◌<◌}
+use Prim.Native.Nat.{ℕ, zero, suc, ◌+◌, ◌-◌, ◌*◌, ◌/◌, ◌%◌, ◌≤◌, ◌<◌, min}
 use mathlib.Core.Path.{◌≡◌, refl, ap, sym, ◌∙◌}
 use mathlib.Core.List.{List, [], ◌∷◌}
 use mathlib.Core.Bool.{Bool, true, false, cond, ◌&&◌, and-false, true≢false}
@@ -26,6 +26,10 @@ capped_low n h = rw (le-leb n 15 h)
 
 pub capped_over : (n : ℕ) → 15 < n → capped n ≡ 16
 capped_over n h = rw (lt-leb n 15 h)
+
+-- the least of it and 16
+pub capped_is : (n : ℕ) → min n 16 ≡ capped n
+capped_is n = elim (dec_le n 15) [ yes u ↦ omega (arith, capped_low n u) | no u ↦ omega (arith, capped_over n (omega arith)) ]
 
 pub capped_most : (n : ℕ) → capped n ≤ 16
 capped_most n = elim (dec_le n 15) [ yes u ↦ rw (le-leb n 15 u) (omega arith) | no u ↦ rw (lt-leb n 15 (omega arith)) (omega arith) ]

@@ -12,7 +12,6 @@ ghost use Rattle.option_form.specs.Keys.{keys_form, keys_spelled};
 ghost use Rattle.option_form.specs.Stages.{capped};
 
 use label::{Label, Run};
-use lists::lesser;
 use option::{BITMAP, CATEGORIES_AT, Form, NUMBERS, PAIRS, Spellings};
 
 // The most octets of categories that a tag 1, a tag 2 and a tag 5 have: 240 bits, 15 numbers, 7 pairs; and those of the ten-octet form.
@@ -96,37 +95,24 @@ fn span(key: u32) -> u32
     high + 1 - low
 }
 
-// A number, or 16 where it is over 15.
-fn cap(n: usize) -> usize
-    ensures { result ≡ capped n }
-{
-    if TOO_MANY_NUMBERS <= n {
-        return TOO_MANY_NUMBERS;
-    }
-    n
-}
-
 // How many categories the runs have, or 16 where they are over 15: too many for tag 2. Up to 16 runs are gone through without a test at each, in
 // words of 32 bits, of which four are added at a time.
+#[tactic(auto, using(crate::proofs::Keys::count_more, crate::proofs::Keys::count_split, crate::proofs::Sizes::capped_is))]
 fn count_categories(keys: &[u32]) -> usize
     ensures { result ≡ capped (count_of (key_runs keys.now)) }
 {
-    let m = keys.len();
-    let few = lesser(m, FEW_RUNS);
+    let few = keys.len().min(FEW_RUNS);
     let mut n: u32 = 0;
-    let mut i: usize = 0;
-    while i < few {
-        n += span(keys[i]);
-        i += 1;
+    for key in &keys[..few] {
+        n += span(*key);
     }
-    while i < m {
+    for key in &keys[few..] {
         if TOO_MANY_NUMBERS <= n as usize {
             return TOO_MANY_NUMBERS;
         }
-        n += span(keys[i]);
-        i += 1;
+        n += span(*key);
     }
-    cap(n as usize)
+    (n as usize).min(TOO_MANY_NUMBERS)
 }
 
 // A form that is permitted and whose tag holds what is needed, or none.

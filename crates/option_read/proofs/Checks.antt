@@ -18,9 +18,6 @@ pub known_cases : (t : ℕ) → known_tag t ≡ true → (t ≡ 1) ⊎ ((t ≡ 2
 known_cases t e =
     ⊎_elim (λ p. inl (eqb-true t 1 p)) (λ p. inr (⊎_elim (λ q. inl (eqb-true t 2 q)) (λ q. inr (eqb-true t 5 q)) (or_cases (eqb t 2) (eqb t 5) p))) (or_cases (eqb t 1) (eqb t 2 || eqb t 5) e)
 
-pub known_one : (t : ℕ) → known_tag t ≡ true → (t ≡ 2 → ⊥) → (t ≡ 5 → ⊥) → t ≡ 1
-known_one t e n m = ⊎_elim (λ p. p) (λ p. absurd (⊎_elim n m p)) (known_cases t e)
-
 -- What a good length says.
 pub record Lengths (t n m : ℕ) : Type 0 where
   pub least : 4 ≤ n

@@ -3,3 +3,4 @@ pub mod Checks
 pub mod Keys
 pub mod Valid
 pub mod Theorems
+pub mod Told

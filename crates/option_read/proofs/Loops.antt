@@ -1,12 +1,12 @@
 -- The pass over a tag's categories: what it leaves, and that the runs which are written are those of the tag's pieces where none is bad.
-use Prim.Native.Nat.{ℕ, zero, suc, ◌*◌, ◌/◌, ◌%◌, ◌≤◌, zero-le}
+use Prim.Native.Nat.{ℕ, zero, suc, ◌*◌, ◌/◌, ◌%◌, ◌≤◌, ◌<◌, zero-le}
 use mathlib.Core.Path.{◌≡◌, refl, ap, sym, subst, ◌∙◌}
 use mathlib.Core.List.{List, [], ◌++◌, map}
 use mathlib.Core.Bool.{Bool, true, false, cond}
 use lib.ListN.{length, drop, length-map}
-use lib.Dec.{eqb}
+use lib.Dec.{eqb, ltb}
 use native.Mathlib.Omega.{arith}
-use borrow.Author.Tests.{eqb-false}
+use borrow.Author.Tests.{eqb-false, ltb-true, ltb-false, le-ltb}
 use Rattle.label.specs.declared.Run.{Run}
 use Rattle.label.specs.Runs.{joined}
 use Rattle.label_keys.specs.Keys.{run_key}
@@ -16,11 +16,10 @@ use Rattle.option.specs.Option.{numbers_in, singles, pairs_in}
 use Rattle.option.specs.Reading.{turned, bit_pieces, pieces}
 use Rattle.option.specs.Index.{set_runs, range_runs, first_true, number_at, bad_number, bad_pair, pairs_of, low_pair, high_pair}
 use Rattle.option.proofs.Bridge.{set_joined, numbers_joined, pairs_joined}
-use Rattle.option_read_bitmap.specs.declared.Found.{Found}
 use Rattle.option_read_bitmap.specs.Bitmap.{bitmap_runs, bitmap_found, bitmap_keys}
 use Rattle.option_read_bitmap.proofs.Theorems.{bitmap_below, bitmap_most, bitmap_found_lem, bitmap_keys_lem}
-use Rattle.option_read_numbers.specs.declared.Pass.{Pass}
-use Rattle.option_read_numbers.specs.Numbers.{whole, first_bad_number, number_runs, first_bad_pair, pair_runs, fits, at_front, Passes, ReadsNumbers, ReadsPairs}
+use Rattle.std.specs.Prelude.{Result, Ok, Err, IfOk}
+use Rattle.option_read_numbers.specs.Numbers.{whole, fits, at_front, pair_runs, first_bad_pair, Passes, ReadsPairs}
 use Rattle.option_read_numbers.proofs.Loops.{whole_even, parts_fit}
 use Rattle.option_read.specs.Reading.{bad_place}
 use Rattle.option_read.specs.Keys.{runs_in}
@@ -55,45 +54,64 @@ module _ (b was : List ℕ) (short : length b ≤ 30) (even : length b % 2 ≡ 0
   fitting : fits (length b) (length was) ≡ true
   fitting = parts_fit (length b) (length was) (record { most = short; room = omega arith })
 
-  passed : (t : ℕ) {keys : List ℕ} {r : Pass} (runs : List ℕ → List Run) (bad : List ℕ → ℕ)
-      → Passes (fits (length b) (length was)) (runs (whole b)) (bad (whole b)) was keys r → runs b ≡ runs_in t b → bad b ≡ bad_place t b → PassOver t b was keys r
+  most : (r : Result ℕ ℕ) → IfOk r (λ n. n ≤ 15) → IfOk r (λ n. n ≤ 120)
+  most (Ok n) h = omega arith
+  most (Err p) h = tt
+
+  passed : (t : ℕ) {keys : List ℕ} {r : Result ℕ ℕ} (runs : List ℕ → List Run) (bad : List ℕ → ℕ)
+      → Passes (fits (length b) (length was)) (runs (whole b)) (bad (whole b)) (length (whole b)) was keys r → runs b ≡ runs_in t b → bad b ≡ bad_place t b → PassOver t b was keys r
   passed t {keys} {r} runs bad p e f =
-      let q : Passes true (runs b) (bad b) was keys r = subst (λ (z : List ℕ). Passes true (runs z) (bad z) was keys r) (whole_even b even) (rw fitting at p) in
+      let q : Passes true (runs b) (bad b) (length b) was keys r = subst (λ (z : List ℕ). Passes true (runs z) (bad z) (length z) was keys r) (whole_even b even) (rw fitting at p) in
       record {
-        counted = ap (λ (x : Pass). x.count) q.answer ∙ ap length e;
-        held = omega (arith, q.held);
-        bad_at = ap (λ (x : Pass). x.bad) q.answer ∙ f;
+        answer = q.answer ∙ (λ i. cond (ltb (f i) (length b)) (Err (f i)) (Ok (length (e i))));
+        held = most r q.held;
         left = q.left ∙ ap (λ (z : List Run). at_front (map run_key z) was) e;
         stands = rw (← e) (q.stands refl);
       }
 
-  pub pass_numbers : {keys : List ℕ} {r : Pass} → ReadsNumbers b was keys r → PassOver 2 b was keys r
-  pass_numbers p = passed 2 number_runs (λ z. 2 * first_bad_number z) p refl refl
-
-  pub pass_pairs : {keys : List ℕ} {r : Pass} → ReadsPairs b was keys r → PassOver 5 b was keys r
+  pub pass_pairs : {keys : List ℕ} {r : Result ℕ ℕ} → ReadsPairs b was keys r → PassOver 5 b was keys r
   pass_pairs p = passed 5 pair_runs (λ z. 4 * first_bad_pair z) p refl refl
 
 -- Tag 1: what the table's engine leaves.
-pub pass_bitmap : (b was keys : List ℕ) (f : Found) → length b ≤ 30 → 120 ≤ length was → (f ≡ bitmap_found b (length was)) × (keys ≡ bitmap_keys b was)
-    → PassOver 1 b was keys (record { count = f.count; bad = length b })
-pass_bitmap b was keys f h room e =
-    let counted : f.count ≡ length (bitmap_runs b) = ap (λ (g : Found). g.count) (e.0 ∙ bitmap_found_lem b h was room) in
+pub pass_bitmap : (b was keys : List ℕ) (n : ℕ) → length b ≤ 30 → 120 ≤ length was → (Ok n ≡ bitmap_found b (length was)) × (keys ≡ bitmap_keys b was)
+    → PassOver 1 b was keys (Ok n)
+pass_bitmap b was keys n h room e =
+    let is : Ok n ≡ Ok (length (bitmap_runs b)) = e.0 ∙ bitmap_found_lem b h was room in
+    let counted : n ≡ length (bitmap_runs b) = cc in
     record {
-      counted = counted;
+      answer = rw (le-ltb (length b) (length b) (omega arith)) (ap (λ (m : ℕ). Ok m) counted);
       held = omega (arith, counted, bitmap_most b h);
-      bad_at = refl;
       left = e.1 ∙ bitmap_keys_lem b h was room ∙ ap (λ (n : ℕ). map run_key (bitmap_runs b) ++ drop n was) (sym (length-map (bitmap_runs b) run_key));
       stands = keys_back (bitmap_runs b) (bitmap_below b h);
     }
 
 -- no octets have no runs
-pub pass_none : (b was : List ℕ) → length b ≡ 0 → PassOver 1 b was was (record { count = 0; bad = length b })
+pub pass_none : (b was : List ℕ) → length b ≡ 0 → PassOver 1 b was was (Ok 0)
 pass_none b was z =
     let none : bitmap_runs b ≡ [] = ap (λ (n : ℕ). set_runs (bit_at b) (8 * n)) z in
     record {
-      counted = ap length (sym none);
+      answer = rw (le-ltb (length b) (length b) (omega arith)) (ap (λ (rs : List Run). Ok (length rs)) (sym none));
       held = omega arith;
-      bad_at = refl;
       left = ap (λ (rs : List Run). at_front (map run_key rs) was) (sym none);
       stands = rw none refl;
     }
+
+-- What a pass tells: where the first bad one begins, or that none is bad.
+module _ {t : ℕ} {b keys keys' : List ℕ} where
+  pub bad_of : (p : ℕ) → PassOver t b keys keys' (Err p) → (p ≡ bad_place t b) × (p < length b)
+  bad_of p q = go (ltb (bad_place t b) (length b)) refl q.answer
+    where
+      go : (x : Bool) → ltb (bad_place t b) (length b) ≡ x → Err p ≡ cond x (Err (bad_place t b)) (Ok (length (runs_in t b))) → (p ≡ bad_place t b) × (p < length b)
+      go true e a =
+          let k : p ≡ bad_place t b = cc in
+          (k, omega (arith, ltb-true (bad_place t b) (length b) e))
+      go false e a = absurd (let z : ◌≡◌ {A = ℕ} 0 1 = cc in omega arith)
+
+  pub good_of : (n : ℕ) → PassOver t b keys keys' (Ok n) → (n ≡ length (runs_in t b)) × (length b ≤ bad_place t b)
+  good_of n q = go (ltb (bad_place t b) (length b)) refl q.answer
+    where
+      go : (x : Bool) → ltb (bad_place t b) (length b) ≡ x → Ok n ≡ cond x (Err (bad_place t b)) (Ok (length (runs_in t b))) → (n ≡ length (runs_in t b)) × (length b ≤ bad_place t b)
+      go true e a = absurd (let z : ◌≡◌ {A = ℕ} 0 1 = cc in omega arith)
+      go false e a =
+          let k : n ≡ length (runs_in t b) = cc in
+          (k, omega (arith, ltb-false (bad_place t b) (length b) e))

@@ -15,7 +15,7 @@ use Rattle.label.proofs.Labels.{formed}
 use Rattle.option.specs.Option.{Octets, domain_of, level_of, valid, Means}
 use Rattle.option.specs.Reading.{pieces, option_runs}
 use Rattle.option.proofs.Meaning.{parts}
-use Rattle.option_read.specs.declared.Reading.{Reading}
+use Rattle.option_read.specs.Reading.{Reading}
 use Rattle.option_read.specs.Reading.{found, not_read, tag_checks, label_in, reading_by, framed, reading_of, reading_for}
 use Rattle.option_read.specs.Theorems.{ReadsAlone, ReadsFor, Reads}
 use Rattle.option_read.specs.Examples.{examples, Holds}

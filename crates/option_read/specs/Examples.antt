@@ -2,7 +2,7 @@
 use Rattle.std.specs.Prelude.{ℕ, ◌≡◌, List, [], ◌∷◌, replicate}
 use Rattle.label.specs.Runs.{run}
 use Rattle.label.specs.Label.{label_of}
-use Rattle.option_read.specs.declared.Reading.{Reading}
+use Rattle.option_read.specs.Reading.{Reading}
 use Rattle.option_read.specs.Reading.{found, not_read, reading_of}
 
 pub record Example : Type 0 where

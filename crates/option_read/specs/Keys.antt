@@ -1,14 +1,14 @@
 -- Reading into keys: what a lent list of keys holds after one option was read, for every option and every list.
-use Rattle.std.specs.Prelude.{ℕ, ◌≤◌, ◌≡◌, List, [], map, Bool, cond, ◌&&◌, length, take, leb, ltb, eqb}
+use Rattle.std.specs.Prelude.{ℕ, ◌≤◌, ◌≡◌, List, [], map, Bool, cond, ◌&&◌, length, take, leb, ltb, eqb, ◌≢◌, Result, Ok, Err, IfErr}
 use Rattle.label.specs.declared.Run.{Run}
 use Rattle.label.specs.Label.{label_of}
 use Rattle.label_keys.specs.Keys.{key_runs, run_key}
 use Rattle.option.specs.Option.{tag_of}
 use Rattle.option_read_bitmap.specs.Bitmap.{bitmap_runs}
 use Rattle.option_read_numbers.specs.Numbers.{number_runs, pair_runs, at_front}
-use Rattle.option_read.specs.declared.Reading.{Reading}
-use Rattle.option_read.specs.declared.KeyReading.{KeyReading}
-use Rattle.option_read.specs.Reading.{categories_in, reading_for}
+use Rattle.option_read.specs.declared.Fault.{Fault}
+use Rattle.option_read.specs.declared.KeysRead.{KeysRead}
+use Rattle.option_read.specs.Reading.{Reading, categories_in, reading_for}
 
 -- the runs that are written of a tag's categories: tag 2 ends before its first bad number, tags 1 and 5 go on to their end
 abbrev pub runs_in : ℕ → List ℕ → List Run
@@ -16,6 +16,22 @@ runs_in t b = cond (eqb t 1) (bitmap_runs b) (cond (eqb t 2) (number_runs b) (pa
 
 abbrev pub keys_in : ℕ → List ℕ → List ℕ
 keys_in t b = map run_key (runs_in t b)
+
+-- a row without the runs, which stand in the list: their level, and how many keys there are
+pub record KeyReading : Type 0 where
+  pub number : ℕ
+  pub pointer : ℕ
+  pub level : ℕ
+  pub count : ℕ
+
+-- the row of an answer
+abbrev pub row_of : Result KeysRead Fault → KeyReading
+row_of (Ok k) = record { number = 0; pointer = 0; level = k.level; count = k.count }
+row_of (Err f) = record { number = f.number; pointer = f.at; level = 0; count = 0 }
+
+-- a refusal has a number
+abbrev pub Refused : Result KeysRead Fault → Type 0
+Refused r = IfErr r (λ f. f.number ≢ 0)
 
 -- a reading without its runs
 abbrev pub keyed : Reading → KeyReading

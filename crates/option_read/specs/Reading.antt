@@ -1,13 +1,26 @@
 -- Document 01, "Asked alone" and rows 3 and 7 to 13 of the table: what reading one option answers, for any octets.
 -- Pointers count from the option's own start.
-use Rattle.std.specs.Prelude.{ℕ, ◌+◌, ◌-◌, ◌*◌, ◌/◌, List, [], ◌∷◌, ◌++◌, Bool, not, ◌&&◌, ◌||◌, cond, length, get_or, take, drop, leb, ltb, eqb}
+use Rattle.std.specs.Prelude.{ℕ, ◌+◌, ◌-◌, ◌*◌, ◌/◌, List, [], ◌∷◌, ◌++◌, Bool, not, ◌&&◌, ◌||◌, cond, length, get_or, take, drop, leb, ltb, eqb, Result, Ok, Err}
 use Rattle.label.specs.declared.Label.{Label}
 use Rattle.label.specs.Runs.{joined}
 use Rattle.label.specs.Label.{label_of, zero_label}
 use Rattle.option.specs.Option.{domain_of, tag_of, tag_length_of, level_of, is_even}
 use Rattle.option.specs.Reading.{pieces}
 use Rattle.option.specs.Index.{first_true, bad_number, bad_pair, pairs_of}
-use Rattle.option_read.specs.declared.Reading.{Reading}
+use Rattle.option_read.specs.declared.Fault.{Fault}
+
+-- a row of what is read: number 0 and the label; or a refusal's number, its place in the option, and the all-zero label
+pub record Reading : Type 0 where
+  pub number : ℕ
+  pub pointer : ℕ
+  pub label : Label
+
+abbrev pub fault : ℕ → ℕ → Fault
+fault n at = record { number = n; at = at }
+
+-- the answer of a row
+abbrev pub told : Reading → Result Label Fault
+told r = cond (eqb r.number 0) (Ok r.label) (Err (fault r.number r.pointer))
 
 -- the label was read
 abbrev pub found : Label → Reading

@@ -2,16 +2,16 @@
 // or the first refusal that applies with its place in the option.
 #![tactic(auto)]
 
-ghost use Rattle.std.specs.Prelude.{◌≡◌, ◌+◌, ◌%◌, ◌≤◌, ◌<◌, true, cond, not, ◌&&◌, leb, eqb, length};
+ghost use Rattle.std.specs.Prelude.{◌≡◌, ◌+◌, ◌%◌, ◌≤◌, ◌<◌, true, not, ◌&&◌, leb, length, Ok, Err};
 ghost use Rattle.option.specs.Option.{domain_of};
 ghost use Rattle.option_read.specs.Stages.{PassOver, ReadsTag, foreign_to, ReadsRows, ReadsChecked};
-ghost use Rattle.option_read.specs.Reading.{not_read, known_tag, good_length, framed, reading_of};
-ghost use Rattle.option_read.specs.Keys.{keyed, ReadsKeys};
+ghost use Rattle.option_read.specs.Reading.{known_tag, good_length, framed, fault, told, reading_of};
+ghost use Rattle.option_read.specs.Keys.{row_of, Refused, ReadsKeys};
 
 use label::Label;
 use label_keys::to_label;
 use option_read_bitmap::read_bitmap;
-use option_read_numbers::{Pass, read_numbers, read_pairs};
+use option_read_numbers::{read_numbers, read_pairs};
 
 // The length octet of a tag: at least its four octets before the categories, at most 30 more; of tag 5 at most seven pairs.
 const SHORTEST_TAG: usize = 4;
@@ -27,53 +27,40 @@ const IN_AN_AREA: bool = false;
 
 const NO_DOMAIN: u32 = 0;
 
-// Number 0 and the label; else the refusal's number, its pointer from the option's own start, and the all-zero label.
+// A refusal: its number, with its place in the option.
 #[derive(Clone, Copy)]
-pub struct Reading {
+pub struct Fault {
     pub number: u8,
-    pub pointer: usize,
-    pub label: Label,
+    pub at: usize,
 }
 
-// The same without the runs, which stand in a lent list as keys, low · 65536 + high: the level and how many keys there are.
+// What is read of an option whose runs stand in a lent list as keys, low · 65536 + high: the level, and how many keys there are.
 #[derive(Clone, Copy)]
-pub struct KeyReading {
-    pub number: u8,
-    pub pointer: usize,
+pub struct KeysRead {
     pub level: u8,
     pub count: usize,
 }
 
-fn refuse(number: u8, pointer: usize) -> KeyReading
-    ensures { result ≡ keyed (not_read number pointer) }
+fn refuse(number: u8, at: usize) -> Result<KeysRead, Fault>
+    ensures { result ≡ Err (fault number at) }
 {
-    KeyReading {
-        number: number,
-        pointer: pointer,
-        level: 0,
-        count: 0,
-    }
+    Err(Fault { number, at })
 }
 
 // Tag 1, by the table; none of its categories can be bad.
-fn bitmap_keys(octets: &[u8], keys: &mut [u32]) -> Pass
+fn bitmap_keys(octets: &[u8], keys: &mut [u32]) -> usize
     requires { (length octets.now ≤ 30) × (120 ≤ length keys.old) }
-    ensures { PassOver 1 octets.now keys.old keys.new result }
+    ensures { PassOver 1 octets.now keys.old keys.new (Ok result) }
 {
-    let n = octets.len();
     // no call for the option without categories
-    if n == 0 {
-        return Pass { count: 0, bad: n };
+    if octets.len() == 0 {
+        return 0;
     }
-    let found = read_bitmap(octets, keys);
-    Pass {
-        count: found.count,
-        bad: n,
-    }
+    read_bitmap(octets, keys).unwrap()
 }
 
-// A tag's categories, checked and written as keys. Tag 1 is last, so that the compiler asks for tag 5 first.
-fn category_keys(tag: u8, octets: &[u8], keys: &mut [u32]) -> Pass
+// A tag's categories, checked and written as keys: how many there are, or where the first bad one begins. Tag 1 is last, so that the compiler asks for tag 5 first.
+fn category_keys(tag: u8, octets: &[u8], keys: &mut [u32]) -> Result<usize, usize>
     requires { (length octets.now ≤ 30) × ((tag ≡ 1 → ⊥) → length octets.now % 2 ≡ 0) × (120 ≤ length keys.old) × (known_tag tag ≡ true) }
     ensures { PassOver tag octets.now keys.old keys.new result }
 {
@@ -83,7 +70,7 @@ fn category_keys(tag: u8, octets: &[u8], keys: &mut [u32]) -> Pass
     if tag == option::PAIRS {
         return read_pairs(octets, keys);
     }
-    bitmap_keys(octets, keys)
+    Ok(bitmap_keys(octets, keys))
 }
 
 fn known_tag(tag: u8) -> bool
@@ -127,26 +114,16 @@ fn length_in(x: u8) -> usize
     x as usize
 }
 
-fn widen(x: u8) -> u32
-    ensures { (result ≡ x) × (result < 256) }
-{
-    x as u32
-}
-
 // The domain: four octets from octets[2] on, big-endian.
 fn domain_in(octets: &[u8]) -> u32
     requires { 10 ≤ length octets.now }
     ensures { result ≡ domain_of octets.now }
 {
-    let a = widen(octets[2]);
-    let b = widen(octets[3]);
-    let c = widen(octets[4]);
-    let d = widen(octets[5]);
-    ((a * 256 + b) * 256 + c) * 256 + d
+    u32::from_be_bytes([octets[2], octets[3], octets[4], octets[5]])
 }
 
 // Rows 9 to 13, and the keys.
-fn read_tag(octets: &[u8], keys: &mut [u32]) -> KeyReading
+fn read_tag(octets: &[u8], keys: &mut [u32]) -> Result<KeysRead, Fault>
     requires { (10 ≤ length octets.now) × (120 ≤ length keys.old) }
     ensures { ReadsTag octets.now keys.old keys.new result }
 {
@@ -164,19 +141,17 @@ fn read_tag(octets: &[u8], keys: &mut [u32]) -> KeyReading
     }
     let end = size + option::TAG_TYPE_AT;
     let categories = &octets[option::CATEGORIES_AT..end];
-    let pass = category_keys(tag, categories, keys);
-    let place = pass.bad;
-    if place < categories.len() {
-        return refuse(12, option::CATEGORIES_AT + place);
-    }
-    if end < n {
-        return refuse(13, end);
-    }
-    KeyReading {
-        number: 0,
-        pointer: 0,
-        level: octets[option::LEVEL_AT],
-        count: pass.count,
+    match category_keys(tag, categories, keys) {
+        Err(place) => refuse(12, option::CATEGORIES_AT + place),
+        Ok(count) => {
+            if end < n {
+                return refuse(13, end);
+            }
+            Ok(KeysRead {
+                level: octets[option::LEVEL_AT],
+                count,
+            })
+        }
     }
 }
 
@@ -209,7 +184,7 @@ fn foreign(alone: bool, found: u32, domain: u32) -> bool
 }
 
 // Rows 3 and 7 to 13, and the keys: of an option alone, or for a port of the domain.
-fn read_rows(octets: &[u8], alone: bool, domain: u32, keys: &mut [u32]) -> KeyReading
+fn read_rows(octets: &[u8], alone: bool, domain: u32, keys: &mut [u32]) -> Result<KeysRead, Fault>
     requires { 120 ≤ length keys.old }
     ensures { ReadsRows alone domain octets.now keys.old keys.new result }
 {
@@ -227,7 +202,12 @@ fn read_rows(octets: &[u8], alone: bool, domain: u32, keys: &mut [u32]) -> KeyRe
 
 // The same with a list of any length. One function for both, so that what calls it is small enough to become part of its callers: a label is then
 // built where it is used, and not copied. The list's length is tested here, so that no tag's reader has to: the compiler leaves their tests out.
-fn read_checked(octets: &[u8], alone: bool, domain: u32, keys: &mut [u32]) -> KeyReading
+fn read_checked(
+    octets: &[u8],
+    alone: bool,
+    domain: u32,
+    keys: &mut [u32],
+) -> Result<KeysRead, Fault>
     ensures { ReadsChecked alone domain octets.now keys.old keys.new result }
 {
     if Label::MAX_RUNS <= keys.len() {
@@ -236,36 +216,20 @@ fn read_checked(octets: &[u8], alone: bool, domain: u32, keys: &mut [u32]) -> Ke
     refuse(1, 0)
 }
 
-// The domain of an option that was read; a refusal's label is of domain 0.
-fn owner_of(octets: &[u8], number: u8) -> u32
-    requires { number ≡ 0 → 10 ≤ length octets.now }
-    ensures { result ≡ cond (eqb number 0) (domain_of octets.now) 0 }
-{
-    if number == 0 {
-        return domain_in(octets);
-    }
-    0
-}
-
 // Reads one option alone: the label that it means, or the first refusal of 3 and 7 to 13 with its place in the option.
-pub fn read_option(octets: &[u8]) -> Reading
-    ensures { result ≡ reading_of octets.now }
+pub fn read_option(octets: &[u8]) -> Result<Label, Fault>
+    ensures { result ≡ told (reading_of octets.now) }
 {
     let mut keys = [0u32; Label::MAX_RUNS];
-    let read = read_checked(octets, ALONE, NO_DOMAIN, &mut keys);
-    let owner = owner_of(octets, read.number);
-    let label = to_label(&keys, read.count, owner, read.level);
-    Reading {
-        number: read.number,
-        pointer: read.pointer,
-        label: label,
-    }
+    let read = read_checked(octets, ALONE, NO_DOMAIN, &mut keys)?;
+    Ok(to_label(&keys, read.count, domain_in(octets), read.level))
 }
 
-// Reads the option 134 of an area for a port of the domain into keys: how many there are, or the first refusal of 7 to 13 with its place in
-// the option; 1 where the list has under 120 numbers.
-pub fn read_keys(octets: &[u8], domain: u32, keys: &mut [u32]) -> KeyReading
-    ensures { ReadsKeys domain octets.now keys.old keys.new result }
+// Reads the option 134 of an area for a port of the domain into keys: its level and how many there are, or the first refusal of 7 to 13 with its place
+// in the option; 1 where the list has under 120 numbers.
+pub fn read_keys(octets: &[u8], domain: u32, keys: &mut [u32]) -> Result<KeysRead, Fault>
+    ensures read { ReadsKeys domain octets.now keys.old keys.new (row_of result) }
+    ensures refused { Refused result }
 {
     read_checked(octets, IN_AN_AREA, domain, keys)
 }

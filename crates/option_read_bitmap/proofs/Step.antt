@@ -104,11 +104,6 @@ pub record Final (rs : List Run) : Type 0 where
   pub count : length front + 1 ≡ length rs
   pub top : top_of rs ≡ last.high + 1
 
-top_final : (xs : List Run) (r : Run) → top_of (xs ++ r ∷ []) ≡ r.high + 1
-top_final [] r = refl
-top_final (x ∷ []) r = refl
-top_final (x ∷ y ∷ xs) r = top_final (y ∷ xs) r
-
 pub final : (rs : List Run) → 0 < length rs → Final rs
 final [] h = absurd (omega arith)
 final (r ∷ []) h = record { front = []; last = r; is = refl; count = refl; top = refl }

@@ -17,8 +17,9 @@ use Rattle.option.proofs.Pieces.{joined_good, bits_falling}
 use Rattle.option.proofs.Bridge.{set_joined}
 use Rattle.label_keys.specs.Keys.{key_runs, run_key}
 use Rattle.option_read_bitmap.specs.Bitmap.{bitmap_runs, bitmap_number, bitmap_found, in_place, bitmap_keys}
-use Rattle.option_read_bitmap.specs.declared.Found.{Found}
-use Rattle.option_read_bitmap.specs.Theorems.{Answer, Agree}
+use Rattle.std.specs.Prelude.{Result, Ok, Err, IsOkAnd}
+use Rattle.option_read_bitmap.specs.declared.BitmapError.TheVariants.{Short, Long}
+use Rattle.option_read_bitmap.specs.Theorems.{Found, Answer, Agree}
 use Rattle.option_read_bitmap.proofs.Step.{most_runs}
 
 -- the runs of a bitmap lie below its length, and a list with room holds them
@@ -36,9 +37,9 @@ module _ (b : List ℕ) (h : length b ≤ 30) where
     done : bitmap_number b (length ks) ≡ 0
     done = rw (le-ltb (length ks) 120 room, le-ltb 30 (length b) h)
 
-    pub bitmap_found_lem : bitmap_found b (length ks) ≡ record { number = 0; count = length (bitmap_runs b) }
+    pub bitmap_found_lem : bitmap_found b (length ks) ≡ Ok (length (bitmap_runs b))
     unfolding bitmap_found
-    bitmap_found_lem = rw done
+    bitmap_found_lem = rw (le-ltb (length ks) 120 room, le-ltb 30 (length b) h)
 
     pub bitmap_keys_lem : bitmap_keys b ks ≡ in_place (bitmap_runs b) ks
     unfolding bitmap_keys
@@ -47,28 +48,23 @@ module _ (b : List ℕ) (h : length b ≤ 30) where
 -- What each way out answers.
 
 module _ (b ks : List ℕ) where
-  pub found_short : length ks < 120 → Answer b ks (record { number = 1; count = 0 }) ks
+  pub found_short : length ks < 120 → Answer b ks (Err Short) ks
   unfolding bitmap_found bitmap_keys
   found_short h = (rw (lt-ltb (length ks) 120 h), rw (lt-ltb (length ks) 120 h))
 
-  pub found_long : 120 ≤ length ks → 30 < length b → Answer b ks (record { number = 10; count = 0 }) ks
+  pub found_long : 120 ≤ length ks → 30 < length b → Answer b ks (Err Long) ks
   unfolding bitmap_found bitmap_keys
   found_long room h = (rw (le-ltb (length ks) 120 room, lt-ltb 30 (length b) h), rw (le-ltb (length ks) 120 room, lt-ltb 30 (length b) h))
 
-  pub found_all : 120 ≤ length ks → length b ≤ 30 → (n : ℕ) (ks' : List ℕ) → (n ≡ length (bitmap_runs b)) × (ks' ≡ in_place (bitmap_runs b) ks)
-      → Answer b ks (record { number = 0; count = n }) ks'
-  found_all room h n ks' e = (ap (λ (k : ℕ). record { number = 0; count = k }) e.0 ∙ sym (bitmap_found_lem b h ks room), e.1 ∙ sym (bitmap_keys_lem b h ks room))
-
 read_means : (d v : ℕ) (b ks : List ℕ) → length b ≤ 30 → 120 ≤ length ks
-    → label_of d v (key_runs (take (bitmap_found b (length ks)).count (bitmap_keys b ks))) ≡ label_of d v (joined (pieces 1 b))
+    → label_of d v (key_runs (take (length (bitmap_runs b)) (bitmap_keys b ks))) ≡ label_of d v (joined (pieces 1 b))
 unfolding pieces
 read_means d v b ks h room =
     let n : ℕ = 8 * length b in
     let rs : List Run = bitmap_runs b in
     let keys : take (length rs) (in_place rs ks) ≡ map run_key rs = take_at (map run_key rs) (drop (length rs) ks) (length rs) (length-map rs run_key) in
-    let count : (bitmap_found b (length ks)).count ≡ length rs = ap (λ (f : Found). f.count) (bitmap_found_lem b h ks room) in
-    let same : key_runs (take (bitmap_found b (length ks)).count (bitmap_keys b ks)) ≡ rs =
-    (λ i. key_runs (take (count i) (bitmap_keys_lem b h ks room i))) ∙ ap key_runs keys ∙ keys_back rs (bitmap_below b h) in
+    let same : key_runs (take (length rs) (bitmap_keys b ks)) ≡ rs =
+    ap (λ (z : List ℕ). key_runs (take (length rs) z)) (bitmap_keys_lem b h ks room) ∙ ap key_runs keys ∙ keys_back rs (bitmap_below b h) in
     ap (label_of d v) (same ∙ set_joined (bit_at b) n)
 
 pub agree : Agree
@@ -76,7 +72,7 @@ agree =
     record {
       same = λ b ks f g ks' ks'' p q. (p.0 ∙ sym q.0, p.1 ∙ sym q.1);
       means = λ d v b ks f ks' h room p.
-          (ap (λ (r : Found). r.number) (p.0 ∙ bitmap_found_lem b h ks room), (λ i. label_of d v (key_runs (take (p.0 i).count (p.1 i)))) ∙ read_means d v b ks h room);
+          rw (p.0 ∙ bitmap_found_lem b h ks room) (ap (λ (z : List ℕ). label_of d v (key_runs (take (length (bitmap_runs b)) z))) p.1 ∙ read_means d v b ks h room);
       long = λ b ks f ks' h room p. let e = found_long b ks room h in (p.0 ∙ sym e.0, p.1 ∙ sym e.1);
       short = λ b ks f ks' h p. let e = found_short b ks h in (p.0 ∙ sym e.0, p.1 ∙ sym e.1);
     }

@@ -3,8 +3,8 @@ use Prim.Native.Nat.{ℕ, suc, ◌+◌, ◌-◌, ◌*◌, ◌/◌, ◌%◌, ◌�
 use mathlib.Core.Path.{◌≡◌, refl, ap, sym, ◌∙◌}
 use mathlib.Core.List.{List, [], ◌∷◌, ◌++◌, map}
 use mathlib.Core.Logic.{⊎_elim}
-use lib.ListN.{length, get_or, take, set, length-set}
-use lib.Seq.{sets, get_or-set_same, length-take-le}
+use lib.ListN.{length, get_or, take, set}
+use lib.Seq.{get_or-set_same, length-take-le}
 use native.Mathlib.Omega.{arith}
 use Rattle.label.specs.declared.Run.{Run}
 use Rattle.label.specs.Runs.{top_of}
@@ -19,54 +19,6 @@ use Rattle.option_read_octet.proofs.Rule.{first_low, first_high, octet_some, oct
 use Rattle.option_read_bitmap.proofs.Join.{shifted, join_runs, octet_joined, set_top}
 use Rattle.option_read_bitmap.proofs.Step.{apart_keys, touch_keys, headed_length, most_runs, ends_next}
 use Rattle.option_read_bitmap.proofs.LastRun.{Put, written, last_there, fin, front_keys, touching, key_there, last_small}
-
--- The stores of an entry's keys, one by one.
-last_stored : (ks : List ℕ) (at i v n : ℕ) → i ≡ at → length ks ≡ n → at < n → v ≡ get_or (set ks at v) i 0
-last_stored ks at i v n e l h = rw e (sym (get_or-set_same ks at v 0 (omega arith)))
-
-module _ (ks : List ℕ) (at h b e : ℕ) where
-  pub key_one : (p : ℕ) → p ≡ part_of e → at + 1 ≤ length ks → h + p ≡ get_or (set ks at (h + p)) (at + 1 - 1) 0
-  key_one p u l = last_stored ks at (at + 1 - 1) (h + p) (length ks) (omega arith) refl (omega arith)
-
-  pub key_two : (p q : ℕ) → p ≡ part_of e → q ≡ part_of (e / 8) → at + 2 ≤ length ks
-      → b + q ≡ get_or (set (set ks at (h + p)) (at + 1) (b + q)) (at + 2 - 1) 0
-  key_two p q u v l = last_stored (set ks at (h + p)) (at + 1) (at + 2 - 1) (b + q) (length ks) (omega arith) (length-set ks at (h + p)) (omega arith)
-
-  pub key_three : (p q r : ℕ) → p ≡ part_of e → q ≡ part_of (e / 8) → r ≡ part_of (e / 64) → at + 3 ≤ length ks
-      → b + r ≡ get_or (set (set (set ks at (h + p)) (at + 1) (b + q)) (at + 2) (b + r)) (at + 3 - 1) 0
-  key_three p q r u v w l =
-      last_stored (set (set ks at (h + p)) (at + 1) (b + q)) (at + 2) (at + 3 - 1) (b + r) (length ks) (omega arith)
-      (length-set (set ks at (h + p)) (at + 1) (b + q) ∙ length-set ks at (h + p)) (omega arith)
-
-  pub key_four : (p q r o : ℕ) → p ≡ part_of e → q ≡ part_of (e / 8) → r ≡ part_of (e / 64) → o ≡ part_of (e / 512) → at + 4 ≤ length ks
-      → b + o ≡ get_or (set (set (set (set ks at (h + p)) (at + 1) (b + q)) (at + 2) (b + r)) (at + 3) (b + o)) (at + 4 - 1) 0
-  key_four p q r o u v w y l =
-      last_stored (set (set (set ks at (h + p)) (at + 1) (b + q)) (at + 2) (b + r)) (at + 3) (at + 4 - 1) (b + o) (length ks) (omega arith)
-      (length-set (set (set ks at (h + p)) (at + 1) (b + q)) (at + 2) (b + r) ∙ length-set (set ks at (h + p)) (at + 1) (b + q) ∙ length-set ks at (h + p)) (omega arith)
-
-  pub put_one : (p : ℕ) → p ≡ part_of e → count_in e ≡ 1 → set ks at (h + p) ≡ sets ks at (headed h b (parts_in e))
-  put_one p u n = rw (u, n)
-
-  pub put_two : (p q : ℕ) → p ≡ part_of e → q ≡ part_of (e / 8) → count_in e ≡ 2
-      → set (set ks at (h + p)) (at + 1) (b + q) ≡ sets ks at (headed h b (parts_in e))
-  put_two p q u v n =
-      let s : at + 1 ≡ suc at = omega arith in
-      rw (u, v, n, s)
-
-  pub put_three : (p q r : ℕ) → p ≡ part_of e → q ≡ part_of (e / 8) → r ≡ part_of (e / 64) → count_in e ≡ 3
-      → set (set (set ks at (h + p)) (at + 1) (b + q)) (at + 2) (b + r) ≡ sets ks at (headed h b (parts_in e))
-  put_three p q r u v w n =
-      let s : at + 1 ≡ suc at = omega arith in
-      let t : at + 2 ≡ suc (suc at) = omega arith in
-      rw (u, v, w, n, s, t)
-
-  pub put_four : (p q r o : ℕ) → p ≡ part_of e → q ≡ part_of (e / 8) → r ≡ part_of (e / 64) → o ≡ part_of (e / 512) → count_in e ≡ 4
-      → set (set (set (set ks at (h + p)) (at + 1) (b + q)) (at + 2) (b + r)) (at + 3) (b + o) ≡ sets ks at (headed h b (parts_in e))
-  put_four p q r o u v w y n =
-      let s : at + 1 ≡ suc at = omega arith in
-      let t : at + 2 ≡ suc (suc at) = omega arith in
-      let z : at + 3 ≡ suc (suc (suc at)) = omega arith in
-      rw (u, v, w, y, n, s, t, z)
 
 module _ (b : List ℕ) (i e : ℕ) (ks : List ℕ) (s : Last) (inside : i < length b) (short : length b ≤ 30) (right : Right (get_or b i 0) e) (st : Stands b (8 * i) ks s) (places : 120 ≤ length ks) where
   abbrev xs : List Run

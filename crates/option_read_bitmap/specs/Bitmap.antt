@@ -1,10 +1,11 @@
 -- Document 02, wish 12; document 01, "Option and tags": what the engine answers, and what the lent keys hold then.
-use Rattle.std.specs.Prelude.{List, ◌++◌, map, cond, ℕ, ◌*◌, ltb, eqb, length, drop}
+use Rattle.std.specs.Prelude.{List, ◌++◌, map, cond, ℕ, ◌*◌, ltb, eqb, length, drop, Result, Ok, Err}
 use Rattle.label.specs.declared.Run.{Run}
 use Rattle.label_keys.specs.Keys.{run_key}
 use Rattle.option.specs.Bitmap.{bit_at}
 use Rattle.option.specs.Index.{set_runs}
-use Rattle.option_read_bitmap.specs.declared.Found.{Found}
+use Rattle.option_read_bitmap.specs.declared.BitmapError.{BitmapError}
+use Rattle.option_read_bitmap.specs.declared.BitmapError.TheVariants.{Short, Long}
 
 -- the runs of a bitmap, bit by bit
 abbrev pub bitmap_runs : List ℕ → List Run
@@ -14,10 +15,15 @@ bitmap_runs b = set_runs (bit_at b) (8 * length b)
 abbrev pub bitmap_number : List ℕ → ℕ → ℕ
 bitmap_number b room = cond (ltb room 120) 1 (cond (ltb 30 (length b)) 10 0)
 
--- done, the count is that of the runs; a refusal has count 0
-unfoldable pub bitmap_found : List ℕ → ℕ → Found
-bitmap_found b room =
-    cond (eqb (bitmap_number b room) 0) (record { number = 0; count = length (bitmap_runs b) }) (record { number = bitmap_number b room; count = 0 })
+-- the number of an answer
+abbrev pub number_of : Result ℕ BitmapError → ℕ
+number_of (Ok n) = 0
+number_of (Err Short) = 1
+number_of (Err Long) = 10
+
+-- done, the count of the runs; else the refusal of the number
+unfoldable pub bitmap_found : List ℕ → ℕ → Result ℕ BitmapError
+bitmap_found b room = cond (ltb room 120) (Err Short) (cond (ltb 30 (length b)) (Err Long) (Ok (length (bitmap_runs b))))
 
 -- the keys of runs at the head of a list; what stands after them stays
 abbrev pub in_place : List Run → List ℕ → List ℕ

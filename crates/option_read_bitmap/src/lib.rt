@@ -18,11 +18,11 @@ const BITMAP_OCTETS: usize = (Label::BITMAP_CATEGORIES / 8) as usize;
 // A bitmap of at most so many octets is read bit by bit: building the table takes longer (docs/DECISIONS.md has the figures).
 const SHORT_OCTETS: usize = 1;
 
-// Number 0 and how many runs there are; or the number of a refusal and 0.
+// Why a bitmap is not read: the list has under 120 numbers (1), or the bitmap over 30 octets (10).
 #[derive(Clone, Copy)]
-pub struct Found {
-    pub number: u8,
-    pub count: usize,
+pub enum BitmapError {
+    Short,
+    Long,
 }
 
 // Where an engine stands: how many keys are written, the last of them, and the last bit that was read. The key is kept beside the list, so
@@ -37,13 +37,13 @@ pub struct Last {
 fn widen(x: u8) -> u32
     ensures { (result ≡ x) × (result < 256) }
 {
-    x as u32
+    u32::from(x)
 }
 
 fn place_of(x: u8) -> usize
     ensures { (result ≡ x) × (result < 256) }
 {
-    x as usize
+    usize::from(x)
 }
 
 // Bit k of an octet, counted from the top.
@@ -87,11 +87,11 @@ fn add_bit(octets: &[u8], c: usize, base: u32, keys: &mut [u32], last: Last) -> 
 }
 
 // Writes the keys of all runs of at most 30 octets, bit by bit.
+#[tactic(auto, using(crate::proofs::LastRun::stands_start, crate::proofs::LastRun::stands_end))]
 fn fill_bits(octets: &[u8], keys: &mut [u32]) -> usize
     requires { (length octets.now ≤ 30) × (120 ≤ length keys.old) }
     ensures { Filled octets.now keys.old keys.new result }
 {
-    let n = 8 * octets.len();
     let mut last = Last {
         count: 0,
         key: 0,
@@ -99,38 +99,26 @@ fn fill_bits(octets: &[u8], keys: &mut [u32]) -> usize
     };
     // the key of a category alone
     let mut base: u32 = 0;
-    let mut c: usize = 0;
-    while c < n {
+    for c in 0..8 * octets.len() {
         last = add_bit(octets, c, base, keys, last);
-        c += 1;
         base += 65537;
     }
     last.count
 }
 
-// The first engine, bit by bit: reads a bitmap's runs into a lent list of keys, low * 65536 + high each, lowest first; what stands after them stays.
-// A list of under 120 numbers is refused with 1, over 30 octets with 10, and then every key stays.
-pub fn read_bits(octets: &[u8], keys: &mut [u32]) -> Found
+// The first engine, bit by bit: reads a bitmap's runs into a lent list of keys, low * 65536 + high each, lowest first, and answers how many there are; what
+// stands after them stays. A list of under 120 numbers is refused before over 30 octets, and then every key stays.
+#[tactic(auto, unfolding(crate::specs::Bitmap::bitmap_found, crate::specs::Bitmap::bitmap_keys))]
+pub fn read_bits(octets: &[u8], keys: &mut [u32]) -> Result<usize, BitmapError>
     ensures { (result ≡ bitmap_found octets.now (length keys.old)) × (keys.new ≡ bitmap_keys octets.now keys.old) }
 {
     if keys.len() < Label::MAX_RUNS {
-        return Found {
-            number: 1,
-            count: 0,
-        };
+        return Err(BitmapError::Short);
     }
-    let n = octets.len();
-    if BITMAP_OCTETS < n {
-        return Found {
-            number: 10,
-            count: 0,
-        };
+    if BITMAP_OCTETS < octets.len() {
+        return Err(BitmapError::Long);
     }
-    let count = fill_bits(octets, keys);
-    Found {
-        number: 0,
-        count: count,
-    }
+    Ok(fill_bits(octets, keys))
 }
 
 // Writes the keys of an entry's runs from a place on: the first above head, the others above base.
@@ -215,11 +203,11 @@ fn add_octet(
 }
 
 // Writes the keys of all runs of at most 30 octets, by the table.
+#[tactic(auto, using(crate::proofs::LastRun::stands_start, crate::proofs::LastRun::stands_end))]
 fn fill(octets: &[u8], entries: &[u32], keys: &mut [u32]) -> usize
     requires { (length octets.now ≤ 30) × (120 ≤ length keys.old) × Rule entries.now }
     ensures { Filled octets.now keys.old keys.new result }
 {
-    let n = octets.len();
     let mut last = Last {
         count: 0,
         key: 0,
@@ -227,42 +215,30 @@ fn fill(octets: &[u8], entries: &[u32], keys: &mut [u32]) -> usize
     };
     // 8 for each octet before, at both ends of a key; counted up, since the compiler makes the product of a turn twice
     let mut base: u32 = 0;
-    let mut i: usize = 0;
-    while i < n {
+    for i in 0..octets.len() {
         last = add_octet(octets, i, base, entries, keys, last);
-        i += 1;
         base += 524296;
     }
     last.count
 }
 
 // The second engine, octet by octet by the table: it answers and leaves what `read_bits` does.
-pub fn read_octets(octets: &[u8], keys: &mut [u32]) -> Found
+#[tactic(auto, unfolding(crate::specs::Bitmap::bitmap_found, crate::specs::Bitmap::bitmap_keys))]
+pub fn read_octets(octets: &[u8], keys: &mut [u32]) -> Result<usize, BitmapError>
     ensures { (result ≡ bitmap_found octets.now (length keys.old)) × (keys.new ≡ bitmap_keys octets.now keys.old) }
 {
     if keys.len() < Label::MAX_RUNS {
-        return Found {
-            number: 1,
-            count: 0,
-        };
+        return Err(BitmapError::Short);
     }
-    let n = octets.len();
-    if BITMAP_OCTETS < n {
-        return Found {
-            number: 10,
-            count: 0,
-        };
+    if BITMAP_OCTETS < octets.len() {
+        return Err(BitmapError::Long);
     }
     let entries = table();
-    let count = fill(octets, &entries, keys);
-    Found {
-        number: 0,
-        count: count,
-    }
+    Ok(fill(octets, &entries, keys))
 }
 
 // Reads a bitmap by the engine that is quicker for its length: the same answer from either.
-pub fn read_bitmap(octets: &[u8], keys: &mut [u32]) -> Found
+pub fn read_bitmap(octets: &[u8], keys: &mut [u32]) -> Result<usize, BitmapError>
     ensures { (result ≡ bitmap_found octets.now (length keys.old)) × (keys.new ≡ bitmap_keys octets.now keys.old) }
 {
     if octets.len() <= SHORT_OCTETS {

@@ -2,17 +2,16 @@
 use Prim.Native.Nat.{ℕ, suc, ◌+◌, ◌-◌, ◌*◌, ◌≤◌, ◌<◌}
 use mathlib.Core.Path.{◌≡◌, refl, ap, sym, ◌∙◌}
 use mathlib.Core.List.{List, [], ◌∷◌, ◌++◌, map, map-append, append_assoc}
-use mathlib.Core.Bool.{Bool, true, false, not, ◌&&◌, cond}
-use mathlib.Core.Logic.{⊎_elim}
+use mathlib.Core.Bool.{Bool, true, false, ◌&&◌, cond}
 use lib.ListN.{length, set, get_or, drop, length-append, length-map, length-set}
 use lib.Seq.{set-append_seam}
 use lib.Dec.{ltb, eqb}
 use native.Mathlib.Omega.{arith}
-use borrow.Author.Tests.{lt-ltb, le-ltb, eq-eqb, ne_eqb, eqb-true, eqb-false, ltb-true}
+use borrow.Author.Tests.{lt-ltb, eq-eqb, eqb-true, eqb-false, ltb-true}
 use Rattle.label.specs.declared.Run.{Run}
 use Rattle.label.specs.Runs.{run, push_run, top_of}
 use Rattle.label_keys.specs.Keys.{run_key}
-use Rattle.label.proofs.Bools.{less_or, and_left, and_right, not_yes}
+use Rattle.label.proofs.Bools.{and_left, and_right, not_yes}
 use Rattle.label.proofs.Canon.{Below}
 use Rattle.label_keys.proofs.Keys.{front_store}
 use Rattle.label.proofs.Push.{push_some}
@@ -139,14 +138,6 @@ module _ {was keys : List ℕ} {rs : List Run} {last : Last} (s : Stands was rs 
       }
 
 -- Tag 2: the runs are known by their keys; of the last one only the category after it is remembered.
-
--- the first number touches nothing
-pub touch_is : (count next x : ℕ) (first : Bool) → first ≡ eqb count 0 → (not first && eqb next x) ≡ touches_last count next x
-touch_is count next x first e =
-    ⊎_elim
-    (λ w. rw (e, ne_eqb count 0 (λ q. omega arith), lt-ltb 0 count w))
-    (λ w. rw (e, eq-eqb count 0 (omega arith), le-ltb 0 count w))
-    (less_or 0 count)
 
 pub touch_some : (count next x : ℕ) → touches_last count next x ≡ true → (0 < count) × (next ≡ x)
 touch_some count next x q = (ltb-true _ _ (and_left (ltb 0 count) _ q), eqb-true _ _ (and_right (ltb 0 count) _ q))

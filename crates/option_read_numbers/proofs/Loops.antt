@@ -5,18 +5,19 @@ use mathlib.Core.List.{List, map}
 use mathlib.Core.Bool.{Bool, true, false, cond, ◌||◌, or-true}
 use mathlib.Core.Logic.{⊎_elim}
 use lib.ListN.{length}
-use lib.Seq.{take_all, length-take-le, get_or-take}
+use lib.Seq.{take_all, length-take-le}
 use lib.Dec.{leb, ltb, eqb}
 use native.Mathlib.Omega.{arith}
+use Rattle.std.specs.Prelude.{Ok, Err}
 use native.Mathlib.Numerals.{add-one}
 use Rattle.label.specs.declared.Run.{Run}
 use Rattle.label.specs.Runs.{push_run, top_of}
-use Rattle.label.proofs.Bools.{less_or, same_leb, and_left, and_right, never}
+use Rattle.label.proofs.Bools.{less_or, same_leb, never}
 use Rattle.label.proofs.Push.{push_length, push_some, push_top}
-use borrow.Author.Tests.{eq-eqb, ne_eqb, le-leb, lt-leb, leb-true, lt-ltb, le-ltb}
+use borrow.Author.Tests.{eq-eqb, ne_eqb, le-leb, lt-leb, lt-ltb, le-ltb}
 use Rattle.option.specs.Index.{range_runs, first_true, number_at, bad_number, bad_pair, pairs_of, top_at, bottom_at}
 use Rattle.option.proofs.Bad.{first_is}
-use Rattle.label_keys.specs.Keys.{run_key}
+use Rattle.label_keys.specs.Keys.{key_runs, run_key}
 use Rattle.label_keys.proofs.Keys.{keys_back}
 use Rattle.option_read_numbers.specs.declared.Last.{Last}
 use Rattle.option_read_numbers.specs.Numbers.{whole, fits, at_front, Passes}
@@ -32,11 +33,6 @@ whole_half b = omega (arith, whole_length b)
 
 pub whole_even : (b : List ℕ) → length b % 2 ≡ 0 → whole b ≡ b
 whole_even b e = take_all (2 * (length b / 2)) b (omega arith)
-
-pub whole_number : (b : List ℕ) (k : ℕ) → 2 * k + 1 < length b → number_at b k ≡ number_at (whole b) k
-whole_number b k h =
-    let n : ℕ = 2 * (length b / 2) in
-    sym (λ i. get_or-take n b (2 * k) 0 (omega arith) i * 256 + get_or-take n b (2 * k + 1) 0 (omega arith) i)
 
 pub whole_pairs : (b : List ℕ) → (length b + 2) / 4 ≡ pairs_of (whole b)
 whole_pairs b = omega (arith, whole_length b)
@@ -85,29 +81,36 @@ first_next {f} {n} {j} {bad} t i e false p r q =
 pub first_found : {f : ℕ → Bool} {n bad : ℕ} → FirstFrom f n 0 bad → bad ≡ first_true f n
 first_found {f} {n} {bad} t = sym (first_is f n bad t.most (λ k q. t.before k (omega arith) q) t.here)
 
--- What a pass leaves.
-pub pass_made : {was keys : List ℕ} {rs : List Run} {last : Last} → Stands was rs keys last → (all : List Run) → rs ≡ all → length rs ≤ 15
-    → (bad place : ℕ) → bad ≡ place → Passes true all place was keys (record { count = last.count; bad = bad })
-pass_made {was} {keys} {rs} {last} s all e h bad place f =
-    record {
-      answer = λ i. record { count = (stands_count s ∙ ap length e) i; bad = f i };
-      left = s.keys_are ∙ ap (λ (z : List Run). at_front (map run_key z) was) e;
-      held = omega (arith, stands_count s);
-      stands = λ q. rw (← e) (keys_back rs s.small);
-    }
+-- What a pass leaves: all is read, or one is bad.
+module _ {was keys : List ℕ} {rs : List Run} {last : Last} (s : Stands was rs keys last) (all : List Run) (e : rs ≡ all) (h : length rs ≤ 15) (bad end : ℕ) where
+  left-is : keys ≡ at_front (map run_key all) was
+  left-is = s.keys_are ∙ ap (λ (z : List Run). at_front (map run_key z) was) e
+
+  stands-is : key_runs (map run_key all) ≡ all
+  stands-is = rw (← e) (keys_back rs s.small)
+
+  pub pass_made : end ≤ bad → Passes true all bad end was keys (Ok last.count)
+  pass_made f =
+      record {
+        answer = rw (le-ltb bad end f) (ap (λ (n : ℕ). Ok n) (stands_count s ∙ ap length e));
+        left = left-is;
+        held = omega (arith, stands_count s);
+        stands = λ q. stands-is;
+      }
+
+  pub pass_bad : (place : ℕ) → place ≡ bad → bad < end → Passes true all bad end was keys (Err place)
+  pass_bad place p f =
+      record { answer = rw (lt-ltb bad end f) (ap (λ (n : ℕ). Err n) p); left = left-is; held = tt; stands = λ q. stands-is }
 
 -- What does not fit is not read.
-pub pass_none : (fit : Bool) (rs : List Run) (bad : ℕ) (keys : List ℕ) → fit ≡ false → Passes fit rs bad keys keys (record { count = 0; bad = 0 })
-pass_none fit rs bad keys e =
-    rw e (record { answer = refl; left = refl; held = omega arith; stands = λ q. absurd (never (sym q)) })
+pub pass_none : (fit : Bool) (rs : List Run) (bad end : ℕ) (keys : List ℕ) → fit ≡ false → Passes fit rs bad end keys keys (Err 0)
+pass_none fit rs bad end keys e =
+    rw e (record { answer = refl; left = refl; held = tt; stands = λ q. absurd (never (sym q)) })
 
 -- What fits: at most 30 octets, and room for 15 keys.
 pub record Fits (n m : ℕ) : Type 0 where
   pub most : n ≤ 30
   pub room : 15 ≤ m
-
-pub fits_parts : (n room : ℕ) → fits n room ≡ true → Fits n room
-fits_parts n room e = record { most = leb-true _ _ (and_left (leb n 30) _ e); room = leb-true _ _ (and_right (leb n 30) _ e) }
 
 pub parts_fit : (n room : ℕ) → Fits n room → fits n room ≡ true
 parts_fit n room f = rw (le-leb n 30 f.most, le-leb 15 room f.room)
@@ -123,9 +126,6 @@ range_none lo hi (suc n) = ne_eqb (suc n) 0 (λ e. omega arith) ∙ sym (ne_eqb 
 
 pub left_none : (j n : ℕ) → j ≤ n → eqb j n ≡ eqb (n - j) 0
 left_none j n h = ⊎_elim (λ w. ne_eqb j n (λ e. omega arith) ∙ sym (ne_eqb (n - j) 0 (λ e. omega arith))) (λ w. eq-eqb j n (omega arith) ∙ sym (eq-eqb (n - j) 0 (omega arith))) (less_or j n)
-
-pub limit_first : (b : List ℕ) (j : ℕ) → j ≡ 0 → limit_at b j ≡ 65535
-limit_first b j e = rw (eq-eqb j 0 e)
 
 pub limit_is : (b : List ℕ) (j : ℕ) → 0 < j → limit_at b j ≡ bottom_at b (j - 1)
 limit_is b j h = rw (ne_eqb j 0 (λ e. omega arith))

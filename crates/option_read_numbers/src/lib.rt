@@ -17,14 +17,6 @@ const NUMBER_OCTETS: usize = 30;
 // The one number of two octets that is no category.
 const NO_CATEGORY: u16 = Label::MAX_CATEGORY + 1;
 
-// What one pass over a tag's categories leaves: how many keys it wrote, and where the first bad number or pair begins, not before the end
-// where there is none.
-#[derive(Clone, Copy)]
-pub struct Pass {
-    pub count: usize,
-    pub bad: usize,
-}
-
 // Where runs under construction stand: how many there are, the last one's low, and the category after its high.
 #[derive(Clone, Copy)]
 pub struct Last {
@@ -33,23 +25,23 @@ pub struct Last {
     pub next: u32,
 }
 
-// Tag 2: reads the numbers before the first bad one into keys, lowest first; what stands after them stays. An odd last octet is
-// left out. Over 30 octets, or a list of under 15 keys, are not read: every key stays, and the first octet is bad.
-pub fn read_numbers(octets: &[u8], keys: &mut [u32]) -> Pass
+// Tag 2: reads the numbers before the first bad one into keys, lowest first; what stands after them stays. Answers how many keys there are, or the octet at which
+// the first bad number begins. An odd last octet is left out. Over 30 octets, or a list of under 15 keys, are not read: every key stays, and the first octet is bad.
+pub fn read_numbers(octets: &[u8], keys: &mut [u32]) -> Result<usize, usize>
     ensures { ReadsNumbers octets.now keys.old keys.new result }
 {
     if !fit(octets.len(), keys.len()) {
-        return Pass { count: 0, bad: 0 };
+        return Err(0);
     }
     number_keys(octets, keys)
 }
 
 // Tag 5: the same with all pairs, of which the first bad one is told.
-pub fn read_pairs(octets: &[u8], keys: &mut [u32]) -> Pass
+pub fn read_pairs(octets: &[u8], keys: &mut [u32]) -> Result<usize, usize>
     ensures { ReadsPairs octets.now keys.old keys.new result }
 {
     if !fit(octets.len(), keys.len()) {
-        return Pass { count: 0, bad: 0 };
+        return Err(0);
     }
     pair_keys(octets, keys)
 }
@@ -70,7 +62,7 @@ fn add_piece(last: Last, first: bool, low: u16, high: u16) -> Last
     requires { (last.count ≤ 120) × (first ≡ eqb last.count 0) }
     ensures { result ≡ after_piece last low high }
 {
-    let next = (high as u32) + 1;
+    let next = u32::from(high) + 1;
     if first {
         return Last {
             count: 1,
@@ -78,7 +70,7 @@ fn add_piece(last: Last, first: bool, low: u16, high: u16) -> Last
             next: next,
         };
     }
-    if last.next == low as u32 {
+    if last.next == u32::from(low) {
         return Last {
             count: last.count,
             low: last.low,
@@ -97,7 +89,7 @@ fn number_at(octets: &[u8], k: usize) -> u16
     requires { 2 * k + 1 < length octets.now }
     ensures { (result ≡ number_at (whole octets.now) k) × (result < 65536) }
 {
-    wide(octets[2 * k]) * 256 + wide(octets[2 * k + 1])
+    u16::from_be_bytes([octets[2 * k], octets[2 * k + 1]])
 }
 
 // Tag 2: 65535, or below the category after the number before it.
@@ -107,7 +99,7 @@ fn bad_after(x: u16, next: u32) -> bool
     if x == NO_CATEGORY {
         return true;
     }
-    let after = (x as u32) + 1;
+    let after = u32::from(x) + 1;
     after <= next
 }
 
@@ -127,30 +119,22 @@ fn add_number(keys: &mut [u32], count: usize, first: bool, next: u32, x: u16) ->
 }
 
 // Tag 2: the numbers are checked and added in one pass, which ends at the first bad one.
-fn number_keys(octets: &[u8], keys: &mut [u32]) -> Pass
+fn number_keys(octets: &[u8], keys: &mut [u32]) -> Result<usize, usize>
     requires { (length octets.now ≤ 30) × (15 ≤ length keys.old) }
-    ensures { Passes true (number_runs (whole octets.now)) (2 * first_bad_number (whole octets.now)) keys.old keys.new result }
+    ensures { Passes true (number_runs (whole octets.now)) (2 * first_bad_number (whole octets.now)) (length (whole octets.now)) keys.old keys.new result }
 {
     let n = octets.len() / 2;
     let mut count: usize = 0;
     let mut next: u32 = 0;
-    let mut k: usize = 0;
-    while k < n {
+    for k in 0..n {
         let x = number_at(octets, k);
         if bad_after(x, next) {
-            return Pass {
-                count: count,
-                bad: 2 * k,
-            };
+            return Err(2 * k);
         }
         count = add_number(keys, count, k == 0, next, x);
-        next = (x as u32) + 1;
-        k += 1;
+        next = u32::from(x) + 1;
     }
-    Pass {
-        count: count,
-        bad: 2 * k,
-    }
+    Ok(count)
 }
 
 // The bottom of pair j; the last one left out is 0.
@@ -196,9 +180,9 @@ fn either(first: bool, a: usize, b: usize) -> usize
 }
 
 // Tag 5: the pairs are checked and added in one pass from the last to the first: the bad one that is met last is the first.
-fn pair_keys(octets: &[u8], keys: &mut [u32]) -> Pass
+fn pair_keys(octets: &[u8], keys: &mut [u32]) -> Result<usize, usize>
     requires { (length octets.now ≤ 30) × (15 ≤ length keys.old) }
-    ensures { Passes true (pair_runs (whole octets.now)) (4 * first_bad_pair (whole octets.now)) keys.old keys.new result }
+    ensures { Passes true (pair_runs (whole octets.now)) (4 * first_bad_pair (whole octets.now)) (length (whole octets.now)) keys.old keys.new result }
 {
     let n = (octets.len() + 2) / 4;
     let mut last = Last {
@@ -208,10 +192,8 @@ fn pair_keys(octets: &[u8], keys: &mut [u32]) -> Pass
     };
     let mut bad = n;
     let mut bottom = last_bottom(octets, n);
-    let mut j = n;
-    while 0 < j {
-        let first = j == n;
-        j -= 1;
+    for j in (0..n).rev() {
+        let first = j + 1 == n;
         let top = number_at(octets, 2 * j);
         let limit = limit_at(octets, j);
         bad = either(bad_pair(top, bottom, limit), j, bad);
@@ -220,14 +202,8 @@ fn pair_keys(octets: &[u8], keys: &mut [u32]) -> Pass
         keys[at] = key_of(last.low, top);
         bottom = limit;
     }
-    Pass {
-        count: last.count,
-        bad: 4 * bad,
+    if bad < n {
+        return Err(4 * bad);
     }
-}
-
-fn wide(x: u8) -> u16
-    ensures { (result ≡ x) × (result < 256) }
-{
-    x as u16
+    Ok(last.count)
 }

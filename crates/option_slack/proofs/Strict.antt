@@ -6,14 +6,18 @@ use mathlib.Core.List.{List, [], ◌∷◌, ◌++◌}
 use mathlib.Core.Logic.{◌↔◌}
 use native.Mathlib.Omega.{arith}
 use lib.Dec.{ltb, eqb}
+use borrow.Author.Tests.{ne_eqb}
 use lib.ListN.{length}
-use borrow.Author.Tests.{eq-eqb, ne_eqb, eqb-true}
 use Rattle.label.specs.declared.Label.{Label}
 use Rattle.option.specs.Option.{domain_of, tag_length_of}
-use Rattle.option_read.specs.declared.Reading.{Reading}
-use Rattle.option_read.specs.Reading.{Check, check, found, not_read, checked_reading, category_checks, after_check, tag_checks, label_in, reading_by, reading_for}
+use Rattle.option_read.specs.Reading.{Reading}
+use Rattle.option_read.specs.Reading.{Check, check, not_read, checked_reading, category_checks, tag_checks, label_in, reading_by, reading_for}
 use Rattle.option_slack.specs.Slack.{slack}
-use Rattle.option_slack.specs.Strict.{slack_check, strict_reading, stops_slack}
+use Rattle.std.specs.Prelude.{Result, Ok, Err}
+use Rattle.option_read.specs.declared.Fault.{Fault}
+use Rattle.option_read.specs.declared.KeysRead.{KeysRead}
+use Rattle.option_read.specs.Keys.{row_of, Refused}
+use Rattle.option_slack.specs.Strict.{strict_reading, stops_slack, stops_read}
 use Rattle.option_slack.specs.Theorems.{StrictReads}
 
 -- the numbers of 7 to 12 are neither 0 nor 13
@@ -83,8 +87,7 @@ module _ (strict : Bool) (n : ℕ) (o : List ℕ) where
   pub stops_loose : strict ≡ false → stops_slack strict n o ≡ false
   stops_loose e = rw e
 
-  pub stops_past : strict ≡ true → (eqb n 0 || eqb n 13) ≡ true → stops_slack strict n o ≡ slack o
-  stops_past e f = rw (e, f)
-
-  pub stops_before : (eqb n 0 || eqb n 13) ≡ false → stops_slack strict n o ≡ false
-  stops_before f = not_past strict (slack o) (eqb n 0 || eqb n 13) f
+-- What was answered, and its row: 23 decides alike.
+pub stops_row : (strict : Bool) (r : Result KeysRead Fault) (o : List ℕ) → Refused r → stops_slack strict (row_of r).number o ≡ stops_read strict r o
+stops_row strict (Ok k) o h = refl
+stops_row strict (Err f) o h = rw (ne_eqb f.number 0 h) refl

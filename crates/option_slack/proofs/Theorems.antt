@@ -1,19 +1,18 @@
 -- The theorems of `specs/Theorems.antt`.
-use Prim.Native.Nat.{ℕ, zero, suc, ◌+◌, ◌-◌, ◌≤◌, ◌<◌}
+use Prim.Native.Nat.{ℕ, ◌+◌, ◌-◌, ◌≤◌, ◌<◌}
 use mathlib.Core.Path.{◌≡◌, refl, sym, ap, ◌∙◌}
 use mathlib.Core.Bool.{Bool, true, false, not, ◌&&◌, ◌||◌}
 use mathlib.Core.List.{List, [], ◌∷◌}
 use native.Mathlib.Omega.{arith}
-use borrow.Author.Tests.{not-false, ltb-true, ltb-false, eqb-true, lt-ltb, le-ltb, eq-eqb, ne_eqb}
+use borrow.Author.Tests.{not-false, ltb-true, ltb-false, eq-eqb, ne_eqb}
 use lib.Dec.{leb, ltb, eqb}
 use lib.ListN.{length, get_or}
-use Rattle.label.specs.declared.Run.{Run}
 use Rattle.label.specs.declared.Label.{Label}
-use Rattle.option.specs.Option.{tag_of, body_of, numbers_in, pairs_in, falling, good_body, valid, tag_length_of, is_even, ascending, Means}
+use Rattle.option.specs.Option.{tag_of, body_of, numbers_in, pairs_in, falling, valid, Means}
 use Rattle.option.specs.Permitted.{trimmed, tight, is_shortest, is_ten, is_numbers, is_pairs, permits, Permitted}
 use Rattle.option.proofs.Meaning.{parts, Tagged, one, two, five, tagged}
 use Rattle.label.proofs.Bools.{and_left, and_right}
-use Rattle.option_slack.specs.Slack.{trailing_zero, touching, zero_written, slack_bitmap, slack_pairs, slack_body, slack}
+use Rattle.option_slack.specs.Slack.{touching, zero_written, slack_bitmap, slack_pairs, slack_body, slack}
 use Rattle.option.specs.Table.{all_four}
 use Rattle.option.specs.declared.Spellings.{Spellings}
 use Rattle.option_read.proofs.Valid.{body_is}
@@ -144,10 +143,3 @@ slackness = record { exactly = exactly_of; means = λ o l m. (passed_of o l m, p
 
     permitted_of : (p : Spellings) (o : List ℕ) (l : Label) → Permitted p o l → slack o ≡ false
     permitted_of p o l q = exactly_of o q.means.good ∙ ap not (permits_all p o q.permitted)
-
--- For the code: a bitmap of no octets, and one of some.
-pub empty_bitmap : (b : List ℕ) → length b ≡ 0 → slack_bitmap b ≡ false
-empty_bitmap b e = rw (eq-eqb (length b) 0 e)
-
-pub some_bitmap : (b : List ℕ) → (length b ≡ 0 → ⊥) → slack_bitmap b ≡ (eqb (get_or b (length b - 1) 0) 0 && not (eqb (length b) 10))
-some_bitmap b h = rw (ne_eqb (length b) 0 h)

@@ -1,6 +1,5 @@
 -- Options of domain 5 at level 3, and what reading them at a strict port of that domain gives: the number and the pointer.
 use Rattle.std.specs.Prelude.{ℕ, ◌+◌, Bool, true, false, List, [], ◌∷◌, ◌++◌, ◌≡◌, length, replicate}
-use Rattle.option_slack.specs.Slack.{slack}
 use Rattle.option_slack.specs.Strict.{strict_reading}
 
 -- the tag's type, its length, its categories and what stands after it

@@ -1,6 +1,6 @@
 -- Document 02, Wish 10: the slack spellings, which a strict port stops, over the octets of an option: "a tag 1 bitmap with a trailing zero octet, unless
 -- it has exactly ten octets, touching tag 5 pairs, and a last bottom of 0 written out".
-use Rattle.std.specs.Prelude.{ℕ, ◌+◌, ◌-◌, Bool, true, false, not, ◌&&◌, ◌||◌, List, [], ◌∷◌, eqb, length, get_or}
+use Rattle.std.specs.Prelude.{ℕ, ◌+◌, ◌-◌, Bool, false, not, ◌&&◌, ◌||◌, List, [], ◌∷◌, eqb, length, get_or}
 use Rattle.option.specs.Option.{tag_of, numbers_in}
 use Rattle.option_read.specs.Reading.{categories_in}
 

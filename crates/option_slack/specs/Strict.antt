@@ -1,8 +1,10 @@
 -- Document 02, Wish 10: the option 134 of an area, read for a port that may be strict: "refused with 23 .. tested right after 12, pointer at the tag's first
 -- category octet".
-use Rattle.std.specs.Prelude.{ℕ, Bool, not, ◌&&◌, ◌||◌, List, [], ◌∷◌, ◌++◌, ltb, eqb, length}
+use Rattle.std.specs.Prelude.{ℕ, Bool, true, not, ◌&&◌, ◌||◌, List, [], ◌∷◌, ◌++◌, ltb, eqb, length, Result, Ok, Err}
 use Rattle.option.specs.Option.{domain_of}
-use Rattle.option_read.specs.declared.Reading.{Reading}
+use Rattle.option_read.specs.declared.Fault.{Fault}
+use Rattle.option_read.specs.declared.KeysRead.{KeysRead}
+use Rattle.option_read.specs.Reading.{Reading}
 use Rattle.option_read.specs.Reading.{Check, check, checked_reading, category_checks, after_check, label_in}
 use Rattle.option_slack.specs.Slack.{slack}
 
@@ -24,3 +26,11 @@ strict_reading strict d o = checked_reading (strict_checks strict d o) (label_in
 -- 23 decides: of the numbers that an option is read to for a port's domain, 0 and 13 come after it
 abbrev pub stops_slack : Bool → ℕ → List ℕ → Bool
 stops_slack strict n o = strict && ((eqb n 0 || eqb n 13) && slack o)
+
+-- the same of what was answered
+abbrev pub comes_after : Result KeysRead Fault → Bool
+comes_after (Ok k) = true
+comes_after (Err f) = eqb f.number 13
+
+abbrev pub stops_read : Bool → Result KeysRead Fault → List ℕ → Bool
+stops_read strict r o = strict && (comes_after r && slack o)

@@ -5,7 +5,9 @@ ghost use Rattle.std.specs.Prelude.{◌≡◌, cond, ◌+◌, ◌-◌, ◌*◌, 
 ghost use Rattle.option.specs.Option.{numbers_in};
 ghost use Rattle.option.specs.Index.{number_at};
 ghost use Rattle.option_slack.specs.Slack.{touching, zero_written, slack_bitmap, slack_pairs, slack};
-ghost use Rattle.option_slack.specs.Strict.{stops_slack};
+ghost use Rattle.option_slack.specs.Strict.{comes_after, stops_read};
+
+use option_read::{Fault, KeysRead};
 
 // The octets of a bitmap that may end with a zero octet.
 const TEN_OCTETS: usize = 10;
@@ -35,18 +37,25 @@ pub fn is_slack(octets: &[u8]) -> bool
     false
 }
 
-// Whether 23 decides at a port that may be strict, of an option that is read to a number for its domain: 0 and 13 come after 23. The octets are looked at
+// Whether 23 decides at a port that may be strict, of an option that was read for its domain: a label and 13 come after 23. The octets are looked at
 // on a strict port alone.
-pub fn stops_slack(strict: bool, number: u8, octets: &[u8]) -> bool
-    ensures { result ≡ stops_slack strict number octets.now }
+pub fn stops_slack(strict: bool, read: Result<KeysRead, Fault>, octets: &[u8]) -> bool
+    ensures { result ≡ stops_read strict read octets.now }
 {
     if !strict {
         return false;
     }
-    if (number == 0) | (number == AFTER_TAG) {
-        return is_slack(octets);
+    comes_after(read) && is_slack(octets)
+}
+
+// Whether 23 is tested before what was answered.
+fn comes_after(read: Result<KeysRead, Fault>) -> bool
+    ensures { result ≡ comes_after read }
+{
+    match read {
+        Ok(_) => true,
+        Err(fault) => fault.number == AFTER_TAG,
     }
-    false
 }
 
 // Where the categories of a tag with this length octet end in an option of n octets.
@@ -90,15 +99,13 @@ fn are_slack_pairs(octets: &[u8]) -> bool
 fn some_touch(octets: &[u8]) -> bool
     ensures { result ≡ touching (numbers_in octets.now) }
 {
-    let n = octets.len() / 2;
-    let mut k: usize = 2;
-    while k < n {
-        let top = number_at(octets, k);
-        let bottom = number_at(octets, k - 1);
+    let tops = (octets.len() / 2 + 1) / 2;
+    for j in 1..tops {
+        let top = number_at(octets, 2 * j);
+        let bottom = number_at(octets, 2 * j - 1);
         if touch(top, bottom) {
             return true;
         }
-        k += 2;
     }
     false
 }
@@ -121,7 +128,7 @@ fn writes_zero(octets: &[u8]) -> bool
 fn touch(top: u16, bottom: u16) -> bool
     ensures { result ≡ eqb (top + 1) bottom }
 {
-    (top as u32) + 1 == bottom as u32
+    u32::from(top) + 1 == u32::from(bottom)
 }
 
 // Two-octet number k.
@@ -129,17 +136,11 @@ fn number_at(octets: &[u8], k: usize) -> u16
     requires { 2 * k + 1 < length octets.now }
     ensures { result ≡ number_at octets.now k }
 {
-    wide(octets[2 * k]) * 256 + wide(octets[2 * k + 1])
-}
-
-fn wide(x: u8) -> u16
-    ensures { (result ≡ x) × (result < 256) }
-{
-    x as u16
+    u16::from_be_bytes([octets[2 * k], octets[2 * k + 1]])
 }
 
 fn widen(x: u8) -> usize
     ensures { (result ≡ x) × (result < 256) }
 {
-    x as usize
+    usize::from(x)
 }

@@ -17,8 +17,9 @@ use Rattle.option_form.specs.Spelled.{length_of}
 use Rattle.option_form.proofs.Lengths.{spelled_bounds}
 use Rattle.option_write.specs.Keys.{laid, keys_count, keys_laid}
 use Rattle.option_write.proofs.Keys.{keys_laid_lem}
-use Rattle.option_spell.specs.declared.Spelling.{Spelling}
-use Rattle.option_spell.specs.Spelling.{spelling_number, spelling_answer, spelling_out}
+use Rattle.std.specs.Prelude.{Result, Ok, Err}
+use Rattle.option_spell.specs.declared.SpellError.{SpellError}
+use Rattle.option_spell.specs.Spelling.{Spelling, error_of, told, spelling_number, spelling_answer, spelling_out}
 use Rattle.option_spell.specs.Stages.{answer_of}
 
 -- The number.
@@ -64,16 +65,16 @@ module _ (p : Spellings) (l : Label) (out : List ℕ) where
 
   -- a refusal: its number, count 0, and nothing written
   pub refused : (k : ℕ) → (k ≡ 0 → ⊥) → spelling_number p l (length out) ≡ k
-      → (◌≡◌ {A = Spelling} (record { number = k; count = 0 }) (spelling_answer p l (length out))) × (out ≡ spelling_out p l out)
-  refused k z e = (sym (answer_refused p l (length out) k z e), sym (out_refused k z e))
+      → (◌≡◌ {A = Result ℕ SpellError} (Err (error_of k)) (told (spelling_answer p l (length out)))) × (out ≡ spelling_out p l out)
+  refused k z e = (rw (answer_refused p l (length out) k z e, ne_eqb k 0 z) refl, sym (out_refused k z e))
 
   pub out_done : (s : List ℕ) → spelling_number p l (length out) ≡ 0 → spelled_of p l ≡ some s → spelling_out p l out ≡ padded s ++ drop 40 out
   unfolding spelling_out
   out_done s e q = rw (e, q)
 
 -- What spelling the keys of a well-formed label says is what spelling the label does.
-module _ (p : Spellings) (l : Label) (out out' : List ℕ) (r : Spelling) (n : ℕ) (f : well_formed l ≡ true) (long : 40 ≤ length out) (ks : List ℕ) (e : key_runs ks ≡ used l)
-    (w : (n ≡ keys_count p l.domain l.level ks (length out)) × (out' ≡ keys_laid p l.domain l.level ks out)) (a : r ≡ answer_of n) where
+module _ (p : Spellings) (l : Label) (out out' : List ℕ) (r : Result ℕ SpellError) (n : ℕ) (f : well_formed l ≡ true) (long : 40 ≤ length out) (ks : List ℕ) (e : key_runs ks ≡ used l)
+    (w : (n ≡ keys_count p l.domain l.level ks (length out)) × (out' ≡ keys_laid p l.domain l.level ks out)) (a : r ≡ told (answer_of n)) where
   held : length (used l) ≤ 120
   held = omega (arith, used_length l (formed l f), (formed l f).held)
 
@@ -83,15 +84,15 @@ module _ (p : Spellings) (l : Label) (out out' : List ℕ) (r : Spelling) (n : �
   left : out' ≡ laid (spelled_of p l) out
   left = w.1 ∙ (keys_laid_lem p l.domain l.level ks (used l) out e held long).1
 
-  pub keys_spell : (r ≡ spelling_answer p l (length out)) × (out' ≡ spelling_out p l out)
+  pub keys_spell : (r ≡ told (spelling_answer p l (length out))) × (out' ≡ spelling_out p l out)
   keys_spell = go (spelled_of p l) refl
     where
-      go : (o : Option (List ℕ)) → spelled_of p l ≡ o → (r ≡ spelling_answer p l (length out)) × (out' ≡ spelling_out p l out)
+      go : (o : Option (List ℕ)) → spelled_of p l ≡ o → (r ≡ told (spelling_answer p l (length out))) × (out' ≡ spelling_out p l out)
       go none q =
           let k = refused p l out 18 (λ y. omega arith) (number_none p l (length out) long f q) in
-          (a ∙ ap answer_of (counted ∙ ap length_of q) ∙ k.0, left ∙ ap (λ (o : Option (List ℕ)). laid o out) q ∙ k.1)
+          (a ∙ ap (λ (m : ℕ). told (answer_of m)) (counted ∙ ap length_of q) ∙ k.0, left ∙ ap (λ (o : Option (List ℕ)). laid o out) q ∙ k.1)
       go (some s) q =
           let m = number_done p l (length out) long f s q in
           let b = spelled_bounds p l.domain l.level (used l) s q in
           let done : answer_of (length s) ≡ record { number = 0; count = length s } = rw (ne_eqb (length s) 0 (λ y. omega (arith, b.0))) in
-          (a ∙ ap answer_of (counted ∙ ap length_of q) ∙ done ∙ sym (answer_done p l (length out) s m q), left ∙ ap (λ (o : Option (List ℕ)). laid o out) q ∙ sym (out_done p l out s m q))
+          (a ∙ ap (λ (m : ℕ). told (answer_of m)) (counted ∙ ap length_of q) ∙ ap told (done ∙ sym (answer_done p l (length out) s m q)), left ∙ ap (λ (o : Option (List ℕ)). laid o out) q ∙ sym (out_done p l out s m q))

@@ -1,38 +1,24 @@
 -- Laws of a label's first places as keys: how they are filled in, and the label's form by them and by the places after them.
-use Prim.Native.Nat.{ℕ, zero, suc, ◌+◌, ◌*◌, ◌/◌, ◌%◌, ◌≤◌, ◌<◌}
+use Prim.Native.Nat.{ℕ, zero, suc, ◌+◌, ◌-◌, ◌*◌, ◌/◌, ◌%◌, ◌≤◌}
 use mathlib.Core.Path.{◌≡◌, refl, ap, sym, ◌∙◌}
 use mathlib.Core.Bool.{Bool, true, false, ◌&&◌}
-use mathlib.Core.List.{List, [], ◌∷◌, ◌++◌, map-append}
+use mathlib.Core.List.{List, [], ◌∷◌, ◌++◌}
 use native.Mathlib.Omega.{arith}
-use native.Mathlib.Numerals.{add-one}
 use lib.Bits.{bit_or}
 use lib.Dec.{eqb}
-use lib.ListN.{length, get_or, set, take, drop, take-append-drop}
-use lib.Seq.{take-suc, take-take}
+use lib.ListN.{length, take, drop, take-append-drop, length-drop}
+use lib.Seq.{take-take, take_all}
 use Rattle.label.specs.declared.Run.{Run}
 use Rattle.label.specs.Runs.{spaced, unused}
-use Rattle.label.specs.Label.{no_run}
 use Rattle.label_keys.specs.Keys.{key_run, key_runs}
 use Rattle.label.proofs.Places.{or_step}
 
--- a store after the first i
-taken_store : (ks : List ℕ) (i k : ℕ) → i < length ks → take (i + 1) (set ks i k) ≡ take i ks ++ k ∷ []
-taken_store ks i k h = rw (add-one i) (go ks i h)
-  where
-    go : (l : List ℕ) (j : ℕ) → j < length l → take (suc j) (set l j k) ≡ take j l ++ k ∷ []
-    go [] j u = absurd (omega arith)
-    go (x ∷ l) zero u = refl
-    go (x ∷ l) (suc j) u = ap (λ (z : List ℕ). x ∷ z) (go l j (omega arith))
+-- the places behind the first n, as a loop goes through them
+abbrev pub behind : {A : Type 0} → ℕ → List A → List A
+behind n xs = take (length xs - n) (drop n xs)
 
--- one place more as a key
-pub front_next : (rs : List Run) (ks : List ℕ) (i k : ℕ) → i < length ks → i < length rs → key_runs (take i ks) ≡ take i rs
-    → k / 65536 ≡ (get_or rs i no_run).low → k % 65536 ≡ (get_or rs i no_run).high → key_runs (take (i + 1) (set ks i k)) ≡ take (i + 1) rs
-front_next rs ks i k h m e low high =
-    let t : take (i + 1) rs ≡ take i rs ++ get_or rs i no_run ∷ [] = rw (add-one i, take-suc rs i no_run m) in
-    ap key_runs (taken_store ks i k h)
-    ∙ map-append key_run (take i ks) (k ∷ [])
-    ∙ (λ j. e j ++ record { low = low j; high = high j } ∷ [])
-    ∙ sym t
+pub behind_is : {A : Type 0} (n : ℕ) (xs : List A) → drop n xs ≡ behind n xs
+behind_is n xs = sym (take_all (length xs - n) (drop n xs) (omega (arith, length-drop n xs)))
 
 -- one key more in the OR
 pub key_or_step : (s k : ℕ) (u : Bool) → (eqb s 0 && (eqb (k / 65536) 0 && (eqb (k % 65536) 0 && u))) ≡ (eqb (bit_or s k) 0 && u)

@@ -2,3 +2,4 @@ pub mod Answers
 pub mod Keys
 pub mod Few
 pub mod Theorems
+pub mod Told

@@ -15,7 +15,7 @@ use Rattle.option.specs.declared.Spellings.{Spellings}
 use Rattle.option.specs.Spelling.{padded, spelled_of}
 use Rattle.option_form.specs.Spelled.{lacking}
 use Rattle.option_form.proofs.Lengths.{spelled_bounds}
-use Rattle.option_spell.specs.declared.Spelling.{Spelling}
+use Rattle.option_spell.specs.Spelling.{Spelling}
 use Rattle.option_spell.specs.Spelling.{spelling_number, spelling_answer, spelling_out}
 use Rattle.option_spell.specs.Theorems.{SpellingAlone}
 use Rattle.option_spell.proofs.Answers.{number_short, number_ill, number_none, number_done, answer_refused, answer_done, out_refused, out_done}

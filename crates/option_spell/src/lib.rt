@@ -6,7 +6,7 @@ ghost use Rattle.std.specs.Prelude.{◌≡◌, ◌&&◌, map, ◌++◌, ◌+◌,
 ghost use Rattle.label.specs.Runs.{spaced, unused};
 ghost use Rattle.label.specs.Label.{used};
 ghost use Rattle.label_keys.specs.Keys.{key_runs, run_key};
-ghost use Rattle.option_spell.specs.Spelling.{spelling_answer, spelling_out};
+ghost use Rattle.option_spell.specs.Spelling.{number_of, told, spelling_answer, spelling_out};
 ghost use Rattle.option_spell.specs.Stages.{answer_of};
 
 use label::{Label, Run, word};
@@ -17,59 +17,61 @@ use option_write::spell_keys;
 // So many runs are few: spelled without a copy of the whole label.
 const FEW_RUNS: usize = 16;
 
-// What spelling a label alone answers: 0 and the option's length, or the number of a refusal and 0.
+// Why a label is not spelled: an output of under 40 octets, an ill-formed label, or one that no permitted option means.
 #[derive(Clone, Copy)]
-pub struct Spelling {
-    pub number: u8,
-    pub count: usize,
+pub enum SpellError {
+    Short,
+    IllFormed,
+    Unspelled,
 }
 
-// Spells the label alone, under a set of permitted spellings: the option is written, with zeros up to octet 39, or nothing is and the refusal
-// says why.
-pub fn spell_label(label: Label, permitted: Spellings, out: &mut [u8]) -> Spelling
-    ensures { (result ≡ spelling_answer permitted label (length out.old)) × (out.new ≡ spelling_out permitted label out.old) }
+impl SpellError {
+    // The number of the refusal.
+    pub fn number(self) -> u8
+        ensures { result ≡ number_of self }
+    {
+        match self {
+            SpellError::Short => 1,
+            SpellError::IllFormed => 2,
+            SpellError::Unspelled => 18,
+        }
+    }
+}
+
+// Spells the label alone, under a set of permitted spellings: the option is written, with zeros up to octet 39, and its length answered; or nothing is
+// written and the refusal says why.
+pub fn spell_label(label: Label, permitted: Spellings, out: &mut [u8]) -> Result<usize, SpellError>
+    ensures { (result ≡ told (spelling_answer permitted label (length out.old))) × (out.new ≡ spelling_out permitted label out.old) }
 {
     if out.len() < OPTION_OCTETS {
-        return Spelling {
-            number: 1,
-            count: 0,
-        };
+        return Err(SpellError::Short);
     }
     let n = label.count;
     if n <= 1 {
         return spell_one(label, permitted, out);
     }
     if label.domain == 0 {
-        return Spelling {
-            number: 2,
-            count: 0,
-        };
+        return Err(SpellError::IllFormed);
     }
     if n <= FEW_RUNS {
         return spell_few(label, permitted, out);
     }
     if Label::MAX_RUNS < n {
-        return Spelling {
-            number: 2,
-            count: 0,
-        };
+        return Err(SpellError::IllFormed);
     }
     spell_many(label, permitted, out)
 }
 
 // A label of at most one run. No place is indexed by a number that is not fixed, so that the label is not copied.
-fn spell_one(label: Label, permitted: Spellings, out: &mut [u8]) -> Spelling
+fn spell_one(label: Label, permitted: Spellings, out: &mut [u8]) -> Result<usize, SpellError>
     requires { (label.count ≤ 1) × (40 ≤ length out.old) }
-    ensures { (result ≡ spelling_answer permitted label (length out.old)) × (out.new ≡ spelling_out permitted label out.old) }
+    ensures { (result ≡ told (spelling_answer permitted label (length out.old))) × (out.new ≡ spelling_out permitted label out.old) }
 {
     let n = label.count;
     let run = label.runs[0];
     let key = run_key(run);
     if !label.well_formed() {
-        return Spelling {
-            number: 2,
-            count: 0,
-        };
+        return Err(SpellError::IllFormed);
     }
     let keys = [key; 1];
     let count = spell_keys(
@@ -83,19 +85,16 @@ fn spell_one(label: Label, permitted: Spellings, out: &mut [u8]) -> Spelling
 }
 
 // A label of few runs: the places that may be used are fixed too, and they alone are copied.
-fn spell_few(label: Label, permitted: Spellings, out: &mut [u8]) -> Spelling
+fn spell_few(label: Label, permitted: Spellings, out: &mut [u8]) -> Result<usize, SpellError>
     requires { (label.domain ≡ 0 → ⊥) × (label.count ≤ 16) × (40 ≤ length out.old) }
-    ensures { (result ≡ spelling_answer permitted label (length out.old)) × (out.new ≡ spelling_out permitted label out.old) }
+    ensures { (result ≡ told (spelling_answer permitted label (length out.old))) × (out.new ≡ spelling_out permitted label out.old) }
 {
     let n = label.count;
     let mut keys = [0u32; FEW_RUNS];
     front_keys(label, &mut keys);
     let formed = few_formed(&keys, n) & unused_after_few(label);
     if !formed {
-        return Spelling {
-            number: 2,
-            count: 0,
-        };
+        return Err(SpellError::IllFormed);
     }
     let count = spell_keys(
         &keys[..n],
@@ -108,17 +107,14 @@ fn spell_few(label: Label, permitted: Spellings, out: &mut [u8]) -> Spelling
 }
 
 // A label of any number of runs: all places are copied.
-fn spell_many(label: Label, permitted: Spellings, out: &mut [u8]) -> Spelling
+fn spell_many(label: Label, permitted: Spellings, out: &mut [u8]) -> Result<usize, SpellError>
     requires { (label.domain ≡ 0 → ⊥) × (label.count ≤ 120) × (40 ≤ length out.old) }
-    ensures { (result ≡ spelling_answer permitted label (length out.old)) × (out.new ≡ spelling_out permitted label out.old) }
+    ensures { (result ≡ told (spelling_answer permitted label (length out.old))) × (out.new ≡ spelling_out permitted label out.old) }
 {
     let n = label.count;
     let mut keys = [0u32; Label::MAX_RUNS];
     if !runs_formed(label, &mut keys) {
-        return Spelling {
-            number: 2,
-            count: 0,
-        };
+        return Err(SpellError::IllFormed);
     }
     let count = spell_keys(
         &keys[..n],
@@ -131,19 +127,13 @@ fn spell_many(label: Label, permitted: Spellings, out: &mut [u8]) -> Spelling
 }
 
 // By the length of the option that was written: done, or the refusal 18 where none was.
-fn answer(count: usize) -> Spelling
-    ensures { result ≡ answer_of count }
+fn answer(count: usize) -> Result<usize, SpellError>
+    ensures { result ≡ told (answer_of count) }
 {
     if count == 0 {
-        return Spelling {
-            number: 18,
-            count: 0,
-        };
+        return Err(SpellError::Unspelled);
     }
-    Spelling {
-        number: 0,
-        count: count,
-    }
+    Ok(count)
 }
 
 // The label's first 16 places as keys.
@@ -151,11 +141,9 @@ fn front_keys(label: Label, keys: &mut [u32])
     requires { length keys.old ≡ 16 }
     ensures { (key_runs keys.new ≡ take 16 label.runs) × (length keys.new ≡ 16) }
 {
-    let mut i: usize = 0;
-    while i < FEW_RUNS {
+    for i in 0..FEW_RUNS {
         let run = label.runs[i];
         keys[i] = run_key(run);
-        i += 1;
     }
 }
 
@@ -164,11 +152,8 @@ fn unused_after_few(label: Label) -> bool
     ensures { result ≡ unused (drop 16 label.runs) }
 {
     let mut rest: u32 = 0;
-    let mut i: usize = FEW_RUNS;
-    while i < Label::MAX_RUNS {
-        let run = label.runs[i];
-        rest = rest | word(run);
-        i += 1;
+    for run in &label.runs[FEW_RUNS..] {
+        rest |= word(*run);
     }
     rest == 0
 }
@@ -180,19 +165,15 @@ fn few_formed(keys: &[u32], n: usize) -> bool
 {
     let mut good = true;
     let mut floor: u32 = 0;
-    let mut i: usize = 0;
-    while i < n {
-        let key = keys[i];
-        let low = key / Run::KEY_FACTOR;
-        let high = key % Run::KEY_FACTOR;
+    for key in &keys[..n] {
+        let low = *key / Run::KEY_FACTOR;
+        let high = *key % Run::KEY_FACTOR;
         good = good & (floor <= low) & (low <= high);
         floor = high + 2;
-        i += 1;
     }
     let mut rest: u32 = 0;
-    while i < FEW_RUNS {
-        rest = rest | keys[i];
-        i += 1;
+    for key in &keys[n..] {
+        rest |= *key;
     }
     good & (floor <= Label::PAST_LAST) & (rest == 0)
 }
@@ -205,21 +186,17 @@ fn runs_formed(label: Label, keys: &mut [u32]) -> bool
     let n = label.count;
     let mut good = true;
     let mut floor: u32 = 0;
-    let mut i: usize = 0;
-    while i < n {
+    for i in 0..n {
         let run = label.runs[i];
         let low = run.low as u32;
         let high = run.high as u32;
         good = good & (floor <= low) & (low <= high);
         floor = high + 2;
         keys[i] = run_key(run);
-        i += 1;
     }
     let mut rest: u32 = 0;
-    while i < Label::MAX_RUNS {
-        let run = label.runs[i];
-        rest = rest | word(run);
-        i += 1;
+    for run in &label.runs[n..] {
+        rest |= word(*run);
     }
     good & (floor <= Label::PAST_LAST) & (rest == 0)
 }

@@ -11,7 +11,6 @@ ghost use Rattle.option_write.specs.Keys.{keys_count, keys_written, keys_laid};
 ghost use Rattle.option_write.specs.Stages.{Written, head_of};
 
 use label::Run;
-use lists::zero_all;
 use option::{
     ALIGNMENT_AT, BITMAP, CATEGORIES_AT, DOMAIN_AT, LENGTH_AT, LEVEL_AT, NUMBERS, OPTION_OCTETS,
     OPTION_TYPE, Spellings, TAG_LENGTH_AT, TAG_TYPE_AT,
@@ -59,7 +58,7 @@ pub fn spell_keys(
         return 0;
     }
     // a fixed number of octets, and before the categories: what they leave stays zero
-    zero_all(&mut out[CATEGORIES_AT..OPTION_OCTETS]);
+    out[CATEGORIES_AT..OPTION_OCTETS].fill(0);
     write_option(keys, tag, form.size, domain, level, out)
 }
 
@@ -94,35 +93,20 @@ fn write_numbers(keys: &[u32], out: &mut [u8])
     requires { 2 * count_of (key_runs keys.now) ≤ length out.old }
     ensures { out.new ≡ octets_out (numbers_of (key_runs keys.now)) ++ drop (2 * count_of (key_runs keys.now)) out.old }
 {
-    let m = keys.len();
-    let mut i: usize = 0;
-    let mut j: usize = 0;
     let mut k: usize = 0;
-    while i < m {
-        let key = keys[i];
-        let x = ((key / Run::KEY_FACTOR) as usize) + j;
-        let high = (key % Run::KEY_FACTOR) as usize;
-        if high < x {
-            i += 1;
-            j = 0;
-        } else {
-            out[2 * k] = (x / 256) as u8;
-            out[2 * k + 1] = (x % 256) as u8;
+    for key in keys {
+        let low = *key / Run::KEY_FACTOR;
+        let high = *key % Run::KEY_FACTOR;
+        for x in low..high + 1 {
+            put_number(k, x, &mut out[..]);
             k += 1;
-            // a run's last category: the next turn has the next run
-            if high == x {
-                i += 1;
-                j = 0;
-            } else {
-                j += 1;
-            }
         }
     }
 }
 
 // Number k, in two octets.
 fn put_number(k: usize, x: u32, out: &mut [u8])
-    requires { (2 * k + 1 < length out.old) × (k ≤ 15) × (x < 65536) }
+    requires { (2 * k + 1 < length out.old) × (x < 65536) }
     ensures { (out.new ≡ set (set out.old (2 * k) (x / 256)) (2 * k + 1) (x % 256)) × (length out.new ≡ length out.old) }
 {
     out[2 * k] = (x / 256) as u8;
@@ -136,21 +120,20 @@ fn write_pairs(keys: &[u32], m: usize, out: &mut [u8])
 {
     let n = keys.len();
     let pairs = m / 2;
-    let mut j: usize = 0;
-    while j < pairs {
+    for j in 0..pairs {
         let at = n - 1 - j;
         let key = keys[at];
         put_number(2 * j, key % Run::KEY_FACTOR, &mut out[..]);
         put_number(2 * j + 1, key / Run::KEY_FACTOR, &mut out[..]);
-        j += 1;
     }
-    if 2 * j < m {
-        let at = n - 1 - j;
-        put_number(2 * j, keys[at] % Run::KEY_FACTOR, &mut out[..]);
+    if 2 * pairs < m {
+        let at = n - 1 - pairs;
+        put_number(2 * pairs, keys[at] % Run::KEY_FACTOR, &mut out[..]);
     }
 }
 
 // The ten octets before the categories.
+#[tactic(auto, using(crate::proofs::Writing::head_set))]
 fn write_head(domain: u32, level: u8, tag: u8, size: usize, out: &mut [u8])
     requires { (10 ≤ length out.old) × (size ≤ 30) }
     ensures { out.new ≡ head_of domain level tag size ++ drop 10 out.old }

@@ -8,18 +8,14 @@ ghost use Rattle.option.specs.Spelling.{octets_of};
 ghost use Rattle.option_write_bitmap.specs.Stages.{RunAdded};
 
 use label::Run;
-use lists::zero_all;
 
 // Writes the bitmap of the keys' runs over the whole output; what lies past its end is left out. The runs may come in any order and overlap.
 pub fn write_bitmap(keys: &[u32], out: &mut [u8])
     ensures { out.new ≡ octets_of (covers (key_runs keys.now)) (length out.old) }
 {
-    zero_all(&mut out[..]);
-    let m = keys.len();
-    let mut i: usize = 0;
-    while i < m {
-        add_run(keys[i], &mut out[..]);
-        i += 1;
+    out.fill(0);
+    for key in keys {
+        add_run(*key, &mut out[..]);
     }
 }
 
@@ -66,8 +62,7 @@ fn add_long(low: usize, high: usize, out: &mut [u8])
     let n = out.len();
     let last = high / 8;
     let mut ones = ones_from(low % 8);
-    let mut o = low / 8;
-    while o < n {
+    for o in low / 8..n {
         if o == last {
             let after: u8 = 127 >> (high % 8);
             out[o] = out[o] | (ones - after);
@@ -75,6 +70,5 @@ fn add_long(low: usize, high: usize, out: &mut [u8])
         }
         out[o] = out[o] | ones;
         ones = 255;
-        o += 1;
     }
 }

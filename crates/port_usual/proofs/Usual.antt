@@ -133,12 +133,12 @@ flags_step xs ys s i h k =
     told true true x true y = refl
 
 -- two labels, and the settings of two ways
-pub labels_zero : (x y : Label) (rest : ℕ) → (unused x.runs && unused y.runs) ≡ eqb rest 0
-    → ((eqb (bit_or (bit_or (bit_or x.domain x.level) y.domain) y.level) 0 && eqb (bit_or x.count y.count) 0) && eqb rest 0)
+pub labels_zero : (x y : Label)
+    → ((eqb (bit_or (bit_or (bit_or x.domain x.level) y.domain) y.level) 0 && eqb (bit_or x.count y.count) 0) && (unused x.runs && unused y.runs))
     ≡ (is_zero x && is_zero y)
 unfolding is_zero
-labels_zero x y rest e =
-    rw (sym e, or_zero (bit_or (bit_or x.domain x.level) y.domain) y.level, or_zero (bit_or x.domain x.level) y.domain, or_zero x.domain x.level, or_zero x.count y.count)
+labels_zero x y =
+    rw (or_zero (bit_or (bit_or x.domain x.level) y.domain) y.level, or_zero (bit_or x.domain x.level) y.domain, or_zero x.domain x.level, or_zero x.count y.count)
     (both_zero (eqb x.domain 0) (eqb x.level 0) (eqb x.count 0) (unused x.runs) (eqb y.domain 0) (eqb y.level 0) (eqb y.count 0) (unused y.runs))
 
 pub ways_zero : (x y : Way) (rest : ℕ) → (no_flags x.flags && no_flags y.flags) ≡ eqb rest 0

@@ -10,7 +10,7 @@ ghost use Rattle.port_usual.specs.Usual.{looks_usual, usual_port};
 ghost use Rattle.port_usual.specs.Stages.{range_usual};
 
 use basic::{MAX_FIELDS, Way};
-use label::{Label, one_formed, word};
+use label::{Label, Run, one_formed, word};
 use option::Spellings;
 use port::Port;
 
@@ -30,56 +30,45 @@ pub fn looks_usual(port: Port) -> bool
 pub fn is_usual(port: Port) -> bool
     ensures { result ≡ usual_port port }
 {
-    let formed = range_usual(port.lowest, port.highest, port.domain);
-    let zero = labels_zero(port.assigned, port.default);
+    let formed = range_usual(&port.lowest, &port.highest, port.domain);
+    let zero = labels_zero(&port.assigned, &port.default);
     let off = ways_zero(port.basic.receiving, port.basic.sending);
     let some = some_of(port.spellings);
     formed & zero & off & port.required & !port.unlabelled & !port.strict & !port.basic.on & some
 }
 
 // Whether two labels are a sound range of the domain, which is not 0, from no categories to those of at most one run.
-fn range_usual(lowest: Label, highest: Label, domain: u32) -> bool
-    ensures { result ≡ range_usual lowest highest domain }
+fn range_usual(lowest: &Label, highest: &Label, domain: u32) -> bool
+    ensures { result ≡ range_usual lowest.now highest.now domain }
 {
     let none = lowest.runs[0];
     let run = highest.runs[0];
-    let rest = labels_unused(lowest, highest);
+    let rest = runs_unused::<1>(&lowest.runs, &highest.runs);
     let owned = (domain != 0) & ((lowest.domain == domain) & (highest.domain == domain));
     let low = (lowest.count == 0) & (word(none) == 0);
     let high = one_formed(highest.count, run.low, run.high);
     rest & owned & (lowest.level <= highest.level) & low & high
 }
 
-// Whether every place but the first is zero in both labels.
-fn labels_unused(x: Label, y: Label) -> bool
-    ensures { result ≡ (unused (drop 1 x.runs) && unused (drop 1 y.runs)) }
+// Whether every place from the first that is looked at is zero in both lists.
+fn runs_unused<const FIRST: usize>(x: &[Run; Label::MAX_RUNS], y: &[Run; Label::MAX_RUNS]) -> bool
+    ensures { result ≡ (unused (drop FIRST x.now) && unused (drop FIRST y.now)) }
 {
     let mut rest: u32 = 0;
-    let mut i: usize = 1;
-    while i < Label::MAX_RUNS {
-        let a = x.runs[i];
-        let b = y.runs[i];
-        rest = rest | word(a) | word(b);
-        i += 1;
+    for i in FIRST..Label::MAX_RUNS {
+        rest = rest | word(x[i]) | word(y[i]);
     }
     rest == 0
 }
 
 // Whether both labels are all zero.
-fn labels_zero(x: Label, y: Label) -> bool
-    ensures { result ≡ (is_zero x && is_zero y) }
+fn labels_zero(x: &Label, y: &Label) -> bool
+    ensures { result ≡ (is_zero x.now && is_zero y.now) }
 {
-    let mut rest: u32 = 0;
-    let mut i: usize = 0;
-    while i < Label::MAX_RUNS {
-        let a = x.runs[i];
-        let b = y.runs[i];
-        rest = rest | word(a) | word(b);
-        i += 1;
-    }
+    let rest = runs_unused::<0>(&x.runs, &y.runs);
     let heads = x.domain | x.level as u32 | y.domain | y.level as u32;
     let counts = x.count | y.count;
-    (heads == 0) & (counts == 0) & (rest == 0)
+    (heads == 0) & (counts == 0) & rest
 }
 
 // Whether nothing is set either way.
@@ -87,10 +76,8 @@ fn ways_zero(receiving: Way, sending: Way) -> bool
     ensures { result ≡ (way_zero receiving && way_zero sending) }
 {
     let mut any: u16 = 0;
-    let mut i: usize = 0;
-    while i < MAX_FIELDS {
+    for i in 0..MAX_FIELDS {
         any = any | receiving.flags[i] | sending.flags[i];
-        i += 1;
     }
     let levels = receiving.lowest | receiving.highest | sending.lowest | sending.highest;
     let counts = receiving.count | sending.count;

@@ -1,77 +1,88 @@
 -- Laws of the answers: each by the checks that led to it.
+use Rattle.std.specs.Prelude.{None, Some, Ok, Err}
+use Rattle.std.specs.Result.{is_err}
 use mathlib.Core.Path.{◌≡◌, refl, sym, ◌∙◌, ap}
-use mathlib.Core.Bool.{Bool, true, false, cond, and-false}
+use mathlib.Core.Bool.{Bool, true, false, cond, and-false, true≢false}
 use mathlib.Core.List.{List}
-use Prim.Native.Nat.{ℕ, ◌+◌, ◌≤◌, ◌<◌}
+use Prim.Native.Nat.{ℕ, ◌+◌, ◌≤◌}
 use native.Mathlib.Omega.{arith}
 use lib.ListN.{length, take, length-map}
-use lib.Seq.{length-take-le}
-use borrow.Author.Tests.{le-leb, lt-leb, eq-eqb, ne_eqb}
+use lib.Seq.{take_all}
+use borrow.Author.Tests.{le-leb, eq-eqb, ne_eqb}
 use Rattle.label.specs.declared.Run.{Run}
 use Rattle.label.specs.declared.Label.{Label}
 use Rattle.label.specs.Label.{used, well_formed}
 use Rattle.label_keys.specs.Keys.{key_runs, label_from}
 use Rattle.label_keys.specs.Range.{set_in_range}
-use Rattle.table_levels.specs.declared.Partner.{Partner}
-use Rattle.table_levels.specs.declared.Partner.TheVariants.{Level, Missing}
 use Rattle.table.specs.Table.{Lent, used_rows, table_sound}
-use Rattle.table_levels.specs.Levels.{partner_of}
+use Rattle.table_levels.specs.Levels.{Partner, partner_of}
 use Rattle.table.specs.Numbers.{numbered}
+use Rattle.table.proofs.Sound.{sound}
 use Rattle.renumber_keys.specs.declared.Carried.{Carried}
-use Rattle.renumber_keys.specs.Carry.{image_of, label_runs, carried_to, carried_keys, carry_of}
+use Rattle.renumber_keys.specs.declared.CarryError.{CarryError}
+use Rattle.renumber_keys.specs.declared.CarryError.TheVariants as carrying
+use Rattle.renumber_keys.specs.Carry.{CarryAnswer, image_of, label_runs, carried_to, carried_keys, carry_of}
 use Rattle.renumber_keys.proofs.Carrying.{carry_checked, carry_unsound, carried_runs, image_spaced, image_few}
-use Rattle.renumber.specs.declared.Renumbered.{Renumbered}
-use Rattle.renumber.specs.Renumber.{not_renumbered, fitted, image_runs, when_numbered, renumbered_of, carried_of}
+use Rattle.renumber.specs.declared.RenumberError.TheVariants.{Unsound, NoNumber, TooMany}
+use Rattle.renumber.specs.Renumber.{Renumbered, error_of, fit_of, fitted, image_runs, when_numbered, renumbered_of, carried_of}
 use Rattle.renumber.specs.Stages.{runs_renumbered}
 
-image_length : (n : ℕ) (ks : List ℕ) (xs : List Run) → key_runs (take n ks) ≡ xs → n ≤ length ks → length xs ≡ n
-image_length n ks xs e h = ap length (sym e) ∙ rw length-map (length-take-le n ks h)
+-- an answer is a value or a refusal
+no_error : {e : CarryError} {c : Carried} → ◌≡◌ {A = CarryAnswer} (Err e) (Ok c) → ⊥
+no_error k = true≢false (ap is_err k)
 
-module _ (d v n : ℕ) (ks : List ℕ) (h : n ≤ length ks) where
-  pub fitted_many : 120 < n → not_renumbered 18 ≡ fitted d v (key_runs (take n ks))
-  fitted_many m = let z = image_length n ks (key_runs (take n ks)) refl h in simp (lt-leb (length (key_runs (take n ks))) 120 (omega arith))
+ok_same : {c d : Carried} → ◌≡◌ {A = CarryAnswer} (Ok c) (Ok d) → c ≡ d
+ok_same k = cc
 
-  pub fitted_done : n ≤ 120 → ◌≡◌ {A = Renumbered} (record { number = 0; label = label_from d v (key_runs (take n ks)) }) (fitted d v (key_runs (take n ks)))
-  unfolding label_from
-  fitted_done m = let z = image_length n ks (key_runs (take n ks)) refl h in simp (le-leb (length (key_runs (take n ks))) 120 (omega arith))
+-- a refusal of carrying, as renumbering says it
+abbrev refused : CarryAnswer → Renumbered
+refused (Ok c) = Err Unsound
+refused (Err e) = Err (error_of e)
+
+pub fit_done : (d v : ℕ) (ks : List ℕ) (l : Label) → length ks ≤ 120 → l ≡ label_from d v (key_runs (take (length ks) ks)) → Some l ≡ fit_of d v (key_runs ks)
+unfolding label_from
+fit_done d v ks l h e =
+    let all : take (length ks) ks ≡ ks = take_all (length ks) ks (omega arith) in
+    let k = rw all at e in
+    rw k (simp (length-map, le-leb (length ks) 120 h))
 
 -- What was carried, and what was not.
-module _ (image : List Run) (c : Carried) where
-  missed : (p : Partner) (all : Bool) → c ≡ carried_to p all image → (f : ℕ → Renumbered) → (c.number ≡ 0 → ⊥) → not_renumbered c.number ≡ when_numbered p all f
+module _ (image : List Run) (f : ℕ → Renumbered) where
+  missed : (e : CarryError) (p : Partner) (all : Bool) → Err e ≡ carried_to p all image → Err (error_of e) ≡ when_numbered NoNumber p all f
   unfolding carried_to
-  missed Missing all k f h = ap (λ (z : Carried). not_renumbered z.number) k
-  missed (Level v) true k f h = absurd (h (ap (λ (z : Carried). z.number) k))
-  missed (Level v) false k f h = ap (λ (z : Carried). not_renumbered z.number) k
+  missed e None all k = ap (λ (z : CarryAnswer). refused z) k
+  missed e (Some v) true k = absurd (no_error k)
+  missed e (Some v) false k = ap (λ (z : CarryAnswer). refused z) k
 
-  found : (p : Partner) (all : Bool) → c ≡ carried_to p all image → (f : ℕ → Renumbered) → c.number ≡ 0 → f c.level ≡ when_numbered p all f
+  found : (c : Carried) (p : Partner) (all : Bool) → Ok c ≡ carried_to p all image → f c.level ≡ when_numbered NoNumber p all f
   unfolding carried_to
-  found Missing all k f h = let z : c.number ≡ 16 = ap (λ (z : Carried). z.number) k in absurd (omega arith)
-  found (Level v) true k f h = ap (λ (z : Carried). f z.level) k
-  found (Level v) false k f h = let z : c.number ≡ 16 = ap (λ (z : Carried). z.number) k in absurd (omega arith)
+  found c None all k = absurd (no_error (sym k))
+  found c (Some v) true k = ap (λ (z : Carried). f z.level) (ok_same k)
+  found c (Some v) false k = absurd (no_error (sym k))
 
-  found_count : (p : Partner) (all : Bool) → c ≡ carried_to p all image → c.number ≡ 0 → c.count ≡ length image
-  unfolding carried_to
-  found_count Missing all k h = let z : c.number ≡ 16 = ap (λ (z : Carried). z.number) k in absurd (omega arith)
-  found_count (Level v) true k h = ap (λ (z : Carried). z.count) k
-  found_count (Level v) false k h = let z : c.number ≡ 16 = ap (λ (z : Carried). z.number) k in absurd (omega arith)
+found_count : (image : List Run) (c : Carried) (p : Partner) (all : Bool) → Ok c ≡ carried_to p all image → c.count ≡ length image
+unfolding carried_to
+found_count image c None all k = absurd (no_error (sym k))
+found_count image c (Some v) true k = ap (λ (z : Carried). z.count) (ok_same k)
+found_count image c (Some v) false k = absurd (no_error (sym k))
 
 module _ (l : Label) (t : Lent) (ls : List (List ℕ)) where
-  pub renumbered_unsound : table_sound t ls ≡ false → not_renumbered 2 ≡ renumbered_of l t ls
+  pub renumbered_unsound : table_sound t ls ≡ false → Err Unsound ≡ renumbered_of l t ls
   unfolding renumbered_of
   renumbered_unsound s = simp s
 
-  pub renumbered_ill : well_formed l ≡ false → not_renumbered 2 ≡ renumbered_of l t ls
+  pub renumbered_ill : well_formed l ≡ false → Err Unsound ≡ renumbered_of l t ls
   unfolding renumbered_of
   renumbered_ill w = simp (w, and-false)
 
   module _ (s : table_sound t ls ≡ true) (w : well_formed l ≡ true) where
-    pub renumbered_foreign : (l.domain ≡ t.from → ⊥) → not_renumbered 16 ≡ renumbered_of l t ls
+    pub renumbered_foreign : (l.domain ≡ t.from → ⊥) → Err NoNumber ≡ renumbered_of l t ls
     unfolding renumbered_of
     renumbered_foreign d = simp (s, w, ne_eqb _ _ d)
 
     -- The answers, where the runs were carried.
     module _ (d : l.domain ≡ t.from) where
-      pub renumbered_fitted : (v : ℕ) → partner_of (take t.pairs ls) l.level ≡ Level v → numbered (used_rows t) (used l) ≡ true → fitted t.to v (image_runs l t) ≡ renumbered_of l t ls
+      pub renumbered_fitted : (v : ℕ) → partner_of (take t.pairs ls) l.level ≡ Some v → numbered (used_rows t) (used l) ≡ true → fitted TooMany t.to v (image_runs l t) ≡ renumbered_of l t ls
       unfolding renumbered_of
       renumbered_fitted v p n = simp (s, w, eq-eqb _ _ d, p, n)
 
@@ -91,56 +102,65 @@ module _ (l : Label) (t : Lent) (ls : List (List ℕ)) where
       go false s = runs_unsound rs w d q s
 
   -- Toward a range.
-  module _ (lowest highest : Label) (v : ℕ) (p : partner_of (take t.pairs ls) l.level ≡ Level v) where
-    pub carried_outside : numbered (used_rows t) (used l) ≡ true → set_in_range lowest highest v (image_runs l t) ≡ false → not_renumbered 17 ≡ carried_of l t ls lowest highest
+  module _ (lowest highest : Label) (v : ℕ) (p : partner_of (take t.pairs ls) l.level ≡ Some v) where
+    pub carried_outside : numbered (used_rows t) (used l) ≡ true → set_in_range lowest highest v (image_runs l t) ≡ false → Err 17 ≡ carried_of l t ls lowest highest
     unfolding carried_of
     carried_outside n r = simp (p, n, r)
 
-    pub carried_fitted : numbered (used_rows t) (used l) ≡ true → set_in_range lowest highest v (image_runs l t) ≡ true → fitted t.to v (image_runs l t) ≡ carried_of l t ls lowest highest
+    pub carried_fitted : numbered (used_rows t) (used l) ≡ true → set_in_range lowest highest v (image_runs l t) ≡ true → fitted 18 t.to v (image_runs l t) ≡ carried_of l t ls lowest highest
     unfolding carried_of
     carried_fitted n r = simp (p, n, r)
 
--- The answers of carrying a label's runs.
-module _ (rs : List Run) (v : ℕ) (t : Lent) (ls : List (List ℕ)) (f : label_runs rs ≡ true) (room : ℕ) (long : table_sound t ls ≡ true → 120 + t.count ≤ room) (c : Carried)
-    (k : c ≡ carry_of rs v t ls room) where
-  here : table_sound t ls ≡ true → c ≡ carried_to (partner_of (take t.pairs ls) v) (numbered (used_rows t) rs) (image_of t rs)
-  here s = k ∙ carry_checked rs v t ls room s f (long s)
+-- The answers of carrying all the keys of a label's runs.
+module _ (own : List ℕ) (v : ℕ) (t : Lent) (ls : List (List ℕ)) (f : label_runs (key_runs own) ≡ true) (room : ℕ) (long : t.count ≤ 1024 → 120 + t.count ≤ room) where
+  all : take (length own) own ≡ own
+  all = take_all (length own) own (omega arith)
 
-  unsound : table_sound t ls ≡ false → c.number ≡ 2
-  unsound s = ap (λ (z : Carried). z.number) (k ∙ carry_unsound rs v t ls room s)
+  of_all : {r : CarryAnswer} → r ≡ carry_of (key_runs (take (length own) own)) v t ls room → r ≡ carry_of (key_runs own) v t ls room
+  of_all k = rw all at k
 
-  pub runs_missed : (c.number ≡ 0 → ⊥) → not_renumbered c.number ≡ runs_renumbered rs v t ls
+  here : {r : CarryAnswer} → r ≡ carry_of (key_runs (take (length own) own)) v t ls room → table_sound t ls ≡ true → r ≡ carried_to (partner_of (take t.pairs ls) v) (numbered (used_rows t) (key_runs own)) (image_of t (key_runs own))
+  here k s = of_all k ∙ carry_checked (key_runs own) v t ls room s f (long (sound t ls s).rows_held)
+
+  unsound : {r : CarryAnswer} → r ≡ carry_of (key_runs (take (length own) own)) v t ls room → table_sound t ls ≡ false → r ≡ Err carrying.Unsound
+  unsound k s = of_all k ∙ carry_unsound (key_runs own) v t ls room s
+
+  abbrev fits : ℕ → Renumbered
+  fits w = fitted TooMany t.to w (image_of t (key_runs own))
+
+  pub runs_missed : (e : CarryError) → Err e ≡ carry_of (key_runs (take (length own) own)) v t ls room → Err (error_of e) ≡ runs_renumbered (key_runs own) v t ls
   unfolding runs_renumbered
-  runs_missed h = go (table_sound t ls) refl
+  runs_missed e k = go (table_sound t ls) refl
     where
-      go : (b : Bool) → table_sound t ls ≡ b → not_renumbered c.number ≡ cond b (when_numbered (partner_of (take t.pairs ls) v) (numbered (used_rows t) rs) (λ w. fitted t.to w (image_of t rs))) (not_renumbered 2)
-      go true s = missed (image_of t rs) c _ _ (here s) (λ w. fitted t.to w (image_of t rs)) h
-      go false s = ap not_renumbered (unsound s)
+      go : (b : Bool) → table_sound t ls ≡ b → Err (error_of e) ≡ cond b (when_numbered NoNumber (partner_of (take t.pairs ls) v) (numbered (used_rows t) (key_runs own)) fits) (Err Unsound)
+      go true s = missed (image_of t (key_runs own)) fits e _ _ (here k s)
+      go false s = ap (λ (z : CarryAnswer). refused z) (unsound k s)
 
-  -- nothing is carried by an unsound table
-  pub carried_sound : c.number ≡ 0 → table_sound t ls ≡ true
-  carried_sound h = go (table_sound t ls) refl
-    where
-      go : (b : Bool) → table_sound t ls ≡ b → table_sound t ls ≡ true
-      go true s = s
-      go false s = let z : c.number ≡ 2 = unsound s in absurd (omega arith)
+  module _ (c : Carried) (k : Ok c ≡ carry_of (key_runs (take (length own) own)) v t ls room) where
+    -- nothing is carried by an unsound table
+    pub carried_sound : table_sound t ls ≡ true
+    carried_sound = go (table_sound t ls) refl
+      where
+        go : (b : Bool) → table_sound t ls ≡ b → table_sound t ls ≡ true
+        go true s = s
+        go false s = absurd (no_error (sym (unsound k s)))
 
-  pub runs_found : c.number ≡ 0 → fitted t.to c.level (image_of t rs) ≡ runs_renumbered rs v t ls
-  unfolding runs_renumbered
-  runs_found h =
-      let s = carried_sound h in
-      found (image_of t rs) c _ _ (here s) (λ w. fitted t.to w (image_of t rs)) h ∙ sym (rw s)
+    pub runs_found : fitted TooMany t.to c.level (image_of t (key_runs own)) ≡ runs_renumbered (key_runs own) v t ls
+    unfolding runs_renumbered
+    runs_found =
+        let s = carried_sound in
+        found (image_of t (key_runs own)) fits c _ _ (here k s) ∙ sym (rw s)
 
-  -- as many runs are written as the image has
-  pub found_length : c.number ≡ 0 → (c.count ≡ length (image_of t rs)) × (c.count ≤ room)
-  found_length h =
-      let s = carried_sound h in
-      let n = found_count (image_of t rs) c _ _ (here s) h in
-      (n, omega (arith, n, image_few t ls rs s f, long s))
+    -- as many runs are written as the image has
+    pub found_length : (c.count ≡ length (image_of t (key_runs own))) × (c.count ≤ room)
+    found_length =
+        let s = carried_sound in
+        let n = found_count (image_of t (key_runs own)) c _ _ (here k s) in
+        (n, omega (arith, n, image_few t ls (key_runs own) s f, long (sound t ls s).rows_held))
 
-  -- and these are its keys
-  pub found_keys : (far ks : List ℕ) → ks ≡ carried_keys c (image_of t rs) far → c.number ≡ 0 → key_runs (take c.count ks) ≡ image_of t rs
-  found_keys far ks e h =
-      ap (λ (z : ℕ). key_runs (take z ks)) (found_length h).0
-      ∙ ap (λ (z : List ℕ). key_runs (take (length (image_of t rs)) z)) e
-      ∙ carried_runs c (image_of t rs) far h (image_spaced t rs)
+    -- and these are its keys
+    pub found_keys : (r : CarryAnswer) → r ≡ Ok c → (far ks : List ℕ) → ks ≡ carried_keys r (image_of t (key_runs (take (length own) own))) far → key_runs (take c.count ks) ≡ image_of t (key_runs own)
+    found_keys r i far ks e =
+        ap (λ (z : ℕ). key_runs (take z ks)) found_length.0
+        ∙ ap (λ (z : List ℕ). key_runs (take (length (image_of t (key_runs own))) z)) (rw all at e)
+        ∙ carried_runs (image_of t (key_runs own)) far r c i (image_spaced t (key_runs own))

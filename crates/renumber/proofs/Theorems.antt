@@ -1,6 +1,6 @@
 -- The theorems of `specs/Theorems.antt`.
 use mathlib.Core.Path.{◌≡◌, refl, sym, ◌∙◌, ap}
-use mathlib.Core.Bool.{Bool, true, false, cond, ◌&&◌, ◌||◌}
+use mathlib.Core.Bool.{Bool, true, false, cond, ◌&&◌, ◌||◌, true≢false}
 use mathlib.Core.List.{List}
 use mathlib.Core.Logic.{⊎_elim}
 use Prim.Native.Nat.{ℕ, ◌≤◌, max}
@@ -8,6 +8,9 @@ use native.Mathlib.Omega.{arith}
 use lib.Dec.{leb, ltb, eqb}
 use lib.ListN.{length, take}
 use borrow.Author.Tests.{leb-true, le-leb, eqb-true, eq-eqb, lt-ltb}
+use Rattle.std.specs.Prelude.{None, Some, Result, Ok, Err}
+use Rattle.std.specs.Option.{ok_or}
+use Rattle.std.specs.Result.{is_err}
 use Rattle.label.specs.declared.Run.{Run}
 use Rattle.label.specs.declared.Label.{Label}
 use Rattle.label.specs.Runs.{covers, subset}
@@ -16,16 +19,14 @@ use Rattle.label_keys.specs.Range.{set_in_range}
 use Rattle.label.proofs.Bools.{and_right, or_cases, or_true_right, same_yes, less_or}
 use Rattle.label.proofs.Labels.{formed, well_formed_lem, formed_of, used_of, used_length, of_used, member_is, leq_says, leq_said, leq_at_most}
 use Rattle.label.proofs.Theorems as label_theorems
-use Rattle.table_levels.specs.declared.Partner.{Partner}
-use Rattle.table_levels.specs.declared.Partner.TheVariants.{Level, Missing}
 use Rattle.table.specs.Table.{Lent, used_rows, table_sound}
-use Rattle.table_levels.specs.Levels.{partner_of}
+use Rattle.table_levels.specs.Levels.{Partner, partner_of}
 use Rattle.table.specs.Numbers.{sends, numbered, in_image}
 use Rattle.table.proofs.Sound.{sound, Rows, sound_rows}
 use Rattle.table.proofs.Numbers.{one_category, one_number, has_number_lem, number_has}
 use Rattle.table_levels.proofs.Partners.{partners_order, partner_level, Ordered}
-use Rattle.renumber.specs.declared.Renumbered.{Renumbered}
-use Rattle.renumber.specs.Renumber.{not_renumbered, renumbered_as, image_runs, fitted, when_numbered, renumbered_of, carried_of}
+use Rattle.renumber.specs.declared.RenumberError.TheVariants.{Unsound, NoNumber, TooMany}
+use Rattle.renumber.specs.Renumber.{Renumbered, renumbered_as, image_runs, fitted, when_numbered, renumbered_of, carried_of}
 use Rattle.renumber.specs.Theorems.{Far, Renumbering, Agrees, Carried, Carrying, KeepsOrder, KeepsJoins}
 use Rattle.renumber_keys.proofs.Sets.{set_covers, set_spaced, the_runs}
 use Rattle.renumber_keys.proofs.Pass.{numbered_yes, numbered_all, image_hits, sends_hits, hits_sends}
@@ -36,50 +37,56 @@ pub record Led (l : Label) (t : Lent) (ls : List (List ℕ)) (m : Label) : Type 
   pub sound : table_sound t ls ≡ true
   pub formed : well_formed l ≡ true
   pub domain : l.domain ≡ t.from
-  pub level : partner_of (take t.pairs ls) l.level ≡ Level m.level
+  pub level : partner_of (take t.pairs ls) l.level ≡ Some m.level
   pub whole : numbered (used_rows t) (used l) ≡ true
   pub fits : length (image_runs l t) ≤ 120
   pub label : m ≡ label_of t.to m.level (image_runs l t)
 
-not_done : (n : ℕ) (m : Label) → (n ≡ 0 → ⊥) → not_renumbered n ≡ renumbered_as m → ⊥
-not_done n m h e = h (ap (λ (r : Renumbered). r.number) e)
+not_done : {E : Type 0} {e : E} {m : Label} → ◌≡◌ {A = Result Label E} (Err e) (Ok m) → ⊥
+not_done k = true≢false (ap is_err k)
 
-fitted_led : (d v : ℕ) (rs : List Run) (m : Label) → fitted d v rs ≡ renumbered_as m → (length rs ≤ 120) × (m ≡ label_of d v rs)
-fitted_led d v rs m e = go (leb (length rs) 120) refl e
+done_same : {E : Type 0} {l m : Label} → ◌≡◌ {A = Result Label E} (Ok l) (Ok m) → l ≡ m
+done_same k = cc
+
+fitted_led : {E : Type 0} (e : E) (d v : ℕ) (rs : List Run) (m : Label) → fitted e d v rs ≡ renumbered_as m → (length rs ≤ 120) × (m ≡ label_of d v rs)
+fitted_led {E} e d v rs m h = go (leb (length rs) 120) refl h
   where
-    go : (b : Bool) → leb (length rs) 120 ≡ b → cond b (renumbered_as (label_of d v rs)) (not_renumbered 18) ≡ renumbered_as m → (length rs ≤ 120) × (m ≡ label_of d v rs)
-    go true q k = (leb-true _ _ q, sym (ap (λ (r : Renumbered). r.label) k))
-    go false q k = absurd (not_done 18 m (λ z. omega arith) k)
+    go : (b : Bool) → leb (length rs) 120 ≡ b → ◌≡◌ {A = Result Label E} (ok_or (cond b (Some (label_of d v rs)) None) e) (Ok m) → (length rs ≤ 120) × (m ≡ label_of d v rs)
+    go true q k = (leb-true _ _ q, sym (done_same k))
+    go false q k = absurd (not_done k)
 
-when_led : (p : Partner) (b : Bool) (f : ℕ → Renumbered) (m : Label) → when_numbered p b f ≡ renumbered_as m → (v : ℕ) × (p ≡ Level v) × (b ≡ true) × (f v ≡ renumbered_as m)
-when_led Missing b f m e = absurd (not_done 16 m (λ z. omega arith) e)
-when_led (Level v) true f m e = (v, refl, refl, e)
-when_led (Level v) false f m e = absurd (not_done 16 m (λ z. omega arith) e)
+pub fitted_is : {E : Type 0} (e : E) (d v : ℕ) (rs : List Run) (m : Label) → length rs ≤ 120 → m ≡ label_of d v rs → fitted e d v rs ≡ renumbered_as m
+fitted_is {E} e d v rs m n q = ap (λ (b : Bool). ok_or (cond b (Some (label_of d v rs)) None) e) (le-leb (length rs) 120 n) ∙ ap Ok (sym q)
+
+when_led : {E : Type 0} (e : E) (p : Partner) (b : Bool) (f : ℕ → Result Label E) (m : Label) → when_numbered e p b f ≡ renumbered_as m → (v : ℕ) × (p ≡ Some v) × (b ≡ true) × (f v ≡ renumbered_as m)
+when_led e None b f m k = absurd (not_done k)
+when_led e (Some v) true f m k = (v, refl, refl, k)
+when_led e (Some v) false f m k = absurd (not_done k)
 
 pub led : (l : Label) (t : Lent) (ls : List (List ℕ)) (m : Label) → renumbered_of l t ls ≡ renumbered_as m → Led l t ls m
 unfolding renumbered_of
 led l t ls m e = go (table_sound t ls) (well_formed l) (eqb l.domain t.from) refl refl refl e
   where
     rest : Renumbered
-    rest = when_numbered (partner_of (take t.pairs ls) l.level) (numbered (used_rows t) (used l)) (λ v. fitted t.to v (image_runs l t))
+    rest = when_numbered NoNumber (partner_of (take t.pairs ls) l.level) (numbered (used_rows t) (used l)) (λ v. fitted TooMany t.to v (image_runs l t))
 
-    go : (a b c : Bool) → table_sound t ls ≡ a → well_formed l ≡ b → eqb l.domain t.from ≡ c → cond (a && b) (cond c rest (not_renumbered 16)) (not_renumbered 2) ≡ renumbered_as m → Led l t ls m
+    go : (a b c : Bool) → table_sound t ls ≡ a → well_formed l ≡ b → eqb l.domain t.from ≡ c → cond (a && b) (cond c rest (Err NoNumber)) (Err Unsound) ≡ renumbered_as m → Led l t ls m
     go true true true p q r k =
-        let w = when_led (partner_of (take t.pairs ls) l.level) (numbered (used_rows t) (used l)) (λ v. fitted t.to v (image_runs l t)) m k in
-        let f = fitted_led t.to w.0 (image_runs l t) m w.3 in
+        let w = when_led NoNumber (partner_of (take t.pairs ls) l.level) (numbered (used_rows t) (used l)) (λ v. fitted TooMany t.to v (image_runs l t)) m k in
+        let f = fitted_led TooMany t.to w.0 (image_runs l t) m w.3 in
         let v : m.level ≡ w.0 = ap (λ (z : Label). z.level) f.1 in
         record {
           sound = p;
           formed = q;
           domain = eqb-true _ _ r;
-          level = w.1 ∙ ap Level (sym v);
+          level = w.1 ∙ ap Some (sym v);
           whole = w.2;
           fits = f.0;
           label = f.1 ∙ ap (λ (z : ℕ). label_of t.to z (image_runs l t)) (sym v);
         }
-    go true true false p q r k = absurd (not_done 16 m (λ z. omega arith) k)
-    go true false c p q r k = absurd (not_done 2 m (λ z. omega arith) k)
-    go false b c p q r k = absurd (not_done 2 m (λ z. omega arith) k)
+    go true true false p q r k = absurd (not_done k)
+    go true false c p q r k = absurd (not_done k)
+    go false b c p q r k = absurd (not_done k)
 
 -- The set of the numbers.
 
@@ -149,7 +156,7 @@ only l t ls m n f g =
     (λ h. let c = f.from d h in g.to c.0 d c.1 c.2)
     (λ h. let c = g.from d h in f.to c.0 d c.1 c.2))
   where
-    same_level : {p : Partner} {a b : ℕ} → p ≡ Level a → p ≡ Level b → a ≡ b
+    same_level : {p : Partner} {a b : ℕ} → p ≡ Some a → p ≡ Some b → a ≡ b
     same_level x y = cc
 
 found : (l : Label) (t : Lent) (ls : List (List ℕ)) (m : Label) → table_sound t ls ≡ true → well_formed l ≡ true → l.domain ≡ t.from → Far l t ls m → renumbered_of l t ls ≡ renumbered_as m
@@ -159,7 +166,7 @@ found l t ls m s w d f =
     let n : length (image_runs l t) ≤ 120 = omega (arith, ap length (sym u), used_length m g, g.held) in
     let same : label_of t.to m.level (image_runs l t) ≡ m = (λ i. label_of (sym f.domain i) m.level (sym u i)) ∙ sym (of_used m g) in
     sym (renumbered_fitted l t ls s w d m.level f.level (far_numbered l t ls s w m f))
-    ∙ simp (le-leb (length (image_runs l t)) 120 n) (ap renumbered_as same)
+    ∙ fitted_is TooMany t.to m.level (image_runs l t) m n (sym same)
 
 pub renumbering : Renumbering
 renumbering = record { right = right; only = only; found = found }
@@ -193,13 +200,12 @@ held_image l t ls lo hi m wl wh p q e =
 pub agrees : Agrees
 agrees l t ls lo hi m wl wh p q e = go (in_range lo hi m) refl
   where
-    go : (b : Bool) → in_range lo hi m ≡ b → carried_of l t ls lo hi ≡ cond b (renumbered_as m) (not_renumbered 17)
+    go : (b : Bool) → in_range lo hi m ≡ b → carried_of l t ls lo hi ≡ cond b (renumbered_as m) (Err 17)
     go true r =
         let k = led l t ls m e in
         let h = held_image l t ls lo hi m wl wh p q e ∙ r in
         sym (carried_fitted l t ls lo hi m.level k.level k.whole h)
-        ∙ renumbered_fitted l t ls k.sound k.formed k.domain m.level k.level k.whole
-        ∙ e
+        ∙ fitted_is 18 t.to m.level (image_runs l t) m k.fits k.label
     go false r =
         let k = led l t ls m e in
         let h = held_image l t ls lo hi m wl wh p q e ∙ r in
@@ -208,19 +214,20 @@ agrees l t ls lo hi m wl wh p q e = go (in_range lo hi m) refl
 pub carrying : Carrying
 unfolding carried_of
 carrying l t ls lo hi m w s d wl wh p q e =
-    let k = when_led (partner_of (take t.pairs ls) l.level) (numbered (used_rows t) (used l)) (λ v. cond (set_in_range lo hi v (image_runs l t)) (fitted t.to v (image_runs l t)) (not_renumbered 17)) m e in
+    let k = when_led {E = ℕ} 16 (partner_of (take t.pairs ls) l.level) (numbered (used_rows t) (used l)) (λ v. cond (set_in_range lo hi v (image_runs l t)) (fitted {E = ℕ} 18 t.to v (image_runs l t)) (Err 17)) m e in
     go k.0 k.1 k.2 (set_in_range lo hi k.0 (image_runs l t)) refl k.3
   where
-    go : (v : ℕ) → partner_of (take t.pairs ls) l.level ≡ Level v → numbered (used_rows t) (used l) ≡ true
-        → (b : Bool) → set_in_range lo hi v (image_runs l t) ≡ b → cond b (fitted t.to v (image_runs l t)) (not_renumbered 17) ≡ renumbered_as m → Carried l t ls lo hi m
+    go : (v : ℕ) → partner_of (take t.pairs ls) l.level ≡ Some v → numbered (used_rows t) (used l) ≡ true
+        → (b : Bool) → set_in_range lo hi v (image_runs l t) ≡ b → cond b (fitted {E = ℕ} 18 t.to v (image_runs l t)) (Err 17) ≡ renumbered_as m → Carried l t ls lo hi m
     go v x n true r z =
-        let a : renumbered_of l t ls ≡ renumbered_as m = sym (renumbered_fitted l t ls s w d v x n) ∙ z in
-        let u : m.level ≡ v = ap (λ (y : Label). y.level) (fitted_led t.to v (image_runs l t) m z).1 in
+        let f = fitted_led 18 t.to v (image_runs l t) m z in
+        let a : renumbered_of l t ls ≡ renumbered_as m = sym (renumbered_fitted l t ls s w d v x n) ∙ fitted_is TooMany t.to v (image_runs l t) m f.0 f.1 in
+        let u : m.level ≡ v = ap (λ (y : Label). y.level) f.1 in
         record {
           far = right l t ls m a;
           held = sym (held_image l t ls lo hi m wl wh p q a) ∙ ap (λ (y : ℕ). set_in_range lo hi y (image_runs l t)) u ∙ r;
         }
-    go v x n false r z = absurd (not_done 17 m (λ y. omega arith) z)
+    go v x n false r z = absurd (not_done z)
 
 -- Order and joins.
 

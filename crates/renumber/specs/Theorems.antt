@@ -1,19 +1,18 @@
 -- Document 01, "Labels" and "Records": what is proved of renumbering, over membership.
-use Rattle.std.specs.Prelude.{true, cond, ◌||◌, List, ◌≡◌, ℕ, max, take}
+use Rattle.std.specs.Prelude.{true, cond, ◌||◌, List, ◌≡◌, ℕ, max, take, Some, Err}
 use Rattle.label.specs.declared.Label.{Label}
 use Rattle.label.specs.Label.{well_formed, member, leq, in_range}
-use Rattle.table_levels.specs.declared.Partner.TheVariants.{Level}
 use Rattle.table.specs.Table.{Lent, used_rows, table_sound}
 use Rattle.table_levels.specs.Levels.{partner_of}
 use Rattle.table.specs.Numbers.{has_number, sends}
-use Rattle.renumber.specs.Renumber.{not_renumbered, renumbered_as, renumbered_of, carried_of}
+use Rattle.renumber.specs.Renumber.{renumbered_as, renumbered_of, carried_of}
 
 -- m is the label l in the far domain: well formed, of that domain, at the partner of its level, every category of l has a number, and a
 -- category is in m exactly when it is the number of a category of l
 pub record Far (l : Label) (t : Lent) (ls : List (List ℕ)) (m : Label) : Type 0 where
   pub formed : well_formed m ≡ true
   pub domain : m.domain ≡ t.to
-  pub level : partner_of (take t.pairs ls) l.level ≡ Level m.level
+  pub level : partner_of (take t.pairs ls) l.level ≡ Some m.level
   pub whole : (c : ℕ) → member l c ≡ true → has_number (used_rows t) c ≡ true
   pub to : (c d : ℕ) → member l c ≡ true → sends (used_rows t) c d ≡ true → member m d ≡ true
   pub from : (d : ℕ) → member m d ≡ true → (c : ℕ) × (member l c ≡ true) × (sends (used_rows t) c d ≡ true)
@@ -38,7 +37,7 @@ Agrees =
     → lowest.domain ≡ t.to
     → highest.domain ≡ t.to
     → renumbered_of l t ls ≡ renumbered_as m
-    → carried_of l t ls lowest highest ≡ cond (in_range lowest highest m) (renumbered_as m) (not_renumbered 17)
+    → carried_of l t ls lowest highest ≡ cond (in_range lowest highest m) (renumbered_as m) (Err 17)
 
 -- what forward's renumbering gives is the label in the far domain, and lies in the range
 pub record Carried (l : Label) (t : Lent) (ls : List (List ℕ)) (lowest highest m : Label) : Type 0 where

@@ -1,120 +1,119 @@
 // A label carried to the far domain: its level's partner, and the numbers that the rows of a table give to its categories.
 #![tactic(auto)]
 
-ghost use Rattle.std.specs.Prelude.{◌≡◌, true, ◌+◌, ◌≤◌, length, take};
+ghost use Rattle.std.specs.Prelude.{◌≡◌, true, ◌+◌, ◌≤◌, length};
 ghost use Rattle.label_keys.specs.Keys.{key_runs};
 ghost use Rattle.table.specs.Table.{lent};
 ghost use Rattle.renumber_keys.specs.Carry.{label_runs};
-ghost use Rattle.renumber.specs.Renumber.{not_renumbered, fitted, renumbered_of};
+ghost use Rattle.renumber.specs.Renumber.{error_of, number_of, fit_of, renumbered_of};
 ghost use Rattle.renumber.specs.Stages.{runs_renumbered};
 
 use label::Label;
 use label_keys::{label_keys, to_label};
-use renumber_keys::{FEW_RUNS, MOST_RUNS, carry};
+use renumber_keys::{CarryError, FEW_RUNS, MOST_RUNS, carry};
 use table::{FEW_ROWS, Table, table_sound};
 use table_levels::Levels;
 
-// A refusal's number with an all-zero label, or 0 and the label.
+// Why a label was not renumbered.
 #[derive(Clone, Copy)]
-pub struct Renumbered {
-    pub number: u8,
-    pub label: Label,
+pub enum RenumberError {
+    // 2: an unsound table or an ill-formed label
+    Unsound,
+    // 16: a foreign domain, or the level or a category has no number
+    NoNumber,
+    // 18: the numbers have over 120 runs
+    TooMany,
+}
+
+impl From<CarryError> for RenumberError {
+    ghost from_gives = { λ e r. r ≡ error_of e };
+
+    fn from(error: CarryError) -> RenumberError {
+        match error {
+            CarryError::Unsound => RenumberError::Unsound,
+            CarryError::NoNumber => RenumberError::NoNumber,
+        }
+    }
+}
+
+// The refusal's number in document 01.
+impl From<RenumberError> for u8 {
+    ghost from_gives = { λ e n. n ≡ number_of e };
+
+    fn from(error: RenumberError) -> u8 {
+        match error {
+            RenumberError::Unsound => 2,
+            RenumberError::NoNumber => 16,
+            RenumberError::TooMany => 18,
+        }
+    }
 }
 
 // The label renumbered by the table, or the first refusal of 2, 16 and 18.
-pub fn renumber(label: Label, table: Table, rows: &[u16], levels: Levels) -> Renumbered
+pub fn renumber(
+    label: Label,
+    table: Table,
+    rows: &[u16],
+    levels: Levels,
+) -> Result<Label, RenumberError>
     ensures { result ≡ renumbered_of label (lent table rows.now) levels }
 {
     if !label.well_formed() {
-        return refused(2);
+        return Err(RenumberError::Unsound);
     }
     if label.domain != table.from {
         if !table_sound(table, rows, levels) {
-            return refused(2);
+            return Err(RenumberError::Unsound);
         }
-        return refused(16);
+        return Err(RenumberError::NoNumber);
     }
-    let mut own = [0u32; 120];
-    label_keys(label, &mut own);
+    let mut keys = [0u32; Label::MAX_RUNS];
+    label_keys(label, &mut keys);
+    let own = &keys[..label.count];
     if table.count <= FEW_ROWS {
-        return renumber_few(&own, label.count, label.level, table, rows, levels);
+        return renumber_in::<FEW_RUNS>(own, label.level, table, rows, levels);
     }
-    renumber_many(&own, label.count, label.level, table, rows, levels)
+    renumber_in::<MOST_RUNS>(own, label.level, table, rows, levels)
 }
 
-// The runs and the level of a label renumbered, with little room for the runs of the far domain, and with much.
-fn renumber_few(
+// The runs and the level of a label renumbered, with room for so many runs of the far domain.
+fn renumber_in<const RUNS: usize>(
     own: &[u32],
-    n: usize,
     level: u8,
     table: Table,
     rows: &[u16],
     levels: Levels,
-) -> Renumbered
-    requires { (label_runs (key_runs (take n own.now)) ≡ true) × (table.count ≤ 64) }
-    ensures { result ≡ runs_renumbered (key_runs (take n own.now)) level (lent table rows.now) levels }
+) -> Result<Label, RenumberError>
+    requires { (RUNS ≤ 1144) × (label_runs (key_runs own.now) ≡ true) × (table.count ≤ 1024 → 120 + table.count ≤ RUNS) }
+    ensures { result ≡ runs_renumbered (key_runs own.now) level (lent table rows.now) levels }
 {
-    let mut far = [0u32; FEW_RUNS];
-    renumber_in(own, n, level, table, rows, levels, &mut far)
-}
-
-fn renumber_many(
-    own: &[u32],
-    n: usize,
-    level: u8,
-    table: Table,
-    rows: &[u16],
-    levels: Levels,
-) -> Renumbered
-    requires { label_runs (key_runs (take n own.now)) ≡ true }
-    ensures { result ≡ runs_renumbered (key_runs (take n own.now)) level (lent table rows.now) levels }
-{
-    let mut far = [0u32; MOST_RUNS];
-    renumber_in(own, n, level, table, rows, levels, &mut far)
+    let mut far = [0u32; RUNS];
+    renumber_by(own, level, table, rows, levels, &mut far)
 }
 
 // The same with that room.
-fn renumber_in(
+fn renumber_by(
     own: &[u32],
-    n: usize,
     level: u8,
     table: Table,
     rows: &[u16],
     levels: Levels,
     far: &mut [u32],
-) -> Renumbered
-    requires { (label_runs (key_runs (take n own.now)) ≡ true) × (table.count ≤ 1024 → 120 + table.count ≤ length far.old) }
-    ensures { result ≡ runs_renumbered (key_runs (take n own.now)) level (lent table rows.now) levels }
+) -> Result<Label, RenumberError>
+    requires { (label_runs (key_runs own.now) ≡ true) × (table.count ≤ 1024 → 120 + table.count ≤ length far.old) }
+    ensures { result ≡ runs_renumbered (key_runs own.now) level (lent table rows.now) levels }
 {
-    let carried = carry(own, n, level, table, rows, levels, far);
-    let number = carried.number;
-    if number != 0 {
-        return refused(number);
-    }
-    to_answer(far, carried.count, table.to, carried.level)
+    let carried = carry(own, own.len(), level, table, rows, levels, far)?;
+    fit_label(&far[..carried.count], table.to, carried.level).ok_or(RenumberError::TooMany)
 }
 
-fn refused(number: u8) -> Renumbered
-    ensures { result ≡ not_renumbered number }
+// The ranges as a label, where they are at most 120.
+pub fn fit_label(keys: &[u32], domain: u32, level: u8) -> Option<Label>
+    ensures { result ≡ fit_of domain level (key_runs keys.now) }
 {
-    let none = Label::empty(0, 0);
-    Renumbered {
-        number: number,
-        label: none,
-    }
-}
-
-// The ranges as a label, or 18 where they are too many.
-fn to_answer(keys: &[u32], n: usize, domain: u32, level: u8) -> Renumbered
-    requires { n ≤ length keys.now }
-    ensures { result ≡ fitted domain level (key_runs (take n keys.now)) }
-{
+    let n = keys.len();
     if Label::MAX_RUNS < n {
-        return refused(18);
+        return None;
     }
-    let label = to_label(keys, n, domain, level);
-    Renumbered {
-        number: 0,
-        label: label,
-    }
+    Some(to_label(keys, n, domain, level))
 }

@@ -7,7 +7,8 @@ use Prim.Native.Nat.{ℕ, ◌≤◌, ◌<◌, max}
 use native.Mathlib.Omega.{arith}
 use lib.Dec.{ltb}
 use lib.ListN.{length, take}
-use borrow.Author.Tests.{le-leb, lt-ltb}
+use borrow.Author.Tests.{lt-ltb}
+use Rattle.std.specs.Prelude.{Some}
 use Rattle.label.specs.declared.Run.{Run}
 use Rattle.label.specs.declared.Label.{Label}
 use Rattle.label.specs.Runs.{covers}
@@ -17,7 +18,6 @@ use Rattle.label.proofs.Runs.{covers_top}
 use Rattle.label.proofs.Labels.{formed, well_formed_lem, formed_of, used_of, used_length, of_used, member_is, leq_says, leq_said}
 use Rattle.label.proofs.Theorems as label_theorems
 use Rattle.table.specs.Table.{Lent}
-use Rattle.table_levels.specs.declared.Partner.TheVariants.{Level}
 use Rattle.table_levels.specs.Levels.{levels_rise, partner_of}
 use Rattle.table.proofs.Sound.{sound}
 use Rattle.table_levels.proofs.Partners.{partners_order}
@@ -25,6 +25,7 @@ use Rattle.renumber.specs.Renumber as far
 use Rattle.renumber.specs.Theorems.{Join}
 use Rattle.renumber_keys.proofs.Sets.{set_covers, set_spaced, the_runs}
 use Rattle.renumber.proofs.Theorems as renumber_theorems
+use Rattle.renumber_join.specs.declared.JoinError.TheVariants.{TooMany}
 use Rattle.renumber_join.specs.Join.{joined_as, either, either_runs, joined_of}
 use Rattle.renumber_join.specs.Theorems.{Joining, LeastAbove, Keeping}
 use Rattle.renumber_join.proofs.Answers.{led, joined_fitted}
@@ -83,7 +84,7 @@ found a b j wa wb f =
     let n : length (either_runs a b) ≤ 120 = omega (arith, ap length (sym u), used_length j g, g.held) in
     let same : label_of a.domain (max a.level b.level) (either_runs a b) ≡ j =
     (λ i. label_of (sym f.domain i) (sym f.level i) (sym u i)) ∙ sym (of_used j g) in
-    sym (joined_fitted a b wa wb (sym f.same)) ∙ simp (le-leb (length (either_runs a b)) 120 n) (ap joined_as same)
+    sym (joined_fitted a b wa wb (sym f.same)) ∙ renumber_theorems.fitted_is TooMany a.domain (max a.level b.level) (either_runs a b) j n (sym same)
 
 pub joining : Joining
 joining = record { right = right; only = only; found = found }
@@ -146,7 +147,7 @@ joined_first_lem a b j t ls m n k ea eb ej ek =
     (renumber_theorems.keeps_joins a b j t ls m n k (right a b j ej) ea eb ek)
 
 -- the partner of the higher of two levels is the higher of their partners
-higher_partner : (ps : List (List ℕ)) (u v p q : ℕ) → levels_rise 0 0 ps ≡ true → partner_of ps u ≡ Level p → partner_of ps v ≡ Level q → partner_of ps (max u v) ≡ Level (max p q)
+higher_partner : (ps : List (List ℕ)) (u v p q : ℕ) → levels_rise 0 0 ps ≡ true → partner_of ps u ≡ Some p → partner_of ps v ≡ Some q → partner_of ps (max u v) ≡ Some (max p q)
 higher_partner ps u v p q e h k =
     ⊎_elim
     (λ w.
@@ -182,7 +183,7 @@ renumbered_first_lem a b j t ls m n k ea eb ej ek =
       level =
           ap (partner_of ps) f.level
           ∙ higher_partner ps a.level b.level m.level n.level (sound t ls la.sound).levels la.level lb.level
-          ∙ ap Level (sym g.level);
+          ∙ ap Some (sym g.level);
       whole = λ c h. ⊎_elim (fa.whole c) (fb.whole c) (or_cases (member a c) (member b c) (sym (f.categories c) ∙ h));
       to = λ c d h s.
           ⊎_elim

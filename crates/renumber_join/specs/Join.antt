@@ -1,19 +1,26 @@
 -- Document 02, wish 11: "joining two labels (higher level, all categories of either)". House: 2 for an ill-formed label or labels of two domains,
 -- then 18 over 120 runs, as renumbering alone answers.
-use Rattle.std.specs.Prelude.{Bool, cond, ◌&&◌, ◌||◌, List, ℕ, max, leb, eqb, length}
+use Rattle.std.specs.Prelude.{Bool, cond, ◌&&◌, ◌||◌, List, ℕ, max, eqb, Result, Ok, Err}
 use Rattle.label.specs.declared.Run.{Run}
 use Rattle.label.specs.declared.Label.{Label}
 use Rattle.label.specs.Runs.{covers}
-use Rattle.label.specs.Label.{used, label_of, zero_label, well_formed}
+use Rattle.label.specs.Label.{used, well_formed}
 use Rattle.renumber_keys.specs.Sets.{runs_of}
-use Rattle.renumber_join.specs.declared.Joined.{Joined}
+use Rattle.renumber.specs.Renumber.{fitted}
+use Rattle.renumber_join.specs.declared.JoinError.{JoinError}
+use Rattle.renumber_join.specs.declared.JoinError.TheVariants.{Unsound, TooMany}
 
--- a refusal comes with an all-zero label
-abbrev pub not_joined : ℕ → Joined
-not_joined n = record { number = n; label = zero_label }
+-- what joining answers: the label, or a refusal
+abbrev pub Joined : Type 0
+Joined = Result Label JoinError
 
 abbrev pub joined_as : Label → Joined
-joined_as l = record { number = 0; label = l }
+joined_as l = Ok l
+
+-- the numbers of the refusals
+abbrev pub number_of : JoinError → ℕ
+number_of Unsound = 2
+number_of TooMany = 18
 
 -- the category is one of either label
 abbrev pub either : Label → Label → ℕ → Bool
@@ -23,12 +30,9 @@ either a b c = covers (used a) c || covers (used b) c
 abbrev pub either_runs : Label → Label → List Run
 either_runs a b = runs_of (either a b)
 
--- 18 over 120 runs, else the label
-abbrev pub fitted_join : ℕ → ℕ → List Run → Joined
-fitted_join d v rs = cond (leb (length rs) 120) (joined_as (label_of d v rs)) (not_joined 18)
-
+-- 2 for an ill-formed label or labels of two domains; then 18 over 120 runs, else the label
 unfoldable pub joined_of : Label → Label → Joined
 joined_of a b =
     cond (well_formed a && (well_formed b && eqb a.domain b.domain))
-    (fitted_join a.domain (max a.level b.level) (either_runs a b))
-    (not_joined 2)
+    (fitted TooMany a.domain (max a.level b.level) (either_runs a b))
+    (Err Unsound)

@@ -1,13 +1,15 @@
 -- Laws of carrying, for a caller: what is answered of a sound table and a label's runs, and what the lent list then holds.
 use mathlib.Core.Path.{◌≡◌, refl, sym, ◌∙◌, ap}
-use mathlib.Core.Bool.{Bool, true, false, cond, not, ◌&&◌, and-false, and_assoc}
+use mathlib.Core.Bool.{Bool, true, false, cond, ◌&&◌, and-false, and_assoc, true≢false}
 use mathlib.Core.List.{List, [], ◌∷◌, ◌++◌, map}
 use Prim.Native.Nat.{ℕ, suc, ◌+◌, ◌*◌, ◌/◌, ◌%◌, ◌≤◌, ◌<◌}
 use native.Mathlib.Omega.{arith}
-use lib.Dec.{leb, eqb}
-use lib.ListN.{length, take, drop, get_or, length-map, length-append, length-drop, take-append-drop}
+use lib.Dec.{leb}
+use lib.ListN.{length, take, drop, get_or, length-map, take-append-drop}
 use lib.Seq.{length-take-le, take_at, take_all}
-use borrow.Author.Tests.{le-leb, lt-leb, leb-true, eq-eqb, ne_eqb}
+use borrow.Author.Tests.{le-leb, lt-leb, leb-true}
+use Rattle.std.specs.Prelude.{None, Some, Ok, Err}
+use Rattle.std.specs.Option.{is_some}
 use Rattle.label.specs.declared.Run.{Run}
 use Rattle.label.specs.declared.Label.{Label}
 use Rattle.label.specs.Runs.{spaced}
@@ -17,18 +19,17 @@ use Rattle.label.proofs.Bools.{never, and_left, and_right}
 use Rattle.label.proofs.Labels.{formed, used_length}
 use Rattle.label_keys.proofs.Keys.{keys_runs}
 use Rattle.table.specs.declared.Row.{Row}
-use Rattle.table_levels.specs.declared.Partner.{Partner}
-use Rattle.table_levels.specs.declared.Partner.TheVariants.{Level, Missing}
 use Rattle.table.specs.Table.{Lent, no_row, used_rows, bare_sound, table_sound, rising, targets_apart}
-use Rattle.table_levels.specs.Levels.{levels_sound, pairs_sound, partner_of, partner_number, partner_from, known, level_or0}
-use Rattle.table_levels.proofs.Partners.{lead_partner}
+use Rattle.table_levels.specs.Levels.{Partner, pairs_sound, partner_of, known, level_or0, sound_partner}
 use Rattle.table.specs.Numbers.{numbered, in_image}
 use Rattle.table.specs.Order.{row_order, row_at, in_order}
 use Rattle.table.proofs.Order.{order_turn, order_length, sound_bare}
 use Rattle.table.proofs.Sound.{sound, sound_rows}
 use Rattle.renumber_keys.specs.declared.Carried.{Carried}
+use Rattle.renumber_keys.specs.declared.CarryError.{CarryError}
+use Rattle.renumber_keys.specs.declared.CarryError.TheVariants.{Unsound, NoNumber}
 use Rattle.renumber_keys.specs.Sets.{runs_of}
-use Rattle.renumber_keys.specs.Carry.{image_of, label_runs, not_carried, carried_to, carried_keys, carry_of}
+use Rattle.renumber_keys.specs.Carry.{CarryAnswer, image_of, label_runs, carried_as, carried_to, carried_keys, carry_of}
 use Rattle.renumber_keys.specs.Stages.{join_from, join_all, join_onto, row_pieces, pieces, Cut, parts_of, Inside, Joined, carried_by}
 use Rattle.label_ranges.specs.Ranges.{stretched}
 use Rattle.renumber_keys.proofs.Sets.{set_spaced}
@@ -58,115 +59,88 @@ module _ (rs : List Run) (v : ℕ) (t : Lent) (ls : List (List ℕ)) (room : ℕ
   unfolding carry_of
   carry_checked s f h = simp (s, f, le-leb (120 + t.count) room h)
 
-  pub carry_unsound : table_sound t ls ≡ false → carry_of rs v t ls room ≡ not_carried 2
+  pub carry_unsound : table_sound t ls ≡ false → carry_of rs v t ls room ≡ Err Unsound
   unfolding carry_of
   carry_unsound s = simp s
 
   -- what was found of the level pairs says as much
-  pub carried_by_lem : (sound : Bool) (to : ℕ) → sound ≡ pairs_sound ls t.pairs → (sound ≡ true → to ≡ partner_number (partner_of (take t.pairs ls) v)) → carried_by sound to rs t room ≡ carry_of rs v t ls room
+  pub by_pairs : (p : Partner) → Some p ≡ sound_partner ls t.pairs v → carried_by p rs t room ≡ carry_of rs v t ls room
   unfolding carry_of carried_by
-  carried_by_lem true to p q =
-      let e : table_sound t ls ≡ bare_sound t = sound_bare t ls ∙ rw (← p) in
-      let f : partner_from to ≡ partner_of (take t.pairs ls) v = ap partner_from (q refl) ∙ lead_partner (take t.pairs ls) v (and_right (levels_sound ls t.pairs) _ (sym p)) in
-      rw (e, f)
-  carried_by_lem false to p q = let e : table_sound t ls ≡ false = sound_bare t ls ∙ rw (← p) in rw e
+  by_pairs p k = go (pairs_sound ls t.pairs) refl k
+    where
+      go : (b : Bool) → pairs_sound ls t.pairs ≡ b → Some p ≡ cond b (Some (partner_of (take t.pairs ls) v)) None → carried_by p rs t room ≡ carry_of rs v t ls room
+      go true q k =
+          let e : table_sound t ls ≡ bare_sound t = sound_bare t ls ∙ rw q in
+          let f : p ≡ partner_of (take t.pairs ls) v = cc in
+          rw (e, f)
+      go false q k = absurd (true≢false (ap is_some k))
 
-module _ (sound : Bool) (to : ℕ) (rs : List Run) (t : Lent) (room : ℕ) where
-  pub by_checked : sound ≡ true → bare_sound t ≡ true → label_runs rs ≡ true → 120 + t.count ≤ room → carried_by sound to rs t room ≡ carried_to (partner_from to) (numbered (used_rows t) rs) (image_of t rs)
+  pub no_pairs : None ≡ sound_partner ls t.pairs v → Err Unsound ≡ carry_of rs v t ls room
+  no_pairs k = go (pairs_sound ls t.pairs) refl k
+    where
+      go : (b : Bool) → pairs_sound ls t.pairs ≡ b → None ≡ cond b (Some (partner_of (take t.pairs ls) v)) None → Err Unsound ≡ carry_of rs v t ls room
+      go true q k = absurd (true≢false (sym (ap is_some k)))
+      go false q k = sym (carry_unsound (sound_bare t ls ∙ rw q))
+
+module _ (p : Partner) (rs : List Run) (t : Lent) (room : ℕ) where
+  pub by_checked : bare_sound t ≡ true → label_runs rs ≡ true → 120 + t.count ≤ room → carried_by p rs t room ≡ carried_to p (numbered (used_rows t) rs) (image_of t rs)
   unfolding carried_by
-  by_checked e s f h = simp (e, s, f, le-leb (120 + t.count) room h)
+  by_checked s f h = simp (s, f, le-leb (120 + t.count) room h)
 
-  pub by_short : room < 120 + t.count → not_carried 2 ≡ carried_by sound to rs t room
+  pub by_short : room < 120 + t.count → Err Unsound ≡ carried_by p rs t room
   unfolding carried_by
   by_short h = sym (simp (lt-leb (120 + t.count) room h, and-false))
 
-  -- the first three tests, as they are made
-  module _ (a b : Bool) (p : a ≡ bare_sound t) (q : b ≡ label_runs rs) where
-    pub by_refused : ((sound && a) && b) ≡ false → not_carried 2 ≡ carried_by sound to rs t room
+  -- the first two tests, as they are made
+  module _ (a b : Bool) (y : a ≡ bare_sound t) (z : b ≡ label_runs rs) where
+    pub by_refused : (a && b) ≡ false → Err Unsound ≡ carried_by p rs t room
     unfolding carried_by
-    by_refused e = sym (rw (← p, ← q, ← and_assoc (sound && a) b (leb (120 + t.count) room), e))
+    by_refused e = sym (rw (← y, ← z, ← and_assoc a b (leb (120 + t.count) room), e))
 
-    pub by_passed : ((sound && a) && b) ≡ true → (sound ≡ true) × (bare_sound t ≡ true) × (label_runs rs ≡ true)
-    by_passed e =
-        let h = and_left (sound && a) _ e in
-        (and_left sound _ h, sym p ∙ and_right sound _ h, sym q ∙ and_right (sound && a) _ e)
+    pub by_passed : (a && b) ≡ true → (bare_sound t ≡ true) × (label_runs rs ≡ true)
+    by_passed e = (sym y ∙ and_left a _ e, sym z ∙ and_right a _ e)
 
 module _ (p : Partner) (whole : Bool) (image : List Run) where
-  pub carried_yes : (known p && whole) ≡ true → carried_to p whole image ≡ record { number = 0; level = level_or0 p; count = length image }
+  pub carried_yes : (known p && whole) ≡ true → carried_to p whole image ≡ carried_as (level_or0 p) (length image)
   unfolding carried_to
   carried_yes e = rw e
 
-  pub carried_no : (known p && whole) ≡ false → carried_to p whole image ≡ not_carried 16
+  pub carried_no : (known p && whole) ≡ false → carried_to p whole image ≡ Err NoNumber
   unfolding carried_to
   carried_no e = rw e
 
-  pub carried_number : eqb (carried_to p whole image).number 0 ≡ (known p && whole)
-  unfolding carried_to
-  carried_number = go (known p && whole)
-    where
-      go : (b : Bool) → eqb (cond b (record { number = 0; level = level_or0 p; count = length image }) (not_carried 16)).number 0 ≡ b
-      go true = refl
-      go false = refl
-
   -- the ways to these two
-  pub carried_missing : p ≡ Missing → not_carried 16 ≡ carried_to p whole image
+  pub carried_missing : p ≡ None → Err NoNumber ≡ carried_to p whole image
   unfolding carried_to
   carried_missing e = sym (rw e)
 
-  pub carried_unnumbered : whole ≡ false → not_carried 16 ≡ carried_to p whole image
+  pub carried_unnumbered : whole ≡ false → Err NoNumber ≡ carried_to p whole image
   carried_unnumbered e = sym (carried_no (rw (e, and-false)))
 
-  pub carried_found : (v count : ℕ) → p ≡ Level v → whole ≡ true → count ≡ length image → ◌≡◌ {A = Carried} (record { number = 0; level = v; count = count }) (carried_to p whole image)
+  pub carried_found : (v count : ℕ) → p ≡ Some v → whole ≡ true → count ≡ length image → carried_as v count ≡ carried_to p whole image
   unfolding carried_to
   carried_found v count e w n = sym (rw (e, w, n))
 
-  carried_never_two : eqb (carried_to p whole image).number 2 ≡ false
-  unfolding carried_to
-  carried_never_two = go (known p && whole)
-    where
-      go : (b : Bool) → eqb (cond b (record { number = 0; level = level_or0 p; count = length image }) (not_carried 16)).number 2 ≡ false
-      go true = refl
-      go false = refl
-
--- 2 tells of the table alone, where the runs are a label's and the list is long enough
-pub carry_two : (rs : List Run) (v : ℕ) (t : Lent) (ls : List (List ℕ)) (room : ℕ) → label_runs rs ≡ true → 120 + t.count ≤ room
-    → eqb (carry_of rs v t ls room).number 2 ≡ not (table_sound t ls)
-carry_two rs v t ls room f h = go (table_sound t ls) refl
-  where
-    go : (b : Bool) → table_sound t ls ≡ b → eqb (carry_of rs v t ls room).number 2 ≡ not b
-    go true e = ap (λ (c : Carried). eqb c.number 2) (carry_checked rs v t ls room e f h) ∙ carried_never_two (partner_of (take t.pairs ls) v) (numbered (used_rows t) rs) (image_of t rs)
-    go false e = ap (λ (c : Carried). eqb c.number 2) (carry_unsound rs v t ls room e)
-
 -- What the list holds.
-module _ (c : Carried) (image : List Run) (far : List ℕ) where
-  pub carried_keys_lem : c.number ≡ 0 → carried_keys c image far ≡ map run_key image ++ drop (length image) far
+module _ (image : List Run) (far : List ℕ) where
+  pub carried_keys_lem : (c : CarryAnswer) (d : Carried) → c ≡ Ok d → carried_keys c image far ≡ map run_key image ++ drop (length image) far
   unfolding carried_keys
-  carried_keys_lem e = simp (eq-eqb _ _ e)
+  carried_keys_lem c d e = rw e
 
-  pub carried_same : (c.number ≡ 0 → ⊥) → carried_keys c image far ≡ far
+  pub refused_same : (e : CarryError) → far ≡ carried_keys (Err e) image far
   unfolding carried_keys
-  carried_same e = simp (ne_eqb _ _ e)
-
-  pub refused_same : (n : ℕ) → c ≡ not_carried n → (n ≡ 0 → ⊥) → far ≡ carried_keys c image far
-  refused_same n k h = sym (carried_same (λ e. h (sym (ap (λ (z : Carried). z.number) k) ∙ e)))
+  refused_same e = refl
 
   -- of no run no key is written
-  pub none_written : c.number ≡ 0 → image ≡ [] → far ≡ carried_keys c image far
-  none_written e z = sym (carried_keys_lem e ∙ rw z)
+  pub none_written : (d : Carried) → image ≡ [] → far ≡ carried_keys (Ok d) image far
+  unfolding carried_keys
+  none_written d z = sym (rw z)
 
-  pub carried_runs : c.number ≡ 0 → spaced 0 image ≡ true → key_runs (take (length image) (carried_keys c image far)) ≡ image
-  carried_runs e s =
-      ap (λ (z : List ℕ). key_runs (take (length image) z)) (carried_keys_lem e)
+  pub carried_runs : (c : CarryAnswer) (d : Carried) → c ≡ Ok d → spaced 0 image ≡ true → key_runs (take (length image) (carried_keys c image far)) ≡ image
+  carried_runs c d e s =
+      ap (λ (z : List ℕ). key_runs (take (length image) z)) (carried_keys_lem c d e)
       ∙ ap key_runs (take_at (map run_key image) (drop (length image) far) (length image) (length-map image run_key))
       ∙ keys_runs 0 image s
-
-  pub carried_length : length image ≤ length far → length (carried_keys c image far) ≡ length far
-  unfolding carried_keys
-  carried_length h = go (eqb c.number 0)
-    where
-      go : (b : Bool) → length (cond b (map run_key image ++ drop (length image) far) far) ≡ length far
-      go true = length-append (map run_key image) (drop (length image) far) ∙ omega (arith, length-map image run_key, length-drop (length image) far)
-      go false = refl
 
 -- The numbers of a set.
 pub image_spaced : (t : Lent) (rs : List Run) → spaced 0 (image_of t rs) ≡ true

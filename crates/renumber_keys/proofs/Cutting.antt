@@ -1,26 +1,27 @@
 -- Laws of the pass that cuts the runs into the pieces of each row.
 use mathlib.Core.Path.{◌≡◌, sym, ◌∙◌, ap}
-use mathlib.Core.Bool.{true}
+use mathlib.Core.Bool.{true, false, true≢false}
 use mathlib.Core.List.{List, [], ◌∷◌, ◌++◌, append_assoc, append-nil}
-use Prim.Native.Nat.{ℕ, zero, suc, ◌+◌, ◌-◌, ◌*◌, ◌≤◌, ◌<◌, min, max}
+use Prim.Native.Nat.{ℕ, zero, suc, ◌+◌, ◌/◌, ◌%◌, ◌≤◌, ◌<◌, min, max}
 use native.Mathlib.Omega.{arith}
 use native.Mathlib.Decide.{dec_le}
-use borrow.Author.Rules.{rules}
-use borrow.Author.Tests.{le-leb}
-use mir.Syntax.{w16, w64}
-use mir.Val.{Fits}
-use lib.ListN.{length, take, drop, get_or, set, length-set}
+use borrow.Author.Tests.{le-leb, lt-leb}
+use lib.Dec.{leb}
+use lib.ListN.{length, take, drop, get_or, set, drop_of_length-le}
 use lib.Seq.{get_or-set_same, get_or-set_other, take-set-le, drop-append-le, length-take-le}
 use Rattle.label.specs.declared.Run.{Run}
 use Rattle.label.specs.Runs.{run, spaced}
 use Rattle.label.proofs.Runs.{First, first}
-use Rattle.label.proofs.Steps.{used_up}
+use Rattle.label_keys.specs.Keys.{key_run, key_runs}
+use Rattle.label.proofs.Steps.{next, used_up}
 use Rattle.lists_sort.proofs.Merge.{put}
 use Rattle.table.specs.declared.Row.{Row}
-use Rattle.table.specs.Table.{no_row, rising}
+use Rattle.table.specs.Table.{no_row, target_end, rising}
+use Rattle.table.specs.Numbers.{numbered}
 use Rattle.table.proofs.Rows.{good}
-use Rattle.renumber_keys.specs.Stages.{piece_key, row_pieces}
-use Rattle.renumber_keys.proofs.Pass.{clip, clip_same, clip_start}
+use Rattle.renumber_keys.specs.Stages.{piece_key, row_pieces, Cut}
+use Rattle.renumber_keys.proofs.Held.{key_at, no_key}
+use Rattle.renumber_keys.proofs.Pass.{clip, Left, left_start, left_done, left_skip, left_stop, left_none, left_run, left_row, left_numbered, turn_whole, turn_cut, clip_same, clip_start, numbered_yes, numbered_none}
 use Rattle.renumber_keys.proofs.Pieces.{above_none, below_skip, row_over}
 
 -- a later row begins above an earlier one's end
@@ -159,56 +160,132 @@ module _ (rows : List Row) (runs : List Run) (cut start : List ℕ) (w i j f : �
       → Cutting rows runs (set cut w p) (set start (j + 1) (w + 1)) (w + 1) i (j + 1) (r.high + 1)
   turn_parted p y h o l m s t = rw y (parted_piece h o l m s t)
 
--- The numbers of a turn: at most 120 runs and 1,024 rows, and a list with a place for each piece.
-pub next_up : (i n : ℕ) → i < n → i + 1 ≤ n
-next_up i n h = omega arith
+-- What the pass keeps, at the run `i` from `f` on and the row `j`, with w pieces cut.
+pub record Turning (rows : List Row) (own cut start : List ℕ) (w i j f : ℕ) : Type 0 where
+  pub run_place : i ≤ length own
+  pub row_place : j ≤ length rows
+  pub few : w ≤ i + j
+  pub left : Left rows (key_runs own) (drop j rows) (clip f (drop i (key_runs own)))
+  pub cutting : Cutting rows (key_runs own) cut start w i j f
 
-pub row_less : (i n j m : ℕ) → j < m → (n - i) + (m - (j + 1)) < (n - i) + (m - j)
-row_less i n j m h = omega arith
+pub turning_start : (rows : List Row) (own cut start : List ℕ) → rising 0 rows ≡ true → spaced 0 (key_runs own) ≡ true → 0 < length start → Turning rows own cut (set start 0 0) 0 0 0 0
+turning_start rows own cut start e s h =
+    record {
+      run_place = omega arith;
+      row_place = omega arith;
+      few = omega arith;
+      left = rw (clip_start (key_runs own)) (left_start rows (key_runs own) e s);
+      cutting = cutting_start rows (key_runs own) cut start h;
+    }
 
-pub run_less : (i n j m : ℕ) → i < n → (n - (i + 1)) + (m - j) < (n - i) + (m - j)
-run_less i n j m h = omega arith
+module _ {rows : List Row} {own cut start : List ℕ} {w i j f : ℕ} (up : rising 0 rows ≡ true) (gaps : spaced 0 (key_runs own) ≡ true) (t : Turning rows own cut start w i j f) where
+  row_at : j < length rows → drop j rows ≡ get_or rows j no_row ∷ drop (j + 1) rows
+  row_at h = next no_row rows j h
 
-pub few_row : (w i j : ℕ) → w ≤ i + j → w ≤ i + (j + 1)
-few_row w i j h = omega arith
+  -- no run is left
+  pub turned_none : length own ≤ i → j < length rows → j + 1 < length start → Turning rows own cut (set start (j + 1) w) w i (j + 1) f
+  turned_none h k l =
+      let none : drop i (key_runs own) ≡ [] = no_key own i h in
+      record {
+        run_place = t.run_place;
+        row_place = omega arith;
+        few = omega (arith, t.few);
+        left = rw none (left_done rows (key_runs own) (get_or rows j no_row) (drop (j + 1) rows) (rw (row_at k, none) at t.left));
+        cutting = none_left rows (key_runs own) cut start w i j f t.cutting none l;
+      }
 
-pub few_run : (w i j : ℕ) → w ≤ i + j → w + 1 ≤ (i + 1) + j
-few_run w i j h = omega arith
+  -- The turn at a run and a row.
+  module _ (h : i < length own) (k : j < length rows) {r : Row} (is : r ≡ get_or rows j no_row) where
+    abbrev low : ℕ
+    low = max (get_or own i 0 / 65536) f
 
-pub few_part : (w i j : ℕ) → w ≤ i + j → w + 1 ≤ i + (j + 1)
-few_part w i j h = omega arith
+    abbrev high : ℕ
+    high = get_or own i 0 % 65536
 
-pub row_under : (j m : ℕ) → m ≤ 1024 → j < m → j ≤ 1144
-row_under j m a h = omega arith
+    row_here : drop j rows ≡ r ∷ drop (j + 1) rows
+    row_here = row_at k ∙ ap (λ (z : Row). z ∷ drop (j + 1) rows) (sym is)
 
-pub run_under : (i n : ℕ) → i ≤ n → n ≤ 120 → i ≤ 1144
-run_under i n h a = omega arith
+    run_here : drop i (key_runs own) ≡ key_run (get_or own i 0) ∷ drop (i + 1) (key_runs own)
+    run_here = key_at own i h
 
-pub piece_under : (w i n j m : ℕ) → w ≤ i + j → n ≤ 120 → m ≤ 1024 → i ≤ n → j ≤ m → w ≤ 1144
-piece_under w i n j m h a b p q = omega arith
+    standing : Left rows (key_runs own) (r ∷ drop (j + 1) rows) (clip f (key_run (get_or own i 0) ∷ drop (i + 1) (key_runs own)))
+    standing = rw (row_here, run_here) at t.left
 
-pub cut_place : (w i n j m held room : ℕ) → w ≤ i + j → room ≡ held → 120 + m ≤ held → n ≤ 120 → j < m → i < n → w < room
-cut_place w i n j m held room h e l a p q = omega arith
+    pub row_ends : target_end r ≤ 65534
+    row_ends = (good 0 r (drop (j + 1) rows) standing.rise).end
 
-pub start_place : (j m held room : ℕ) → room ≡ held → m < held → j < m → j + 1 < room
-start_place j m held room e l p = omega arith
+    pub run_ordered : low ≤ high
+    run_ordered = (first 0 (run low high) (drop (i + 1) (key_runs own)) standing.gaps).ordered
 
-pub set_sized : (xs : List ℕ) (i x n : ℕ) → length xs ≡ n → length (set xs i x) ≡ n
-set_sized xs i x n e = length-set xs i x ∙ e
+    -- the run begins below the row: a category has no number
+    pub turned_away : (cut' start' : List ℕ) → low < r.low → Cut rows (key_runs own) false cut' start'
+    turned_away cut' start' o =
+        record {
+          answer = sym (numbered_none rows (key_runs own) gaps (left_stop rows (key_runs own) r (drop (j + 1) rows) (run low high) (drop (i + 1) (key_runs own)) standing o));
+          inside = λ e. absurd (true≢false (sym e));
+          each = λ e. absurd (true≢false (sym e));
+        }
 
--- so they fit their types
-module _ (a : ℕ) (h : a ≤ 1144) where
-  pub next_fits : Fits w64 (a + 1)
-  next_fits = search rules
+    -- the row ends below the run
+    pub turned_over : r.high < low → j + 1 < length start → Turning rows own cut (set start (j + 1) w) w i (j + 1) f
+    turned_over o l =
+        record {
+          run_place = t.run_place;
+          row_place = omega arith;
+          few = omega (arith, t.few);
+          left =
+              left_run rows (key_runs own) (drop (j + 1) rows) f i (key_run (get_or own i 0)) run_here
+              (left_skip rows (key_runs own) r (drop (j + 1) rows) (run low high) (drop (i + 1) (key_runs own)) standing o);
+          cutting = turn_over rows (key_runs own) cut start w i j f t.cutting r (sym is) (key_run (get_or own i 0)) run_here up standing.gaps o l;
+        }
 
-  pub two_fits : Fits w64 ((a + 1) * 2)
-  two_fits = search rules
+    -- the run ends in the row
+    pub turned_inside : (p : ℕ) → p ≡ piece_key r low high → r.low ≤ low → high ≤ r.high → w < length cut → Turning rows own (set cut w p) start (w + 1) (i + 1) j f
+    turned_inside p y o l room =
+        record {
+          run_place = omega arith;
+          row_place = t.row_place;
+          few = omega (arith, t.few);
+          left =
+              left_row rows (key_runs own) (clip f (drop (i + 1) (key_runs own))) j r row_here
+              (turn_whole rows (key_runs own) r (drop (j + 1) rows) f (key_run (get_or own i 0)) (drop (i + 1) (key_runs own)) standing o l);
+          cutting = turn_inside rows (key_runs own) cut start w i j f t.cutting r (sym is) (key_run (get_or own i 0)) run_here up standing.gaps p y o l room;
+        }
 
-  pub four_fits : Fits w64 (a * 4)
-  four_fits = search rules
+    -- the row ends in the run
+    pub turned_parted : (p : ℕ) → p ≡ piece_key r low r.high → r.low ≤ low → low ≤ r.high → r.high < high → w < length cut → j + 1 < length start
+        → Turning rows own (set cut w p) (set start (j + 1) (w + 1)) (w + 1) i (j + 1) (r.high + 1)
+    turned_parted p y o m l room place =
+        let after = turn_cut rows (key_runs own) r (drop (j + 1) rows) f (key_run (get_or own i 0)) (drop (i + 1) (key_runs own)) standing o m l in
+        record {
+          run_place = t.run_place;
+          row_place = omega arith;
+          few = omega (arith, t.few);
+          left = left_run rows (key_runs own) (drop (j + 1) rows) (r.high + 1) i (key_run (get_or own i 0)) run_here after;
+          cutting = turn_parted rows (key_runs own) cut start w i j f t.cutting r (sym is) (key_run (get_or own i 0)) run_here up standing.gaps p y o m l room after.gaps place;
+        }
 
-  pub place_fits : Fits w16 a
-  place_fits = search rules
+  -- past the last row
+  module _ (over : length rows ≤ j) (room : length own + length rows ≤ length cut) where
+    no_row_left : drop j rows ≡ []
+    no_row_left = drop_of_length-le rows {i = j} over
 
-  pub next_place_fits : Fits w16 (a + 1)
-  next_place_fits = search rules
+    whole_told : leb (length own) i ≡ numbered rows (key_runs own)
+    whole_told = elim (dec_le (length own) i) [ yes u ↦ all_seen u | no u ↦ one_left (omega arith) ]
+      where
+        all_seen : length own ≤ i → leb (length own) i ≡ numbered rows (key_runs own)
+        all_seen u = le-leb _ _ u ∙ sym (numbered_yes rows (key_runs own) (left_numbered rows (key_runs own) [] (rw (no_row_left, no_key own i u) at t.left)))
+
+        one_left : i < length own → leb (length own) i ≡ numbered rows (key_runs own)
+        one_left l =
+            let x = key_run (get_or own i 0) in
+            lt-leb _ _ l
+            ∙ sym (numbered_none rows (key_runs own) gaps (left_none rows (key_runs own) (run (max x.low f) x.high) (drop (i + 1) (key_runs own)) (rw (no_row_left, key_at own i l) at t.left)))
+
+    pub turned_all : Cut rows (key_runs own) (leb (length own) i) cut start
+    turned_all =
+        record {
+          answer = whole_told;
+          inside = λ e q l. omega (arith, t.cutting.below (q + 1) (omega arith), t.few, t.run_place, t.row_place);
+          each = λ e q l. t.cutting.done q (omega arith) l;
+        }

@@ -1,5 +1,5 @@
 -- Laws of a list of keys: one more range, as a loop meets it, and the list of a label's runs.
-use mathlib.Core.Path.{◌≡◌, sym, ◌∙◌, ap}
+use mathlib.Core.Path.{◌≡◌, refl, sym, ◌∙◌, ap}
 use mathlib.Core.Bool.{true, false}
 use mathlib.Core.List.{List, [], ◌∷◌, map}
 use Prim.Native.Nat.{ℕ, ◌+◌, ◌≤◌, ◌<◌, min}
@@ -18,16 +18,24 @@ use Rattle.label.proofs.Steps.{next}
 use Rattle.renumber_keys.specs.Carry.{label_runs}
 
 -- One more range of a list of keys, as a loop meets it.
+pub key_at : (ks : List ℕ) (i : ℕ) → i < length ks → drop i (key_runs ks) ≡ key_run (get_or ks i 0) ∷ drop (i + 1) (key_runs ks)
+key_at ks i h =
+    let m : i < length (key_runs ks) = rw length-map h in
+    next (key_run 0) (key_runs ks) i m ∙ ap (λ (z : Run). z ∷ drop (i + 1) (key_runs ks)) (get_or-map key_run ks i 0)
+
+pub no_key : (ks : List ℕ) (i : ℕ) → length ks ≤ i → drop i (key_runs ks) ≡ []
+no_key ks i h =
+    let m : length (key_runs ks) ≤ i = rw length-map h in
+    drop_of_length-le (key_runs ks) {i = i} m
+
+-- the same in the first n
 pub next_key : (ks : List ℕ) (n i : ℕ) → i < n → n ≤ length ks → drop i (key_runs (take n ks)) ≡ key_run (get_or ks i 0) ∷ drop (i + 1) (key_runs (take n ks))
 next_key ks n i h l =
-    let m : i < length (key_runs (take n ks)) = rw length-map (simp length-take (omega arith)) in
-    next (key_run 0) (key_runs (take n ks)) i m
-    ∙ ap (λ (z : Run). z ∷ drop (i + 1) (key_runs (take n ks))) (get_or-map key_run (take n ks) i 0 ∙ ap key_run (get_or-take n ks i 0 h))
+    let m : i < length (take n ks) = simp length-take (omega arith) in
+    key_at (take n ks) i m ∙ ap (λ (z : ℕ). key_run z ∷ drop (i + 1) (key_runs (take n ks))) (get_or-take n ks i 0 h)
 
 pub keys_up : (ks : List ℕ) (n i : ℕ) → n ≤ i → drop i (key_runs (take n ks)) ≡ []
-keys_up ks n i h =
-    let m : length (key_runs (take n ks)) ≤ i = rw length-map (simp length-take (omega arith)) in
-    drop_of_length-le (key_runs (take n ks)) {i = i} m
+keys_up ks n i h = no_key (take n ks) i (simp length-take (omega arith))
 
 -- a label's runs, put at the head of a list with a place for each
 pub held_runs : (l : Label) (ks : List ℕ) → well_formed l ≡ true → 120 ≤ length ks → key_runs (take l.count (with_keys l ks)) ≡ used l
@@ -39,22 +47,20 @@ held_runs l ks w h =
     rw (le-leb l.count 120 f.held, le-leb l.count (length ks) o)
     (ap key_runs (take_at (map run_key (used l)) (drop l.count ks) l.count n) ∙ keys_runs 0 (used l) f.runs)
 
--- The first n keys, or as many as there are.
-module _ (ks : List ℕ) (n m : ℕ) (is : m ≡ min n (length ks)) where
-  pub first_same : take m ks ≡ take n ks
-  first_same = ap (λ (z : ℕ). take z ks) is ∙ take_min n ks
+-- the first n keys, or as many as there are
+pub first_same : (ks : List ℕ) (n m : ℕ) → m ≡ min n (length ks) → take m ks ≡ take n ks
+first_same ks n m is = ap (λ (z : ℕ). take z ks) is ∙ take_min n ks
 
-  runs_length : length (key_runs (take n ks)) ≡ m
-  runs_length = rw (length-map, length-take) (sym is)
+-- Keys that are a label's runs, and keys that are not.
+pub formed_not : (ks : List ℕ) → 120 < length ks → false ≡ label_runs (key_runs ks)
+unfolding label_runs
+formed_not ks h = sym (simp (length-map, lt-leb (length ks) 120 h))
 
-  pub formed_not : 120 < m → false ≡ label_runs (key_runs (take n ks))
-  unfolding label_runs
-  formed_not h =
-      let o : 120 < length (key_runs (take n ks)) = omega (arith, runs_length) in
-      sym (simp (lt-leb (length (key_runs (take n ks))) 120 o))
+pub formed_is : (ks : List ℕ) → length ks ≤ 120 → spaced 0 (key_runs ks) ≡ label_runs (key_runs ks)
+unfolding label_runs
+formed_is ks h = sym (simp (length-map, le-leb (length ks) 120 h))
 
-  pub formed_is : m ≤ 120 → spaced 0 (key_runs (take m ks)) ≡ label_runs (key_runs (take n ks))
-  unfolding label_runs
-  formed_is h =
-      let o : length (key_runs (take n ks)) ≤ 120 = omega (arith, runs_length) in
-      ap (λ (z : List ℕ). spaced 0 (key_runs z)) first_same ∙ sym (simp (le-leb (length (key_runs (take n ks))) 120 o))
+-- no key is no run
+pub no_keys : (ks : List ℕ) → length ks ≡ 0 → key_runs ks ≡ []
+no_keys [] e = refl
+no_keys (k ∷ ks) e = absurd (omega arith)

@@ -1,14 +1,15 @@
 -- Document 01, "Records", and the number 16 of "The order of checks": a level and the runs of a label carried to the far domain, held as numbers in
 -- lent lists. The range of the far domain and the table's own domains are the caller's to look at.
-use Rattle.std.specs.Prelude.{Bool, cond, ◌&&◌, List, ◌++◌, map, ℕ, ◌+◌, leb, eqb, length, take, drop}
+use Rattle.std.specs.Prelude.{Bool, cond, ◌&&◌, List, ◌++◌, map, ℕ, ◌+◌, leb, length, take, drop, Result, Ok, Err}
 use Rattle.label.specs.declared.Run.{Run}
 use Rattle.label.specs.Runs.{spaced}
 use Rattle.label_keys.specs.Keys.{run_key}
-use Rattle.table_levels.specs.declared.Partner.{Partner}
 use Rattle.table.specs.Table.{Lent, used_rows, table_sound}
-use Rattle.table_levels.specs.Levels.{partner_of, known, level_or0}
+use Rattle.table_levels.specs.Levels.{Partner, partner_of, known, level_or0}
 use Rattle.table.specs.Numbers.{numbered, in_image}
 use Rattle.renumber_keys.specs.declared.Carried.{Carried}
+use Rattle.renumber_keys.specs.declared.CarryError.{CarryError}
+use Rattle.renumber_keys.specs.declared.CarryError.TheVariants.{Unsound, NoNumber}
 use Rattle.renumber_keys.specs.Sets.{runs_of}
 
 -- the numbers of the runs' categories, the whole set: it may have more runs than a label holds
@@ -19,21 +20,25 @@ image_of t rs = runs_of (in_image (used_rows t) rs)
 unfoldable pub label_runs : List Run → Bool
 label_runs rs = leb (length rs) 120 && spaced 0 rs
 
--- a refusal: no level, no runs
-abbrev pub not_carried : ℕ → Carried
-not_carried n = record { number = n; level = 0; count = 0 }
+-- what carrying answers: the level's partner and how many runs, or why there are none
+abbrev pub CarryAnswer : Type 0
+CarryAnswer = Result Carried CarryError
+
+abbrev pub carried_as : ℕ → ℕ → CarryAnswer
+carried_as v n = Ok (record { level = v; count = n })
 
 -- 16 where the level has no partner or a category has no number, else the partner, and how many runs the numbers have
-unfoldable pub carried_to : Partner → Bool → List Run → Carried
-carried_to p whole image = cond (known p && whole) (record { number = 0; level = level_or0 p; count = length image }) (not_carried 16)
+unfoldable pub carried_to : Partner → Bool → List Run → CarryAnswer
+carried_to p whole image = cond (known p && whole) (carried_as (level_or0 p) (length image)) (Err NoNumber)
 
 -- the list with the numbers' runs at its head, or as it was on a refusal
-unfoldable pub carried_keys : Carried → List Run → List ℕ → List ℕ
-carried_keys c image far = cond (eqb c.number 0) (map run_key image ++ drop (length image) far) far
+unfoldable pub carried_keys : CarryAnswer → List Run → List ℕ → List ℕ
+carried_keys (Ok c) image far = map run_key image ++ drop (length image) far
+carried_keys (Err e) image far = far
 
 -- 2 for an unsound table, runs that no well-formed label has, or a list of under 120 places and one for each row: 120 runs cut by the rows fill no more; then 16
-unfoldable pub carry_of : List Run → ℕ → Lent → List (List ℕ) → ℕ → Carried
+unfoldable pub carry_of : List Run → ℕ → Lent → List (List ℕ) → ℕ → CarryAnswer
 carry_of rs v t ls room =
     cond (table_sound t ls && (label_runs rs && leb (120 + t.count) room))
     (carried_to (partner_of (take t.pairs ls) v) (numbered (used_rows t) rs) (image_of t rs))
-    (not_carried 2)
+    (Err Unsound)

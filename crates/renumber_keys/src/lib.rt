@@ -1,29 +1,35 @@
 // A level and the runs of a label carried to the far domain: the level's partner, and the numbers that the rows of a table give to the categories.
 #![tactic(auto)]
 
-ghost use Rattle.std.specs.Prelude.{◌≡◌, true, ◌+◌, ◌*◌, ◌≤◌, ◌<◌, max, length, take, drop, get_or};
+ghost use Rattle.std.specs.Prelude.{Some};
+ghost use Rattle.std.specs.Prelude.{◌≡◌, true, ◌+◌, ◌*◌, ◌≤◌, ◌<◌, length, take, drop, get_or};
 ghost use Rattle.label.specs.Runs.{spaced};
 ghost use Rattle.label_keys.specs.Keys.{key_runs};
-ghost use Rattle.table.specs.Table.{lent, row, no_row, rows_from, target_end, rising};
-ghost use Rattle.table_levels.specs.declared.Partner.TheVariants.{Level};
-ghost use Rattle.table_levels.specs.Levels.{partner_from};
+ghost use Rattle.table.specs.Table.{lent, no_row, rows_from, target_end, rising};
 ghost use Rattle.table.specs.Numbers.{numbered, in_image};
 ghost use Rattle.renumber_keys.specs.Sets.{runs_of};
-ghost use Rattle.renumber_keys.specs.Carry.{image_of, label_runs, not_carried, carried_to, carried_keys, carry_of};
+ghost use Rattle.renumber_keys.specs.Carry.{image_of, label_runs, carried_to, carried_keys, carry_of};
 ghost use Rattle.renumber_keys.specs.Stages.{push_key, join_onto, piece_key, Ready, Cut, parts_of, Inside, Joined, carried_by};
 
 use label::Label;
 use label_ranges::{reaches, stretch};
-use lists::lesser;
 use table::{FEW_ROWS, MAX_ROWS, Row, Table, bare_order};
 use table_levels::{Levels, look_levels};
 
-// A refusal's number, or 0 with the level's partner and how many runs were written down.
+// The level's partner, and how many runs were written down.
 #[derive(Clone, Copy)]
 pub struct Carried {
-    pub number: u8,
     pub level: u8,
     pub count: usize,
+}
+
+// Why nothing was carried.
+#[derive(Clone, Copy)]
+pub enum CarryError {
+    // 2: an unsound table, keys that are not the runs of a well-formed label, or too short a list
+    Unsound,
+    // 16: the level or a category has no number
+    NoNumber,
 }
 
 // The most runs that a label's categories have in the far domain: its 120 runs, cut by 1,024 rows; and cut by few rows.
@@ -42,106 +48,76 @@ pub fn carry(
     rows: &[u16],
     levels: Levels,
     far: &mut [u32],
-) -> Carried
+) -> Result<Carried, CarryError>
     ensures { (result ≡ carry_of (key_runs (take n keys.now)) level (lent table rows.now) levels (length far.old)) × (far.new ≡ carried_keys result (image_of (lent table rows.now) (key_runs (take n keys.now))) far.old) }
 {
-    let lead = look_levels(levels, table.pairs, level);
-    let sound = lead.sound;
-    let to = lead.to;
+    let own = &keys[..n.min(keys.len())];
+    let Some(partner) = look_levels(levels, table.pairs, level) else {
+        return Err(CarryError::Unsound);
+    };
     if table.count <= FEW_ROWS {
-        return carry_few(keys, n, sound, to, table, rows, far);
+        return carry_in::<FEW_ROWS>(own, partner, table, rows, far);
     }
-    carry_many(keys, n, sound, to, table, rows, far)
+    carry_in::<MAX_ROWS>(own, partner, table, rows, far)
 }
 
-// The same of level pairs that were looked at, with little room for the rows' order, and with much: all of it is zeroed.
-fn carry_few(
-    keys: &[u32],
-    n: usize,
-    sound: bool,
-    to: u16,
+// The same of level pairs that were looked at, with room for the order of so many rows: all of it is zeroed.
+fn carry_in<const ROWS: usize>(
+    own: &[u32],
+    partner: Option<u8>,
     table: Table,
     rows: &[u16],
     far: &mut [u32],
-) -> Carried
-    requires { table.count ≤ 64 }
-    ensures { (result ≡ carried_by sound to (key_runs (take n keys.now)) (lent table rows.now) (length far.old)) × (far.new ≡ carried_keys result (image_of (lent table rows.now) (key_runs (take n keys.now))) far.old) }
+) -> Result<Carried, CarryError>
+    requires { (ROWS ≤ 1024) × (table.count ≤ 1024 → table.count ≤ ROWS) }
+    ensures { (result ≡ carried_by partner (key_runs own.now) (lent table rows.now) (length far.old)) × (far.new ≡ carried_keys result (image_of (lent table rows.now) (key_runs own.now)) far.old) }
 {
-    let mut order = [0u32; FEW_ROWS];
-    carry_by(keys, n, sound, to, table, rows, &mut order, far)
-}
-
-fn carry_many(
-    keys: &[u32],
-    n: usize,
-    sound: bool,
-    to: u16,
-    table: Table,
-    rows: &[u16],
-    far: &mut [u32],
-) -> Carried
-    ensures { (result ≡ carried_by sound to (key_runs (take n keys.now)) (lent table rows.now) (length far.old)) × (far.new ≡ carried_keys result (image_of (lent table rows.now) (key_runs (take n keys.now))) far.old) }
-{
-    let mut order = [0u32; MAX_ROWS];
-    carry_by(keys, n, sound, to, table, rows, &mut order, far)
+    let mut order = [0u32; ROWS];
+    carry_by(own, partner, table, rows, &mut order, far)
 }
 
 // The same with the room for the rows' order.
 fn carry_by(
-    keys: &[u32],
-    n: usize,
-    sound: bool,
-    to: u16,
+    own: &[u32],
+    partner: Option<u8>,
     table: Table,
     rows: &[u16],
     order: &mut [u32],
     far: &mut [u32],
-) -> Carried
+) -> Result<Carried, CarryError>
     requires { table.count ≤ 1024 → table.count ≤ length order.old }
-    ensures { (result ≡ carried_by sound to (key_runs (take n keys.now)) (lent table rows.now) (length far.old)) × (far.new ≡ carried_keys result (image_of (lent table rows.now) (key_runs (take n keys.now))) far.old) }
+    ensures { (result ≡ carried_by partner (key_runs own.now) (lent table rows.now) (length far.old)) × (far.new ≡ carried_keys result (image_of (lent table rows.now) (key_runs own.now)) far.old) }
 {
     let bare = bare_order(table, rows, order);
-    let formed = keys_formed(keys, n);
-    if !(sound & bare & formed) {
-        return not_carried(2);
+    let formed = keys_formed(own);
+    if !(bare & formed) {
+        return Err(CarryError::Unsound);
     }
     let count = table.count;
     if far.len() < Label::MAX_RUNS + count {
-        return not_carried(2);
+        return Err(CarryError::Unsound);
     }
-    let m = lesser(n, keys.len());
-    carry_checked(keys, m, to, rows, count, order, far)
+    let Some(level) = partner else {
+        return Err(CarryError::NoNumber);
+    };
+    carry_checked(own, level, rows, count, order, far)
 }
 
-fn not_carried(number: u8) -> Carried
-    ensures { result ≡ not_carried number }
+// Whether the keys are the runs of a well-formed label. The pass does not end early; the ends ascend, so the last alone is held against the
+// highest category.
+fn keys_formed(own: &[u32]) -> bool
+    ensures { result ≡ label_runs (key_runs own.now) }
 {
-    Carried {
-        number: number,
-        level: 0,
-        count: 0,
-    }
-}
-
-// Whether the first n keys, all where there are fewer, are the runs of a well-formed label. The pass does not end early; the ends ascend, so the last
-// alone is held against the highest category.
-fn keys_formed(keys: &[u32], n: usize) -> bool
-    ensures { result ≡ label_runs (key_runs (take n keys.now)) }
-{
-    let m = lesser(n, keys.len());
-    if Label::MAX_RUNS < m {
+    if Label::MAX_RUNS < own.len() {
         return false;
     }
     let mut good = true;
     let mut floor: u32 = 0;
-    let mut i: usize = 0;
-    while i < m {
-        let key = keys[i];
-        let low = key / 65536;
-        let high = key % 65536;
+    for key in own {
+        let low = *key / 65536;
+        let high = *key % 65536;
         good = good & (floor <= low) & (low <= high);
         floor = high + 2;
-        i += 1;
     }
     good & (floor <= 65536)
 }
@@ -149,108 +125,70 @@ fn keys_formed(keys: &[u32], n: usize) -> bool
 // The same for what was checked, with the rows in order: gathered row by row in the order of their targets, nothing is sorted.
 fn carry_checked(
     own: &[u32],
-    n: usize,
-    to: u16,
+    level: u8,
     rows: &[u16],
     m: usize,
     order: &[u32],
     far: &mut [u32],
-) -> Carried
-    requires { (n ≤ length own.now) × (120 + m ≤ length far.old) × Ready (rows_from rows.now) m order.now (key_runs (take n own.now)) }
-    ensures { (result ≡ carried_to (partner_from to) (numbered (rows_from rows.now) (key_runs (take n own.now))) (runs_of (in_image (rows_from rows.now) (key_runs (take n own.now))))) × (far.new ≡ carried_keys result (runs_of (in_image (rows_from rows.now) (key_runs (take n own.now)))) far.old) }
+) -> Result<Carried, CarryError>
+    requires { (120 + m ≤ length far.old) × Ready (rows_from rows.now) m order.now (key_runs own.now) }
+    ensures { (result ≡ carried_to (Some level) (numbered (rows_from rows.now) (key_runs own.now)) (runs_of (in_image (rows_from rows.now) (key_runs own.now)))) × (far.new ≡ carried_keys result (runs_of (in_image (rows_from rows.now) (key_runs own.now))) far.old) }
 {
-    if 255 < to {
-        return not_carried(16);
-    }
-    let level = to as u8;
-    if n == 0 {
+    if own.is_empty() {
         // no run: no row is looked at
-        return Carried {
-            number: 0,
-            level: level,
-            count: 0,
-        };
+        return Ok(Carried { level, count: 0 });
     }
     if m <= FEW_ROWS {
-        return gather_few(own, n, level, rows, m, order, far);
+        return gather_in::<65, FEW_RUNS>(own, level, rows, m, order, far);
     }
-    gather_many(own, n, level, rows, m, order, far)
+    gather_in::<1025, MOST_RUNS>(own, level, rows, m, order, far)
 }
 
-// The runs' numbers with little room for their pieces, and with much.
-fn gather_few(
+// The runs' numbers with room for so many pieces and places: one place more than there are rows.
+fn gather_in<const PLACES: usize, const PIECES: usize>(
     own: &[u32],
-    n: usize,
-    to: u8,
+    level: u8,
     rows: &[u16],
     m: usize,
     order: &[u32],
     far: &mut [u32],
-) -> Carried
-    requires { (n ≤ length own.now) × (m ≤ 64) × (120 + m ≤ length far.old) × Ready (rows_from rows.now) m order.now (key_runs (take n own.now)) }
-    ensures { (result ≡ carried_to (Level to) (numbered (rows_from rows.now) (key_runs (take n own.now))) (runs_of (in_image (rows_from rows.now) (key_runs (take n own.now))))) × (far.new ≡ carried_keys result (runs_of (in_image (rows_from rows.now) (key_runs (take n own.now)))) far.old) }
+) -> Result<Carried, CarryError>
+    requires { (PLACES ≤ 1025) × (PIECES ≤ 1144) × (m < PLACES) × (120 + m ≤ PIECES) × (120 + m ≤ length far.old) × Ready (rows_from rows.now) m order.now (key_runs own.now) }
+    ensures { (result ≡ carried_to (Some level) (numbered (rows_from rows.now) (key_runs own.now)) (runs_of (in_image (rows_from rows.now) (key_runs own.now)))) × (far.new ≡ carried_keys result (runs_of (in_image (rows_from rows.now) (key_runs own.now))) far.old) }
 {
-    let mut start = [0u16; 65];
-    let mut cut = [0u32; FEW_RUNS];
-    gather(own, n, to, rows, m, order, &mut cut, &mut start, far)
-}
-
-fn gather_many(
-    own: &[u32],
-    n: usize,
-    to: u8,
-    rows: &[u16],
-    m: usize,
-    order: &[u32],
-    far: &mut [u32],
-) -> Carried
-    requires { (n ≤ length own.now) × (120 + m ≤ length far.old) × Ready (rows_from rows.now) m order.now (key_runs (take n own.now)) }
-    ensures { (result ≡ carried_to (Level to) (numbered (rows_from rows.now) (key_runs (take n own.now))) (runs_of (in_image (rows_from rows.now) (key_runs (take n own.now))))) × (far.new ≡ carried_keys result (runs_of (in_image (rows_from rows.now) (key_runs (take n own.now)))) far.old) }
-{
-    let mut start = [0u16; 1025];
-    let mut cut = [0u32; MOST_RUNS];
-    gather(own, n, to, rows, m, order, &mut cut, &mut start, far)
+    let mut start = [0u16; PLACES];
+    let mut cut = [0u32; PIECES];
+    gather(own, level, rows, m, order, &mut cut, &mut start, far)
 }
 
 // Both passes, with room for the pieces and for each row's place among them.
 fn gather(
     own: &[u32],
-    n: usize,
-    to: u8,
+    level: u8,
     rows: &[u16],
     m: usize,
     order: &[u32],
     cut: &mut [u32],
     start: &mut [u16],
     far: &mut [u32],
-) -> Carried
-    requires { (n ≤ length own.now) × (120 + m ≤ length cut.old) × (m < length start.old) × (120 + m ≤ length far.old) × Ready (rows_from rows.now) m order.now (key_runs (take n own.now)) }
-    ensures { (result ≡ carried_to (Level to) (numbered (rows_from rows.now) (key_runs (take n own.now))) (runs_of (in_image (rows_from rows.now) (key_runs (take n own.now))))) × (far.new ≡ carried_keys result (runs_of (in_image (rows_from rows.now) (key_runs (take n own.now)))) far.old) }
+) -> Result<Carried, CarryError>
+    requires { (120 + m ≤ length cut.old) × (m < length start.old) × (120 + m ≤ length far.old) × Ready (rows_from rows.now) m order.now (key_runs own.now) }
+    ensures { (result ≡ carried_to (Some level) (numbered (rows_from rows.now) (key_runs own.now)) (runs_of (in_image (rows_from rows.now) (key_runs own.now)))) × (far.new ≡ carried_keys result (runs_of (in_image (rows_from rows.now) (key_runs own.now))) far.old) }
 {
-    if !cut_runs(own, n, rows, m, cut, start) {
-        return not_carried(16);
+    if !cut_runs(own, rows, m, cut, start) {
+        return Err(CarryError::NoNumber);
     }
-    let count = join_rows(cut, start, order, m, far);
-    Carried {
-        number: 0,
-        level: to,
-        count: count,
-    }
+    let count = join_rows(cut, start, &order[..m], far);
+    Ok(Carried { level, count })
 }
 
 // One pass over the m rows and the ranges: whether every category lies in a row, and the pieces that the rows cut out of the ranges, those of
 // one row behind those of the row before; for each row the place where its pieces begin.
-fn cut_runs(
-    own: &[u32],
-    n: usize,
-    rows: &[u16],
-    m: usize,
-    cut: &mut [u32],
-    start: &mut [u16],
-) -> bool
-    requires { (n ≤ length own.now) × (n ≤ 120) × (120 + m ≤ length cut.old) × (m < length start.old) × (m ≤ 1024) × (length (rows_from rows.now) ≡ m) × (rising 0 (rows_from rows.now) ≡ true) × (spaced 0 (key_runs (take n own.now)) ≡ true) }
-    ensures { Cut (rows_from rows.now) (key_runs (take n own.now)) result cut.new start.new }
+fn cut_runs(own: &[u32], rows: &[u16], m: usize, cut: &mut [u32], start: &mut [u16]) -> bool
+    requires { (length own.now ≤ 120) × (120 + m ≤ length cut.old) × (m < length start.old) × (m ≤ 1024) × (length (rows_from rows.now) ≡ m) × (rising 0 (rows_from rows.now) ≡ true) × (spaced 0 (key_runs own.now) ≡ true) }
+    ensures { Cut (rows_from rows.now) (key_runs own.now) result cut.new start.new }
 {
+    let n = own.len();
     let mut from: u32 = 0;
     let mut w: usize = 0;
     let mut i: usize = 0;
@@ -263,7 +201,7 @@ fn cut_runs(
         } else {
             let run = own[i];
             let row = read_row(rows, j);
-            let low = larger(run / 65536, from);
+            let low = (run / 65536).max(from);
             let high = run % 65536;
             let base = row.low as u32;
             let top = row.high as u32;
@@ -298,44 +236,22 @@ fn read_row(rows: &[u16], i: usize) -> Row
     ensures { result ≡ get_or (rows_from rows.now) i no_row }
 {
     let at = i * 3;
-    to_row(rows[at], rows[at + 1], rows[at + 2])
-}
-
-fn to_row(low: u16, high: u16, target: u16) -> Row
-    ensures { result ≡ row low high target }
-{
     Row {
-        low: low,
-        high: high,
-        target: target,
+        low: rows[at],
+        high: rows[at + 1],
+        target: rows[at + 2],
     }
 }
 
-fn larger(a: u32, b: u32) -> u32
-    ensures { result ≡ max a b }
-{
-    if a < b {
-        return b;
-    }
-    a
-}
-
-// The pieces of the first m rows in order, joined where they touch.
-fn join_rows(cut: &[u32], start: &[u16], order: &[u32], m: usize, keys: &mut [u32]) -> usize
-    requires { (m ≤ length order.now) × Inside (take m order.now) start.now cut.now × (length (parts_of (take m order.now) start.now cut.now) ≤ length keys.old) }
-    ensures { Joined (parts_of (take m order.now) start.now cut.now) keys.old result keys.new }
+// The pieces of the rows in order, joined where they touch.
+fn join_rows(cut: &[u32], start: &[u16], order: &[u32], keys: &mut [u32]) -> usize
+    requires { Inside order.now start.now cut.now × (length (parts_of order.now start.now cut.now) ≤ length keys.old) }
+    ensures { Joined (parts_of order.now start.now cut.now) keys.old result keys.new }
 {
     let mut w: usize = 0;
-    let mut k: usize = 0;
-    while k < m {
-        let x = order[k];
-        let j = (x % 65536) as usize;
-        let y = start[j];
-        let a = y as usize;
-        let z = start[j + 1];
-        let e = z as usize;
-        w = join_row(cut, a, e, keys, w);
-        k += 1;
+    for x in order {
+        let j = (*x % 65536) as usize;
+        w = join_row(cut, start[j] as usize, start[j + 1] as usize, keys, w);
     }
     w
 }
@@ -346,11 +262,8 @@ fn join_row(cut: &[u32], a: usize, e: usize, keys: &mut [u32], w: usize) -> usiz
     ensures { (w ≤ result) × (result ≤ w + length (drop a (take e cut.now))) × (drop result keys.new ≡ drop result keys.old) × (take result keys.new ≡ join_onto (take w keys.old) (drop a (take e cut.now))) }
 {
     let mut k = w;
-    let mut i = a;
-    while i < e {
-        let x = cut[i];
-        k = push_key(keys, k, x);
-        i += 1;
+    for i in a..e {
+        k = push_key(keys, k, cut[i]);
     }
     k
 }

@@ -1,13 +1,13 @@
 -- Laws of a list with a number for each place, and of the loops that make the list of partners.
 use mathlib.Core.Path.{◌≡◌, refl, sym, ◌∙◌, ap}
-use mathlib.Core.List.{List, [], ◌∷◌, ◌++◌}
-use Prim.Native.Nat.{ℕ, zero, suc, ◌+◌, ◌≤◌, ◌<◌}
+use mathlib.Core.List.{List, [], ◌∷◌, ◌++◌, map, reverse}
+use Prim.Native.Nat.{ℕ, zero, suc, ◌≤◌, ◌<◌}
 use native.Mathlib.Omega.{arith}
-use native.Mathlib.Numerals.{add-one}
 use native.Mathlib.Decide.{dec_le, ℕ_discrete}
 use lib.ListN.{length, take, drop, get_or, set, replicate, length-append, length-set, length-replicate, length-drop, take-append-drop, get_or-append}
 use lib.Seq.{drop_at, get_or_at, get_or-set_same, get_or-set_other, get_or-take, drop-set-lt, length-take-le, ext_get_or}
 use borrow.Author.Tests.{le-leb, lt-leb, eq-eqb, ne_eqb}
+use Rattle.std.proofs.lemmas.List.{map-append, reverse-append}
 use Rattle.table_levels.specs.Levels.{partner_of, partner_number}
 use Rattle.renumber_partners.specs.Partners.{tabled, partner_list, partners_in}
 
@@ -30,18 +30,22 @@ replicate_at zero x v d h = absurd (omega arith)
 replicate_at (suc n) x zero d h = refl
 replicate_at (suc n) x (suc v) d h = replicate_at n x v d (omega arith)
 
+-- one more of those that were seen, the last first
+pub seen_more : {A B : Type 0} (f : A → B) (ys : List A) (y : A) → reverse (map f (ys ++ (y ∷ []))) ≡ f y ∷ reverse (map f ys)
+seen_more f ys y = ap reverse (map-append f ys (y ∷ [])) ∙ reverse-append (map f ys) (f y ∷ [])
+
 -- The pairs from the last on are listed.
 pub record Listing (ps : List (List ℕ)) (was partners : List ℕ) : Type 0 where
   pub sized : length partners ≡ length was
   pub rest : drop 256 partners ≡ drop 256 was
   pub each : (v : ℕ) → v < 256 → get_or partners v 256 ≡ partner_number (partner_of ps v)
 
-pub listing_start : (was cleared : List ℕ) → cleared ≡ replicate 256 256 ++ drop 256 was → Listing [] cleared cleared
-listing_start was cleared e =
+pub listing_start : (was cleared : List ℕ) → 256 ≤ length was → cleared ≡ replicate 256 256 ++ drop 256 was → Listing [] was cleared
+listing_start was cleared h e =
     let l : length (replicate {A = ℕ} 256 256) ≡ 256 = length-replicate {A = ℕ} 256 256 in
     record {
-      sized = refl;
-      rest = refl;
+      sized = ap length e ∙ length-append (replicate 256 256) (drop 256 was) ∙ omega (arith, l, length-drop 256 was);
+      rest = ap (drop 256) e ∙ drop_at (replicate 256 256) (drop 256 was) 256 l;
       each = λ v w. ap (λ (z : List ℕ). get_or z v 256) e ∙ get_or-append (replicate 256 256) (drop 256 was) 256 v (omega (arith, l)) ∙ replicate_at 256 256 v 256 w;
     }
 
@@ -60,7 +64,7 @@ listing_next p ps was partners a b h s ea eb l =
       ];
     }
 
-listing_end : (ps : List (List ℕ)) (was partners : List ℕ) → 256 ≤ length was → Listing ps was partners → partners ≡ partners_in ps was
+pub listing_end : (ps : List (List ℕ)) (was partners : List ℕ) → 256 ≤ length was → Listing ps was partners → partners ≡ partners_in ps was
 unfolding partners_in
 listing_end ps was partners h s =
     let n : length (take 256 partners) ≡ 256 = length-take-le 256 partners (omega (arith, s.sized)) in
@@ -69,27 +73,9 @@ listing_end ps was partners h s =
     (λ v w. let u : v < 256 = omega (arith, n) in get_or-take 256 partners v 256 u ∙ s.each v u ∙ sym (tabled_at 256 (λ k. partner_number (partner_of ps k)) v 256 u)) in
     sym (take-append-drop 256 partners) ∙ ap (λ (z : List ℕ). z ++ drop 256 partners) t ∙ ap (λ (z : List ℕ). partner_list ps ++ z) s.rest ∙ sym (rw (le-leb 256 (length was) h))
 
--- what was behind the places of the levels is there still
-pub listing_all : (ps : List (List ℕ)) (was cleared partners : List ℕ) → 256 ≤ length was → length cleared ≡ length was → cleared ≡ replicate 256 256 ++ drop 256 was → Listing ps cleared partners → partners ≡ partners_in ps was
-listing_all ps was cleared partners h n e s =
-    let l : length (replicate {A = ℕ} 256 256) ≡ 256 = length-replicate {A = ℕ} 256 256 in
-    listing_end ps was partners h (record { sized = s.sized ∙ n; rest = s.rest ∙ ap (drop 256) e ∙ drop_at (replicate 256 256) (drop 256 was) 256 l; each = s.each })
-
 pub listing_short : (ps : List (List ℕ)) (was : List ℕ) → length was < 256 → was ≡ partners_in ps was
 unfolding partners_in
 listing_short ps was h = sym (rw (lt-leb 256 (length was) h))
-
--- one more place with the number
-pub fill_more : (x : ℕ) (out : List ℕ) (i : ℕ) → i < length out → set (replicate i x ++ drop i out) i x ≡ replicate (i + 1) x ++ drop (i + 1) out
-fill_more x out i h = rw (add-one i) (go out i h)
-  where
-    go : (l : List ℕ) (k : ℕ) → k < length l → set (replicate k x ++ drop k l) k x ≡ replicate (suc k) x ++ drop (suc k) l
-    go [] k u = absurd (omega arith)
-    go (y ∷ l) zero u = refl
-    go (y ∷ l) (suc k) u = ap (λ (z : List ℕ). x ∷ z) (go l k (omega arith))
-
-pub fill_long : (x : ℕ) (out l : List ℕ) (i : ℕ) → i ≤ length out → l ≡ replicate i x ++ drop i out → length l ≡ length out
-fill_long x out l i h e = ap length e ∙ length-append (replicate i x) (drop i out) ∙ omega (arith, length-replicate {A = ℕ} i x, length-drop i out)
 
 -- what is there does not depend on the number that stands for what is not
 pub any_default : (l : List ℕ) (i c d : ℕ) → i < length l → get_or l i c ≡ get_or l i d

@@ -5,15 +5,17 @@ use mathlib.Core.List.{List, ◌++◌}
 use Prim.Native.Nat.{ℕ, ◌*◌, ◌/◌, ◌≤◌, ◌<◌}
 use native.Mathlib.Omega.{arith}
 use lib.ListN.{length, take, drop, length-append}
-use lib.Seq.{take_at}
+use lib.Seq.{take_at, take_all, length-take-le}
 use borrow.Author.Tests.{le-leb, lt-leb}
+use Rattle.std.specs.Prelude.{Ok, Err}
+use Rattle.table.specs.declared.Row.{Row}
 use Rattle.table.specs.Table.{Lent, row_numbers, used_rows, table_sound}
 use Rattle.table.specs.Order.{row_order, order_of}
 use Rattle.table.proofs.Sound.{sound, sound_rows}
 use Rattle.table.proofs.Order.{order_length}
 use Rattle.renumber_keys.proofs.Ready.{order_is}
-use Rattle.renumber_reverse.specs.declared.Reversed.{Reversed}
-use Rattle.renumber_reverse.specs.Reverse.{turned_rows, reverse_table, reversed_of, not_reversed, with_rows}
+use Rattle.renumber_reverse.specs.declared.ReverseError.TheVariants.{Unsound, Short}
+use Rattle.renumber_reverse.specs.Reverse.{Reversed, turned_rows, reverse_table, reversed_of, with_rows}
 use Rattle.renumber_reverse.specs.Stages.{InOrder}
 
 module _ (t : Lent) (ls : List (List ℕ)) where
@@ -30,7 +32,7 @@ module _ (t : Lent) (ls : List (List ℕ)) where
         along = ap (take t.count) a ∙ take_at (row_order (used_rows t)) (drop t.count was) t.count n;
       }
 
-  pub reversed_unsound : (room : ℕ) → table_sound t ls ≡ false → not_reversed 2 ≡ reversed_of t ls room
+  pub reversed_unsound : (room : ℕ) → table_sound t ls ≡ false → Err Unsound ≡ reversed_of t ls room
   unfolding reversed_of
   reversed_unsound room s = sym (rw s)
 
@@ -38,7 +40,7 @@ module _ (t : Lent) (ls : List (List ℕ)) where
   unfolding with_rows
   rows_unsound was s = sym (rw s)
 
-  pub reversed_short : (room : ℕ) → table_sound t ls ≡ true → room < t.count → not_reversed 24 ≡ reversed_of t ls room
+  pub reversed_short : (room : ℕ) → table_sound t ls ≡ true → room < t.count → Err Short ≡ reversed_of t ls room
   unfolding reversed_of
   reversed_short room s h = sym (rw (s, lt-leb t.count room h))
 
@@ -47,7 +49,7 @@ module _ (t : Lent) (ls : List (List ℕ)) where
   rows_short was s h = sym (rw (s, lt-leb t.count (length was / 3) h))
 
   pub reversed_done : (room : ℕ) → table_sound t ls ≡ true → t.count ≤ room
-      → ◌≡◌ {A = Reversed} (record { number = 0; table = record { from = t.to; to = t.from; pairs = t.pairs; count = t.count } }) (reversed_of t ls room)
+      → ◌≡◌ {A = Reversed} (Ok (record { from = t.to; to = t.from; pairs = t.pairs; count = t.count })) (reversed_of t ls room)
   unfolding reversed_of
   reversed_done room s h = sym (rw (s, le-leb t.count room h))
 
@@ -55,3 +57,15 @@ module _ (t : Lent) (ls : List (List ℕ)) where
       → rows ≡ row_numbers (turned_rows (used_rows t)) ++ drop (t.count * 3) was → rows ≡ with_rows t ls was
   unfolding with_rows reverse_table
   rows_done was rows s h e = e ∙ sym (rw (s, le-leb t.count (length was / 3) h))
+
+-- the same of the first n of the list alone
+pub first_order : (rs : List Row) (n : ℕ) (order : List ℕ) → InOrder rs n order → InOrder rs (length (take n order)) (take n order)
+first_order rs n order o =
+    let l : length (take n order) ≡ n = length-take-le n order o.long in
+    record {
+      rise = o.rise;
+      held = omega (arith, o.held);
+      counted = o.counted ∙ sym l;
+      long = omega arith;
+      along = take_all (length (take n order)) (take n order) (omega arith) ∙ o.along;
+    }

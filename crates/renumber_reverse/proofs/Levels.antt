@@ -8,8 +8,8 @@ use native.Mathlib.Omega.{arith}
 use lib.Dec.{leb, eqb}
 use lib.ListN.{length, take, drop, get_or}
 use borrow.Author.Tests.{eqb-true, eq-eqb, ne_eqb}
+use Rattle.std.specs.Prelude.{Some}
 use Rattle.label.proofs.Bools.{and_left, and_right}
-use Rattle.table_levels.specs.declared.Partner.TheVariants.{Level}
 use Rattle.table_levels.specs.Levels.{levels_rise, unused_pairs, level_numbers, partner_of}
 use Rattle.table_levels.proofs.Partners.{partner_cases, missing_not, partner_from_lem}
 use Rattle.renumber_reverse.specs.Reverse.{turned_pair, turned_levels, in_twos}
@@ -44,12 +44,12 @@ pairs_numbers [] = refl
 pairs_numbers (p ∷ ps) = rw (pairs_numbers ps) (and_swap (leb (get_or p 1 0) 255) (leb (get_or p 0 0) 255) (level_numbers ps))
 
 -- the partner's partner is the level
-pub partner_back : (f g : ℕ) (ps : List (List ℕ)) (v w : ℕ) → levels_rise f g ps ≡ true → partner_of ps v ≡ Level w → partner_of (turned_levels ps) w ≡ Level v
+pub partner_back : (f g : ℕ) (ps : List (List ℕ)) (v w : ℕ) → levels_rise f g ps ≡ true → partner_of ps v ≡ Some w → partner_of (turned_levels ps) w ≡ Some v
 partner_back f g [] v w e h = absurd (missing_not w h)
 partner_back f g (p ∷ ps) v w e h =
     let e2 = and_right (leb g (get_or p 1 0)) _ (and_right (leb f (get_or p 0 0)) _ e) in
     ⊎_elim
-    (λ q. rw (eq-eqb (get_or p 1 0) w q.1) (ap Level q.0))
+    (λ q. rw (eq-eqb (get_or p 1 0) w q.1) (ap Some q.0))
     (λ q. let s = partner_from_lem (get_or p 0 0 + 1) (get_or p 1 0 + 1) ps v w e2 q in
     rw (ne_eqb (get_or p 1 0) w (λ z. omega (arith, s.second))) (partner_back (get_or p 0 0 + 1) (get_or p 1 0 + 1) ps v w e2 q))
     (partner_cases p ps v w h)

@@ -1,10 +1,12 @@
 -- Document 02, wish 11: the reverse of a renumbering table, "each row turned round". House: its rows are in the order of their new sources, and its
 -- level pairs are turned round too.
-use Rattle.std.specs.Prelude.{Bool, true, cond, ◌&&◌, List, [], ◌∷◌, ◌++◌, map, ℕ, ◌*◌, ◌/◌, leb, eqb, length, drop, get_or}
+use Rattle.std.specs.Prelude.{Bool, true, cond, ◌&&◌, List, [], ◌∷◌, ◌++◌, map, ℕ, ◌*◌, ◌/◌, leb, eqb, length, drop, get_or, Result, Ok, Err}
 use Rattle.table.specs.declared.Row.{Row}
+use Rattle.table.specs.declared.Table.{Table}
 use Rattle.table.specs.Table.{Lent, row_numbers, used_rows, target_end, table_sound}
 use Rattle.table.specs.Order.{in_order}
-use Rattle.renumber_reverse.specs.declared.Reversed.{Reversed}
+use Rattle.renumber_reverse.specs.declared.ReverseError.{ReverseError}
+use Rattle.renumber_reverse.specs.declared.ReverseError.TheVariants.{Unsound, Short}
 
 -- a row turned round: the numbers that it gave go back to their categories
 abbrev pub turned_row : Row → Row
@@ -29,16 +31,19 @@ in_twos (p ∷ ps) = eqb (length p) 2 && in_twos ps
 unfoldable pub reverse_table : Lent → Lent
 reverse_table t = record { from = t.to; to = t.from; pairs = t.pairs; count = t.count; rows = row_numbers (turned_rows (used_rows t)) }
 
--- a refusal: every other number is 0
-abbrev pub not_reversed : ℕ → Reversed
-not_reversed n = record { number = n; table = record { from = 0; to = 0; pairs = 0; count = 0 } }
+-- what reversing answers: the table without its rows and its level pairs, or a refusal
+abbrev pub Reversed : Type 0
+Reversed = Result Table ReverseError
+
+-- the numbers of the refusals
+abbrev pub number_of : ReverseError → ℕ
+number_of Unsound = 2
+number_of Short = 24
 
 -- 2 for an unsound table, then 24 where the lent room has a place for fewer rows
 unfoldable pub reversed_of : Lent → List (List ℕ) → ℕ → Reversed
 reversed_of t ls room =
-    cond (table_sound t ls)
-    (cond (leb t.count room) (record { number = 0; table = record { from = t.to; to = t.from; pairs = t.pairs; count = t.count } }) (not_reversed 24))
-    (not_reversed 2)
+    cond (table_sound t ls) (cond (leb t.count room) (Ok (record { from = t.to; to = t.from; pairs = t.pairs; count = t.count })) (Err Short)) (Err Unsound)
 
 -- the list with the reverse table's rows at its head, or as it was on a refusal
 unfoldable pub with_rows : Lent → List (List ℕ) → List ℕ → List ℕ

@@ -3,57 +3,67 @@
 
 ghost use Rattle.std.specs.Prelude.{◌≡◌, ◌++◌, ◌*◌, ◌/◌, ◌≤◌, length, drop};
 ghost use Rattle.table.specs.Table.{row_numbers, lent, rows_from, target_end};
-ghost use Rattle.renumber_reverse.specs.Reverse.{turned_row, turned_rows, turned_levels, reversed_of, not_reversed, with_rows};
+ghost use Rattle.renumber_reverse.specs.Reverse.{turned_row, turned_rows, turned_pair, turned_levels, number_of, reversed_of, with_rows};
 ghost use Rattle.renumber_reverse.specs.Stages.{InOrder};
 
 use table::{FEW_ROWS, MAX_ROWS, Row, Table, row_at, table_order};
 use table_levels::Levels;
 
-// A refusal's number with an all-zero table, or 0 and the reverse table without its rows and its level pairs.
+// Why a table was not reversed.
 #[derive(Clone, Copy)]
-pub struct Reversed {
-    pub number: u8,
-    pub table: Table,
+pub enum ReverseError {
+    // 2: an unsound table
+    Unsound,
+    // 24: too short a list for the rows
+    Short,
 }
 
-// The reverse table, with its rows in the lent list, three numbers each: low, high and target; `reverse_levels` gives its level pairs. 2 for an
+// The refusal's number in document 02.
+impl From<ReverseError> for u8 {
+    ghost from_gives = { λ e n. n ≡ number_of e };
+
+    fn from(error: ReverseError) -> u8 {
+        match error {
+            ReverseError::Unsound => 2,
+            ReverseError::Short => 24,
+        }
+    }
+}
+
+// The reverse table without its rows and its level pairs; its rows are in the lent list, three numbers each: low, high and target; `reverse_levels` gives its level pairs. 2 for an
 // unsound table, then 24 where the list has too few places; then it stays as it was, as does what lies past the rows.
-pub fn reverse(table: Table, rows: &[u16], levels: Levels, back: &mut [u16]) -> Reversed
+pub fn reverse(
+    table: Table,
+    rows: &[u16],
+    levels: Levels,
+    back: &mut [u16],
+) -> Result<Table, ReverseError>
     ensures { (result ≡ reversed_of (lent table rows.now) levels (length back.old / 3)) × (back.new ≡ with_rows (lent table rows.now) levels back.old) }
 {
     if table.count <= FEW_ROWS {
-        return reverse_few(table, rows, levels, back);
+        return reverse_in::<FEW_ROWS>(table, rows, levels, back);
     }
-    reverse_many(table, rows, levels, back)
+    reverse_in::<MAX_ROWS>(table, rows, levels, back)
 }
 
 // Each level pair turned round.
 pub fn reverse_levels(levels: Levels) -> Levels
     ensures { result ≡ turned_levels levels }
 {
-    let mut out = [[0u8; 2]; 256];
-    let mut i: usize = 0;
-    while i < 256 {
-        let pair = levels[i];
-        out[i] = [pair[1], pair[0]];
-        i += 1;
-    }
-    out
+    levels.map(turn_pair)
 }
 
-// The same with little room for the rows' order, and with much.
-fn reverse_few(table: Table, rows: &[u16], levels: Levels, back: &mut [u16]) -> Reversed
-    requires { table.count ≤ 64 }
+// The same with room for the order of so many rows.
+fn reverse_in<const ROWS: usize>(
+    table: Table,
+    rows: &[u16],
+    levels: Levels,
+    back: &mut [u16],
+) -> Result<Table, ReverseError>
+    requires { (ROWS ≤ 1024) × (table.count ≤ 1024 → table.count ≤ ROWS) }
     ensures { (result ≡ reversed_of (lent table rows.now) levels (length back.old / 3)) × (back.new ≡ with_rows (lent table rows.now) levels back.old) }
 {
-    let mut order = [0u32; FEW_ROWS];
-    reverse_by(table, rows, levels, &mut order, back)
-}
-
-fn reverse_many(table: Table, rows: &[u16], levels: Levels, back: &mut [u16]) -> Reversed
-    ensures { (result ≡ reversed_of (lent table rows.now) levels (length back.old / 3)) × (back.new ≡ with_rows (lent table rows.now) levels back.old) }
-{
-    let mut order = [0u32; MAX_ROWS];
+    let mut order = [0u32; ROWS];
     reverse_by(table, rows, levels, &mut order, back)
 }
 
@@ -63,41 +73,24 @@ fn reverse_by(
     levels: Levels,
     order: &mut [u32],
     back: &mut [u16],
-) -> Reversed
+) -> Result<Table, ReverseError>
     requires { table.count ≤ 1024 → table.count ≤ length order.old }
     ensures { (result ≡ reversed_of (lent table rows.now) levels (length back.old / 3)) × (back.new ≡ with_rows (lent table rows.now) levels back.old) }
 {
     if !table_order(table, rows, levels, order) {
-        return not_reversed(2);
+        return Err(ReverseError::Unsound);
     }
     let n = table.count;
     if back.len() / 3 < n {
-        return not_reversed(24);
+        return Err(ReverseError::Short);
     }
-    write_rows(rows, n, order, back);
-    Reversed {
-        number: 0,
-        table: Table {
-            from: table.to,
-            to: table.from,
-            pairs: table.pairs,
-            count: n,
-        },
-    }
-}
-
-fn not_reversed(number: u8) -> Reversed
-    ensures { result ≡ not_reversed number }
-{
-    Reversed {
-        number: number,
-        table: Table {
-            from: 0,
-            to: 0,
-            pairs: 0,
-            count: 0,
-        },
-    }
+    write_rows(rows, &order[..n], back);
+    Ok(Table {
+        from: table.to,
+        to: table.from,
+        pairs: table.pairs,
+        count: n,
+    })
 }
 
 // A row turned round.
@@ -112,20 +105,23 @@ fn turn(row: Row) -> Row
     }
 }
 
-// The rows turned round in the order of their targets, in a lent list.
-fn write_rows(rows: &[u16], n: usize, order: &[u32], back: &mut [u16])
-    requires { InOrder (rows_from rows.now) n order.now × (n * 3 ≤ length back.old) }
-    ensures { back.new ≡ row_numbers (turned_rows (rows_from rows.now)) ++ drop (n * 3) back.old }
+// A level pair turned round.
+fn turn_pair(pair: [u8; 2]) -> [u8; 2]
+    ensures { result ≡ turned_pair pair }
 {
-    let mut i: usize = 0;
-    while i < n {
-        let k = order[i];
-        let j = (k % 65536) as usize;
-        let row = row_at(rows, j);
+    [pair[1], pair[0]]
+}
+
+// The rows turned round in the order of their targets, in a lent list.
+fn write_rows(rows: &[u16], order: &[u32], back: &mut [u16])
+    requires { InOrder (rows_from rows.now) (length order.now) order.now × (length order.now * 3 ≤ length back.old) }
+    ensures { back.new ≡ row_numbers (turned_rows (rows_from rows.now)) ++ drop (length order.now * 3) back.old }
+{
+    for (i, key) in order.iter().enumerate() {
+        let row = row_at(rows, (*key % 65536) as usize);
         let turned = turn(row);
         back[i * 3] = turned.low;
         back[i * 3 + 1] = turned.high;
         back[i * 3 + 2] = turned.target;
-        i += 1;
     }
 }

@@ -1,34 +1,34 @@
 -- The theorem that carrying by search is carrying, for sound tables (`specs/Theorems.antt`).
 use mathlib.Core.Path.{◌≡◌, refl, sym, ◌∙◌, ap}
-use mathlib.Core.Bool.{Bool, true, false, cond, not, ◌&&◌, ◌||◌, and-false}
+use mathlib.Core.Bool.{Bool, true, false, cond, not, ◌&&◌, ◌||◌}
 use mathlib.Core.List.{List, [], ◌∷◌, map}
 use Prim.Native.Nat.{ℕ, suc, ◌+◌, ◌-◌, ◌≤◌, min}
 use native.Mathlib.Omega.{arith}
 use lib.Dec.{leb}
 use lib.ListN.{length, take, drop, length-map, length-append, length-drop}
 use borrow.Author.Tests.{le-leb, leb-true}
+use Rattle.std.specs.Prelude.{None, Some}
 use Rattle.label.specs.declared.Run.{Run}
 use Rattle.label.specs.Runs.{in_run, covers, spaced}
 use Rattle.label.proofs.Bools.{and_left, and_right}
 use Rattle.label_keys.specs.Keys.{key_run, key_runs, run_key}
 use Rattle.lists_sort.specs.Order.{Sorted, all, sort_keys}
 use Rattle.lists_sort.proofs.Laws.{sort_sorted, sort_all}
-use Rattle.table_levels.specs.declared.Partner.{Partner}
-use Rattle.table_levels.specs.Levels.{partner_of, known, level_or0}
+use Rattle.table_levels.specs.Levels.{Partner, partner_of}
 use Rattle.table.specs.declared.Row.{Row}
 use Rattle.table.specs.Table.{Lent, used_rows, rising, table_sound}
 use Rattle.table.specs.Numbers.{numbered, in_image}
 use Rattle.table.proofs.Sound.{sound, sound_rows}
 use Rattle.renumber_keys.specs.Sets.{runs_of}
-use Rattle.renumber_keys.specs.Carry.{image_of, label_runs, not_carried, carried_to, carry_of}
+use Rattle.renumber_keys.specs.Carry.{image_of, label_runs, carried_to, carry_of}
 use Rattle.renumber_keys.specs.Stages.{join_all, piece_key, pieces, Key}
 use Rattle.renumber_keys.proofs.Join.{all_covers, all_spaced}
 use Rattle.renumber_keys.proofs.Pass.{image_hits}
 use Rattle.renumber_keys.proofs.Pieces.{rise_giving, pieces_keys, pieces_hits}
 use Rattle.renumber_keys.proofs.Sets.{the_runs}
 use Rattle.renumber_keys.proofs.Carrying.{runs_label, all_few, there_back, carry_checked}
-use Rattle.renumber_search.specs.Search.{bisect, gives_to, RunCut, cut_none, cut_last, cut_more, run_cut, cuts_on, cuts_from, room_for, over, searched_to, searched_of, searched_keys}
-use Rattle.renumber_search.specs.Theorems.{Carrying, SearchCarries}
+use Rattle.renumber_search.specs.Search.{bisect, gives_to, RunCut, cut_none, cut_last, cut_more, run_cut, cuts_on, cuts_from, room_for, over, searched_of, searched_keys}
+use Rattle.renumber_search.specs.Theorems.{carried_where, Carrying, SearchCarries}
 use Rattle.renumber_search.proofs.Search.{search_cuts}
 use Rattle.renumber_search.proofs.Bisecting.{bisect_on}
 use Rattle.renumber_search.proofs.Cuts.{run_few}
@@ -80,13 +80,13 @@ module _ (rows : List Row) (runs : List Run) (up : rising 0 rows ≡ true) (sp :
     joined_many : length (join_all (sort_keys ks)) ≡ length (runs_of (in_image rows runs))
     joined_many = ap length joined_is ∙ length-map (runs_of (in_image rows runs)) run_key
 
-  answer_is : (room : ℕ) → length runs + length rows ≤ room → searched_of rows runs room ≡ cond (numbered rows runs) (searched_to true (length (runs_of (in_image rows runs)))) (searched_to false 0)
+  answer_is : (room : ℕ) → length runs + length rows ≤ room → searched_of rows runs room ≡ cond (numbered rows runs) (Some (length (runs_of (in_image rows runs)))) None
   unfolding searched_of
   answer_is room h = rw (room_yes room h, whole_is) (go (numbered rows runs) joined_many)
     where
       go : (b : Bool) → (b ≡ true → length (join_all (sort_keys ks)) ≡ length (runs_of (in_image rows runs)))
-          → cond b (searched_to true (length (join_all (sort_keys ks)))) (searched_to false 0) ≡ cond b (searched_to true (length (runs_of (in_image rows runs)))) (searched_to false 0)
-      go true e = ap (searched_to true) (e refl)
+          → cond b (Some (length (join_all (sort_keys ks)))) None ≡ cond b (Some (length (runs_of (in_image rows runs)))) None
+      go true e = ap Some (e refl)
       go false e = refl
 
   keys_are : (far : List ℕ) → length runs + length rows ≤ length far → numbered rows runs ≡ true → take (length (runs_of (in_image rows runs))) (searched_keys rows runs far) ≡ map run_key (runs_of (in_image rows runs))
@@ -146,13 +146,11 @@ searched_sized rows runs far = go (room_for (length runs) (length rows) (length 
     go true false e = over_sized (cuts_from rows 0 runs).keys far (few e)
     go false w e = refl
 
-carried_cases : (p : Partner) (b : Bool) (image : List Run) → carried_to p b image
-    ≡ cond (known p && (cond b (searched_to true (length image)) (searched_to false 0)).whole)
-    (record { number = 0; level = level_or0 p; count = (cond b (searched_to true (length image)) (searched_to false 0)).count })
-    (not_carried 16)
+carried_cases : (p : Partner) (b : Bool) (image : List Run) → carried_to p b image ≡ carried_where p (cond b (Some (length image)) None)
 unfolding carried_to
-carried_cases p true image = refl
-carried_cases p false image = rw (and-false (known p))
+carried_cases None b image = refl
+carried_cases (Some v) true image = refl
+carried_cases (Some v) false image = refl
 
 module _ (t : Lent) (ls : List (List ℕ)) (rs : List Run) (s : table_sound t ls ≡ true) (f : label_runs rs ≡ true) where
   rise : rising 0 (used_rows t) ≡ true
@@ -171,11 +169,7 @@ module _ (t : Lent) (ls : List (List ℕ)) (rs : List Run) (s : table_sound t ls
         keys = λ far h w. keys_are (used_rows t) rs rise spaced_runs far (enough (length far) h) w;
       }
 
-  by_search : (v room : ℕ) → 120 + t.count ≤ room →
-      carry_of rs v t ls room
-      ≡ cond (known (partner_of (take t.pairs ls) v) && (searched_of (used_rows t) rs room).whole)
-      (record { number = 0; level = level_or0 (partner_of (take t.pairs ls) v); count = (searched_of (used_rows t) rs room).count })
-      (not_carried 16)
+  by_search : (v room : ℕ) → 120 + t.count ≤ room → carry_of rs v t ls room ≡ carried_where (partner_of (take t.pairs ls) v) (searched_of (used_rows t) rs room)
   by_search v room h = carry_checked rs v t ls room s f h ∙ rw (carrying.answer room h) (carried_cases (partner_of (take t.pairs ls) v) (numbered (used_rows t) rs) (image_of t rs))
 
 pub search_carries : SearchCarries

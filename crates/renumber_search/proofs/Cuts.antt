@@ -5,17 +5,20 @@ use mathlib.Core.List.{List, [], ◌∷◌, ◌++◌, append_assoc, append-nil}
 use Prim.Native.Nat.{ℕ, suc, ◌+◌, ◌-◌, ◌≤◌, ◌<◌, min}
 use native.Mathlib.Omega.{arith}
 use lib.Dec.{leb}
-use lib.ListN.{length, take, drop, get_or, set, length-append, length-set, length-drop, drop_of_length-le}
+use lib.ListN.{length, take, drop, get_or, set, length-append, length-set, length-drop, length-map, drop_of_length-le, get_or-map}
 use lib.Seq.{set_at, append_snoc, length-take-le, drop-cons, drop-drop, take_at, drop_at}
 use borrow.Author.Tests.{le-leb, lt-leb, leb-true}
 use Rattle.label.proofs.Bools.{never, and_left, and_right}
 use Rattle.lists.specs.Lists.{paint}
 use Rattle.lists.proofs.Laws.{paint_none}
 use Rattle.label.specs.declared.Run.{Run}
+use Rattle.label.proofs.Steps.{next}
+use Rattle.label_keys.specs.Keys.{key_run, key_runs}
 use Rattle.table.specs.declared.Row.{Row}
+use Rattle.table.specs.Table.{no_row}
 use Rattle.renumber_keys.specs.Stages.{piece_key}
 use Rattle.renumber_search.specs.Search.{bisect, gives_to, RunCut, cut_none, cut_last, cut_more, run_cut, Cuts, cuts_on, cuts_from, over}
-use Rattle.renumber_search.specs.Stages.{RunIsCut, AllCut}
+use Rattle.renumber_search.specs.Stages.{RunIsCut, RunFails, AllCut, AllFail}
 use Rattle.renumber_search.proofs.Bisecting.{bisect_on}
 
 -- One number more behind those that were written
@@ -62,6 +65,9 @@ pub cutting_start : (rs : List Row) (row w low high : ℕ) (was : List ℕ) → 
 cutting_start rs row w low high was =
     record { cut = []; answer = refl; keys = refl; passed = omega arith; place = omega arith; count = omega arith; written = sym (paint_none w was); sized = refl }
 
+pub row_at_hand : (rs : List Row) (j : ℕ) (r : Row) → j < length rs → r ≡ get_or rs j no_row → drop j rs ≡ r ∷ drop (j + 1) rs
+row_at_hand rs j r l e = next no_row rs j l ∙ ap (λ (z : Row). z ∷ drop (j + 1) rs) (sym e)
+
 -- the row at hand: it gives a category no number, it ends the run, or it parts it
 module _ (rs : List Row) (j low high : ℕ) (r : Row) (e : drop j rs ≡ r ∷ drop (j + 1) rs) where
   pub row_none : gives_to r low (min high r.high) ≡ false → run_cut (drop j rs) low high ≡ cut_none
@@ -82,13 +88,11 @@ module _ (rs : List Row) (row w high : ℕ) (c : RunCut) (was : List ℕ) (j k l
   pub cutting_room : j < length rs → k < length far
   cutting_room h = omega (arith, s.sized, s.place, s.count)
 
-  pub cutting_stop : run_cut (drop j rs) low high ≡ cut_none → RunIsCut c row w false j k was far
+  pub cutting_stop : run_cut (drop j rs) low high ≡ cut_none → RunFails c w was far
   cutting_stop e =
       let ks : c.keys ≡ s.cut = s.keys ∙ ap (λ (z : RunCut). s.cut ++ z.keys) e ∙ append-nil s.cut in
       record {
-        answer = sym (s.answer ∙ ap (λ (z : RunCut). z.whole) e);
-        here = λ f. absurd (let z : ◌≡◌ {A = ℕ} 0 1 = cc in omega arith);
-        many = rw ks s.count;
+        fails = s.answer ∙ ap (λ (z : RunCut). z.whole) e;
         written = rw ks s.written;
       }
 
@@ -102,13 +106,13 @@ module _ (rs : List Row) (row w high : ℕ) (c : RunCut) (was : List ℕ) (j k l
     more_many : length (s.cut ++ (p ∷ [])) ≡ length s.cut + 1
     more_many = length-append s.cut (p ∷ [])
 
-    pub cutting_end : run_cut (drop j rs) low high ≡ cut_last p → RunIsCut c row w true j (k + 1) was (set far k p)
+    pub cutting_end : run_cut (drop j rs) low high ≡ cut_last p → RunIsCut c row w j (k + 1) was (set far k p)
     cutting_end e =
         let ks : c.keys ≡ s.cut ++ (p ∷ []) = s.keys ∙ ap (λ (z : RunCut). s.cut ++ z.keys) e in
         let ps : c.passed ≡ length s.cut + 0 = s.passed ∙ ap (λ (z : RunCut). length s.cut + z.passed) e in
         record {
-          answer = sym (s.answer ∙ ap (λ (z : RunCut). z.whole) e);
-          here = λ f. omega (arith, s.place);
+          whole = s.answer ∙ ap (λ (z : RunCut). z.whole) e;
+          here = omega (arith, s.place, ps);
           many = rw ks (omega (arith, s.count, more_many));
           written = rw ks more_written;
         }
@@ -157,10 +161,13 @@ pub record AllCutting (rs : List Row) (runs : List Run) (was : List ℕ) (w i j 
 pub all_start : (rs : List Row) (runs : List Run) (was : List ℕ) → AllCutting rs runs was 0 0 0 was
 all_start rs runs was = record { cut = []; answer = refl; keys = refl; count = refl; few = omega arith; inside = omega arith; written = refl; sized = refl }
 
-pub all_end : (rs : List Row) (runs : List Run) (was : List ℕ) (w i j : ℕ) (far : List ℕ) → AllCutting rs runs was w i j far → drop i runs ≡ [] → AllCut (cuts_from rs 0 runs) true w was far
+pub all_end : (rs : List Row) (runs : List Run) (was : List ℕ) (w i j : ℕ) (far : List ℕ) → AllCutting rs runs was w i j far → drop i runs ≡ [] → AllCut (cuts_from rs 0 runs) w was far
 all_end rs runs was w i j far s e =
     let ks : (cuts_from rs 0 runs).keys ≡ s.cut = s.keys ∙ ap (λ (z : List Run). s.cut ++ (cuts_from rs j z).keys) e ∙ append-nil s.cut in
-    record { answer = sym (s.answer ∙ ap (λ (z : List Run). (cuts_from rs j z).whole) e); many = s.count ∙ ap length (sym ks); written = s.written ∙ ap (λ (z : List ℕ). over z was) (sym ks) }
+    record { whole = s.answer ∙ ap (λ (z : List Run). (cuts_from rs j z).whole) e; many = s.count ∙ ap length (sym ks); written = s.written ∙ ap (λ (z : List ℕ). over z was) (sym ks) }
+
+pub run_at_hand : (ks : List ℕ) (i : ℕ) → i < length ks → drop i (key_runs ks) ≡ key_run (get_or ks i 0) ∷ drop (i + 1) (key_runs ks)
+run_at_hand ks i h = next (key_run 0) (key_runs ks) i (rw length-map h) ∙ ap (λ (z : Run). z ∷ drop (i + 1) (key_runs ks)) (get_or-map key_run ks i 0)
 
 -- The run at hand, from the row that the search found for it.
 module _ (rs : List Row) (runs : List Run) (was : List ℕ) (w i j : ℕ) (far : List ℕ) (s : AllCutting rs runs was w i j far) (x : Run) (e : drop i runs ≡ x ∷ drop (i + 1) runs)
@@ -177,7 +184,7 @@ module _ (rs : List Row) (runs : List Run) (was : List ℕ) (w i j : ℕ) (far :
   is_cut : cuts_from rs j (drop i runs) ≡ cuts_on cut_run (cuts_from rs (first + cut_run.passed) (drop (i + 1) runs))
   is_cut = ap (cuts_from rs j) e ∙ ap (λ (f : ℕ). cuts_on (run_cut (drop f rs) x.low x.high) (cuts_from rs (f + (run_cut (drop f rs) x.low x.high).passed) (drop (i + 1) runs))) (sym q)
 
-  module _ (at count : ℕ) (far' : List ℕ) where
+  module _ (far' : List ℕ) where
     -- the pieces of the run are written behind the others
     over_more : far' ≡ paint w cut_run.keys far → far' ≡ over (s.cut ++ cut_run.keys) was
     over_more p =
@@ -186,22 +193,21 @@ module _ (rs : List Row) (runs : List Run) (was : List ℕ) (w i j : ℕ) (far :
         ∙ ap (λ (z : ℕ). paint z cut_run.keys (over s.cut was)) s.count
         ∙ paint_over s.cut cut_run.keys was
 
-    pub all_stop : RunIsCut cut_run first w false at count far far' → AllCut (cuts_from rs 0 runs) false count was far'
+    pub all_stop : RunFails cut_run w far far' → AllFail (cuts_from rs 0 runs) was far'
     all_stop r =
-        let c : cuts_from rs j (drop i runs) ≡ record { whole = false; keys = cut_run.keys } = is_cut ∙ rw (← r.answer) in
+        let c : cuts_from rs j (drop i runs) ≡ record { whole = false; keys = cut_run.keys } = is_cut ∙ rw (r.fails) in
         let ks : (cuts_from rs 0 runs).keys ≡ s.cut ++ cut_run.keys = s.keys ∙ ap (λ (z : Cuts). s.cut ++ z.keys) c in
         record {
-          answer = sym (s.answer ∙ ap (λ (z : Cuts). z.whole) c);
-          many = r.many ∙ ap (λ (z : ℕ). z + length cut_run.keys) s.count ∙ sym (length-append s.cut cut_run.keys) ∙ ap length (sym ks);
+          fails = s.answer ∙ ap (λ (z : Cuts). z.whole) c;
           written = over_more r.written ∙ ap (λ (z : List ℕ). over z was) (sym ks);
         }
 
-    pub all_again : RunIsCut cut_run first w true at count far far' → length far' ≡ length far → AllCutting rs runs was count (i + 1) at far'
-    all_again r n =
+    pub all_again : (at count : ℕ) → RunIsCut cut_run first w at count far far' → length far' ≡ length far → AllCutting rs runs was count (i + 1) at far'
+    all_again at count r n =
         let rest : Cuts = cuts_from rs (first + cut_run.passed) (drop (i + 1) runs) in
-        let c : cuts_from rs j (drop i runs) ≡ record { whole = rest.whole; keys = cut_run.keys ++ rest.keys } = is_cut ∙ rw (← r.answer) in
-        let f = run_few (drop first rs) x.low x.high (sym r.answer) in
-        let a : at ≡ first + cut_run.passed = r.here refl in
+        let c : cuts_from rs j (drop i runs) ≡ record { whole = rest.whole; keys = cut_run.keys ++ rest.keys } = is_cut ∙ rw (r.whole) in
+        let f = run_few (drop first rs) x.low x.high r.whole in
+        let a : at ≡ first + cut_run.passed = r.here in
         let d : length (drop first rs) ≡ length rs - first = length-drop first rs in
         record {
           cut = s.cut ++ cut_run.keys;

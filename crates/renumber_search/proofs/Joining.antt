@@ -2,21 +2,18 @@
 use mathlib.Core.Path.{◌≡◌, refl, sym, ◌∙◌, ap}
 use mathlib.Core.Bool.{true, false}
 use mathlib.Core.List.{List, [], ◌∷◌, ◌++◌}
-use Prim.Native.Nat.{ℕ, ◌+◌, ◌-◌, ◌≤◌, ◌<◌}
+use Prim.Native.Nat.{ℕ, suc, ◌+◌, ◌-◌, ◌≤◌, ◌<◌}
 use native.Mathlib.Omega.{arith}
 use lib.ListN.{length, take, drop, get_or, set, length-set, take-append-drop}
 use lib.Seq.{get_or-drop, drop-set-lt, length-take-le, append_snoc}
-use lib.Dec.{leb}
-use borrow.Author.Tests.{leb-true}
+use Rattle.std.specs.List.Sorted.{IsNonDecreasing}
 use Rattle.lists_sort.specs.Order.{Sorted, sort_keys}
 use Rattle.lists_sort.proofs.Merge.{put, sorted_self}
-use Rattle.label.proofs.Bools.{and_left, and_right}
 use Rattle.label.proofs.Steps.{next_used, used_up}
 use Rattle.label_ranges.specs.Ranges.{reached, stretched}
 use Rattle.renumber_keys.specs.Stages.{join_from, join_all}
 use Rattle.renumber_keys.proofs.Turns.{same_later}
 use Rattle.renumber_search.specs.Search.{over}
-use Rattle.renumber_search.specs.Stages.{ascends}
 
 -- The first w are joined; the one at hand and those from i on are left.
 pub record Joining (was : List ℕ) (n : ℕ) (keys : List ℕ) (last w i : ℕ) : Type 0 where
@@ -76,9 +73,10 @@ module _ (was : List ℕ) (n : ℕ) (h : n ≤ length was) (keys : List ℕ) (la
       (m, sym (take-append-drop (w + 1) (set keys w last)) ∙ ap (λ (z : List ℕ). z ++ drop (w + 1) (set keys w last)) (sym e) ∙ ap (λ (z : List ℕ). join_all (take n was) ++ z) d)
 
 -- Keys that stand in order.
-pub stands_sorted : (lo : ℕ) (ks : List ℕ) → ascends lo ks ≡ true → Sorted lo ks
-stands_sorted lo [] e = tt
-stands_sorted lo (k ∷ ks) e = (leb-true lo k (and_left (leb lo k) _ e), stands_sorted k ks (and_right (leb lo k) _ e))
+in_order : (lo : ℕ) (ks : List ℕ) → ((k : ℕ) → k < length ks → lo ≤ get_or ks k 0) → IsNonDecreasing ks → Sorted lo ks
+in_order lo [] a s = tt
+in_order lo (k ∷ ks) a s =
+    (a 0 (omega arith), in_order k ks (λ i h. s 0 (suc i) 0 (omega arith) (omega arith)) (λ i j d h l. s (suc i) (suc j) d (omega arith) (omega arith)))
 
-pub stands_same : (keys : List ℕ) (n : ℕ) → ascends 0 (take n keys) ≡ true → keys ≡ sort_keys (take n keys) ++ drop n keys
-stands_same keys n e = sym (take-append-drop n keys) ∙ ap (λ (z : List ℕ). z ++ drop n keys) (sym (sorted_self 0 (take n keys) (stands_sorted 0 (take n keys) e)))
+pub stands_same : (keys : List ℕ) (n : ℕ) → IsNonDecreasing (take n keys) → keys ≡ sort_keys (take n keys) ++ drop n keys
+stands_same keys n s = sym (take-append-drop n keys) ∙ ap (λ (z : List ℕ). z ++ drop n keys) (sym (sorted_self 0 (take n keys) (in_order 0 (take n keys) (λ k h. omega arith) s)))

@@ -1,13 +1,14 @@
 -- Laws of the whole: the pieces cut, put in order and joined.
 use mathlib.Core.Path.{◌≡◌, sym, ◌∙◌, ap}
-use mathlib.Core.Bool.{Bool, true, false}
+use mathlib.Core.Bool.{true, false}
 use mathlib.Core.List.{List, [], ◌++◌}
 use Prim.Native.Nat.{ℕ, ◌+◌, ◌-◌, ◌/◌, ◌≤◌, min}
 use native.Mathlib.Omega.{arith}
 use lib.Dec.{leb}
-use lib.ListN.{length, take, drop, length-append, length-map, length-take}
+use lib.ListN.{length, take, drop, length-map, length-take}
 use lib.Seq.{take_at, drop_at}
 use borrow.Author.Tests.{leb-true}
+use Rattle.std.specs.Prelude.{None, Some}
 use Rattle.label.specs.declared.Run.{Run}
 use Rattle.label.proofs.Bools.{and_left, and_right}
 use Rattle.label_keys.specs.Keys.{key_runs}
@@ -17,8 +18,8 @@ use Rattle.table.specs.declared.Row.{Row}
 use Rattle.table.specs.Table.{rows_from}
 use Rattle.table.proofs.Lent.{rows_length}
 use Rattle.renumber_keys.specs.Stages.{join_all}
-use Rattle.renumber_search.specs.Search.{cuts_from, room_for, over, searched_to, searched_of, searched_keys}
-use Rattle.renumber_search.specs.Stages.{AllCut}
+use Rattle.renumber_search.specs.Search.{cuts_from, room_for, over, searched_of, searched_keys}
+use Rattle.renumber_search.specs.Stages.{AllCut, AllFail}
 
 -- The test of the room, as it is made.
 module _ (own : List ℕ) (n m : ℕ) (is : m ≡ min n (length own)) (rows : List ℕ) (room : ℕ) where
@@ -40,24 +41,21 @@ head_taken xs out k e = take_at xs (drop (length xs) out) k (sym e)
 pub head_dropped : (xs out : List ℕ) (k : ℕ) → k ≡ length xs → drop k (over xs out) ≡ drop k out
 head_dropped xs out k e = drop_at xs (drop (length xs) out) k (sym e) ∙ ap (λ (i : ℕ). drop i out) (sym e)
 
-pub cut_inside : (rows : List Row) (runs : List Run) (b : Bool) (k : ℕ) (far cut : List ℕ) → AllCut (cuts_from rows 0 runs) b k far cut → k ≤ length cut
-cut_inside rows runs b k far cut c = omega (arith, c.many, ap length c.written, length-append (cuts_from rows 0 runs).keys (drop (length (cuts_from rows 0 runs).keys) far))
-
 -- as many as before they were put in order
 pub sorted_many : (xs : List ℕ) → length (sort_keys xs) ≡ length xs
 sorted_many xs = sort_length [] xs ∙ omega arith
 
 module _ (rows : List Row) (runs : List Run) (far : List ℕ) where
-  pub no_room : room_for (length runs) (length rows) (length far) ≡ false → (searched_to false 0 ≡ searched_of rows runs (length far)) × (far ≡ searched_keys rows runs far)
+  pub no_room : room_for (length runs) (length rows) (length far) ≡ false → (None ≡ searched_of rows runs (length far)) × (far ≡ searched_keys rows runs far)
   unfolding searched_of searched_keys
   no_room e = (sym (rw e), sym (rw e))
 
-  module _ (room : room_for (length runs) (length rows) (length far) ≡ true) (k : ℕ) (cut : List ℕ) where
-    pub not_whole : AllCut (cuts_from rows 0 runs) false k far cut → (searched_to false 0 ≡ searched_of rows runs (length far)) × (cut ≡ searched_keys rows runs far)
+  module _ (room : room_for (length runs) (length rows) (length far) ≡ true) (cut : List ℕ) where
+    pub not_whole : AllFail (cuts_from rows 0 runs) far cut → (None ≡ searched_of rows runs (length far)) × (cut ≡ searched_keys rows runs far)
     unfolding searched_of searched_keys
-    not_whole c = (sym (rw (room, ← c.answer)), c.written ∙ sym (rw (room, ← c.answer)))
+    not_whole c = (sym (rw (room, c.fails)), c.written ∙ sym (rw (room, c.fails)))
 
-    module _ (c : AllCut (cuts_from rows 0 runs) true k far cut) (sorted : List ℕ) (s : sorted ≡ sort_keys (take k cut) ++ drop k cut) where
+    module _ (k : ℕ) (c : AllCut (cuts_from rows 0 runs) k far cut) (sorted : List ℕ) (s : sorted ≡ sort_keys (take k cut) ++ drop k cut) where
       abbrev ks : List ℕ
       ks = (cuts_from rows 0 runs).keys
 
@@ -72,9 +70,9 @@ module _ (rows : List Row) (runs : List Run) (far : List ℕ) where
       taken_is = ap (take k) sorted_is ∙ head_taken (sort_keys ks) far k (c.many ∙ sym (sorted_many ks))
 
       pub carried_whole : (count : ℕ) (keys : List ℕ) → count ≡ length (join_all (take k sorted)) → keys ≡ over (join_all (take k sorted)) sorted
-          → (searched_to true count ≡ searched_of rows runs (length far)) × (keys ≡ searched_keys rows runs far)
+          → (Some count ≡ searched_of rows runs (length far)) × (keys ≡ searched_keys rows runs far)
       unfolding searched_of searched_keys
       carried_whole count keys e f = (
-        ap (searched_to true) (e ∙ ap (λ (z : List ℕ). length (join_all z)) taken_is) ∙ sym (rw (room, ← c.answer)),
-        f ∙ ap (λ (z : List ℕ). over (join_all z) sorted) taken_is ∙ ap (over (join_all (sort_keys ks))) sorted_is ∙ sym (rw (room, ← c.answer)),
+        ap Some (e ∙ ap (λ (z : List ℕ). length (join_all z)) taken_is) ∙ sym (rw (room, c.whole)),
+        f ∙ ap (λ (z : List ℕ). over (join_all z) sorted) taken_is ∙ ap (over (join_all (sort_keys ks))) sorted_is ∙ sym (rw (room, c.whole)),
       )

@@ -1,12 +1,11 @@
 -- Carrying by search (document 01, "Records"; document 02, wish 8): what is answered of whatever rows and runs. `specs/Theorems.antt` says what it is of sound ones.
-use Rattle.std.specs.Prelude.{Bool, true, false, cond, ◌&&◌, List, [], ◌∷◌, ◌++◌, ℕ, suc, ◌+◌, ◌-◌, min, leb, ltb, length, drop, get_or}
+use Rattle.std.specs.Prelude.{Bool, true, false, cond, ◌&&◌, List, [], ◌∷◌, ◌++◌, ℕ, suc, ◌+◌, ◌-◌, min, leb, ltb, length, drop, get_or, Option, None, Some}
 use Rattle.lists_search.specs.Halves.{halved}
 use Rattle.lists_sort.specs.Order.{sort_keys}
 use Rattle.label.specs.declared.Run.{Run}
 use Rattle.table.specs.declared.Row.{Row}
 use Rattle.table.specs.Table.{no_row}
 use Rattle.renumber_keys.specs.Stages.{join_all, piece_key}
-use Rattle.renumber_search.specs.declared.Searched.{Searched}
 
 -- the category that a row ends with
 abbrev pub end_of : List Row → ℕ → ℕ
@@ -70,15 +69,12 @@ room_for runs rows room = leb runs room && leb rows (room - runs)
 abbrev pub over : List ℕ → List ℕ → List ℕ
 over xs out = xs ++ drop (length xs) out
 
-abbrev pub searched_to : Bool → ℕ → Searched
-searched_to whole count = record { whole = whole; count = count }
-
--- whether every category lies in a row, and then how many runs the numbers have
-unfoldable pub searched_of : List Row → List Run → ℕ → Searched
+-- how many runs the numbers have, where every category lies in a row
+unfoldable pub searched_of : List Row → List Run → ℕ → Option ℕ
 searched_of rows runs room =
     cond (room_for (length runs) (length rows) room && (cuts_from rows 0 runs).whole)
-    (searched_to true (length (join_all (sort_keys (cuts_from rows 0 runs).keys))))
-    (searched_to false 0)
+    (Some (length (join_all (sort_keys (cuts_from rows 0 runs).keys))))
+    None
 
 -- what the lent list holds: the pieces over its head, where they are whole in order, and over these the runs that they make
 unfoldable pub searched_keys : List Row → List Run → List ℕ → List ℕ

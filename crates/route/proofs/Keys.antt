@@ -5,16 +5,17 @@ use mathlib.Core.Logic.{◌⊎◌, inl, inr}
 use mathlib.Core.List.{List, [], ◌∷◌, ◌++◌, append_assoc, append-nil}
 use Prim.Native.Nat.{ℕ, zero, suc, ◌+◌, ◌-◌, ◌*◌, ◌/◌, ◌%◌, ◌^◌, ◌<◌, ◌≤◌}
 use native.Mathlib.Omega.{arith}
+use native.Mathlib.Numerals.{add-one}
 use native.Mathlib.Nat.{mul-add, add-mul, pow-suc, pow-succ', div-add-mod', mul_comm, mul-le-mul_right, lt_of_mul-lt-mul_right, one-mul, mul_assoc}
-use lib.Dec.{leb, eqb}
-use borrow.Author.Tests.{le-leb, lt-leb, leb-true, eqb-true, eq-eqb, ne_eqb}
-use lib.ListN.{length, take, drop, set, get_or, drop_of_length-le}
+use lib.Dec.{leb, ltb, eqb}
+use borrow.Author.Tests.{ltb-true, ltb-false, le-leb, lt-leb, leb-true, eqb-true, eq-eqb, ne_eqb}
+use lib.ListN.{length, take, drop, set, get_or}
 use lib.Seq.{length-take-le, take_at}
 use Rattle.label.proofs.Bools.{never, and_left, and_right, same_yes, less_or}
+use Rattle.std.specs.List.{IsAllAdjacentAnswer}
 use Rattle.lists_sort.specs.Order.{Sorted, all, sort_keys}
 use Rattle.lists_sort.proofs.Laws.{sort_sorted, sort_length}
 use Rattle.lists_sort.proofs.Merge.{put}
-use Rattle.table_levels.proofs.Levels.{next_there}
 use Rattle.table.proofs.Rows.{pairs, sorted_pairs}
 use Rattle.route.specs.declared.Route.{Route}
 use Rattle.route.specs.Route.{routes_of, clear_past, route_sound, every, same_prefix, prefixes_differ}
@@ -270,20 +271,21 @@ every_prefix domains [] e = refl
 every_prefix domains (r ∷ rs) e =
     rw (prefix_of domains r (and_left (route_sound domains r) (every (route_sound domains) rs) e)) (every_prefix domains rs (and_right (route_sound domains r) (every (route_sound domains) rs) e))
 
--- Looking whether numbers climb: a turn that fails, one that passes, and the end.
-module _ (keys : List ℕ) (n i floor : ℕ) (w : Bool) (inv : w ≡ climbs floor (drop i (take n keys))) where
-  module _ (h : i < n) (l : i < length keys) (k : ℕ) (e : k ≡ get_or keys i 0) where
-    climb_one : w ≡ (leb floor k && climbs (k + 1) (drop (i + 1) (take n keys)))
-    climb_one = inv ∙ ap (climbs floor) (next_there 0 keys n i h l) ∙ rw (← e)
+-- Numbers climb where each is above the one before it.
+climbs_all : (f : ℕ) (xs : List ℕ) → (0 < length xs → f ≤ get_or xs 0 0) → ((k : ℕ) → suc k < length xs → get_or xs k 0 < get_or xs (suc k) 0) → climbs f xs ≡ true
+climbs_all f [] h r = refl
+climbs_all f (x ∷ xs) h r =
+    rw (le-leb f x (h (omega arith))) (climbs_all (x + 1) xs (λ w. let l : x < get_or xs 0 0 = r 0 (omega arith) in omega arith) (λ k w. r (suc k) (omega arith)))
 
-    pub climb_fails : k < floor → false ≡ w
-    climb_fails b = sym (climb_one ∙ rw (lt-leb floor k b))
+climbs_not : (f k : ℕ) (xs : List ℕ) → suc k < length xs → get_or xs (suc k) 0 ≤ get_or xs k 0 → climbs f xs ≡ false
+climbs_not f k [] h l = absurd (omega arith)
+climbs_not f k (x ∷ []) h l = absurd (omega arith)
+climbs_not f zero (x ∷ y ∷ xs) h l = rw (lt-leb (x + 1) y (omega arith)) (and_false (leb f x))
+climbs_not f (suc k) (x ∷ y ∷ xs) h l = ap (λ (b : Bool). leb f x && b) (climbs_not (x + 1) k (y ∷ xs) (omega arith) l) ∙ and_false (leb f x)
 
-    pub climb_passes : floor ≤ k → w ≡ climbs (k + 1) (drop (i + 1) (take n keys))
-    climb_passes b = climb_one ∙ rw (le-leb floor k b)
-
-  pub climb_end : n ≤ length keys → n ≤ i → true ≡ w
-  climb_end l h =
-      let z : length (take n keys) ≡ n = length-take-le n keys l in
-      let m : length (take n keys) ≤ i = omega arith in
-      sym (inv ∙ ap (climbs floor) (drop_of_length-le (take n keys) m))
+pub climbs_adjacent : (xs : List ℕ) (r : Bool) → IsAllAdjacentAnswer (λ x y b. b ≡ ltb x y) xs r → r ≡ climbs 0 xs
+climbs_adjacent xs true h = sym (climbs_all 0 xs (λ w. omega arith) (λ k w. ltb-true _ _ (sym (rw add-one at (h k 0 (omega arith))))))
+climbs_adjacent xs false h =
+    let k = h.0 in
+    let e = ltb-false (get_or xs k 0) (get_or xs (k + 1) 0) (sym (h.2 0)) in
+    sym (climbs_not 0 k xs (omega (arith, h.1)) (rw add-one at e))

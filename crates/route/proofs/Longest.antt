@@ -10,8 +10,8 @@ use lib.Dec.{leb, ltb}
 use borrow.Author.Tests.{ltb-true, ltb-false, eqb-true, eq-eqb}
 use Rattle.label.proofs.Bools.{never, and_left, and_right, not_yes}
 use Rattle.route.specs.declared.Route.{Route}
-use Rattle.route.specs.declared.Chosen.{Chosen}
-use Rattle.route.specs.declared.Chosen.TheVariants.{NoRoute, By}
+use Rattle.route.specs.Route.{Chosen}
+use Rattle.std.specs.Prelude.{None, Some}
 use Rattle.route.specs.Route.{routes_of, first_bits, matches, longer, preferred, chosen_from, longest, clear_past, route_sound, every, same_prefix, prefixes_differ, few_routes, whole_routes, routes_sound}
 use Rattle.route.specs.Theorems.{Listed, Decides, LongestMatch}
 use lib.ListN.{length}
@@ -19,41 +19,41 @@ use Rattle.route.proofs.Laws.{prefix_of, leads_to}
 
 -- a route of that length or a longer one is chosen
 abbrev Reached : ℕ → Chosen → Type 0
-Reached l NoRoute = ⊥
-Reached l (By r) = l ≤ r.length
+Reached l None = ⊥
+Reached l (Some r) = l ≤ r.length
 
 -- what was chosen before is reached
 abbrev Kept : Chosen → Chosen → Type 0
-Kept NoRoute c = Unit {0}
-Kept (By b) c = Reached b.length c
+Kept None c = Unit {0}
+Kept (Some b) c = Reached b.length c
 
 reach : (l : ℕ) (b c : Chosen) → Reached l b → Kept b c → Reached l c
-reach l NoRoute c h k = absurd h
-reach l (By b) NoRoute h k = k
-reach l (By b) (By r) h k = omega arith
+reach l None c h k = absurd h
+reach l (Some b) None h k = k
+reach l (Some b) (Some r) h k = omega arith
 
 keep : (a b c : Chosen) → Kept a b → Kept b c → Kept a c
-keep NoRoute b c h k = tt
-keep (By a) b c h k = reach a.length b c h k
+keep None b c h k = tt
+keep (Some a) b c h k = reach a.length b c h k
 
 kept_self : (b : Chosen) → Kept b b
-kept_self NoRoute = tt
-kept_self (By b) = omega arith
+kept_self None = tt
+kept_self (Some b) = omega arith
 
 -- one route more
 record Step (a : ℕ) (best : Chosen) (r : Route) (b : Chosen) : Type 0 where
   reaches : matches r a ≡ true → Reached r.length b
   keeps : Kept best b
-  source : (b ≡ best) ⊎ ((b ≡ By r) × (matches r a ≡ true))
+  source : (b ≡ best) ⊎ ((b ≡ Some r) × (matches r a ≡ true))
 
 step : (a : ℕ) (best : Chosen) (r : Route) → Step a best r (preferred a best r)
 step a best r = go (matches r a) refl
   where
     longest_of : (best : Chosen) → matches r a ≡ true → Step a best r (longer best r)
-    longest_of NoRoute m = record { reaches = λ _. omega arith; keeps = tt; source = inr (refl, m) }
-    longest_of (By b) m = by_length (ltb b.length r.length) refl
+    longest_of None m = record { reaches = λ _. omega arith; keeps = tt; source = inr (refl, m) }
+    longest_of (Some b) m = by_length (ltb b.length r.length) refl
       where
-        by_length : (t : Bool) → ltb b.length r.length ≡ t → Step a (By b) r (cond t (By r) (By b))
+        by_length : (t : Bool) → ltb b.length r.length ≡ t → Step a (Some b) r (cond t (Some r) (Some b))
         by_length true e = let l : b.length < r.length = ltb-true _ _ e in record { reaches = λ _. omega arith; keeps = omega arith; source = inr (refl, m) }
         by_length false e = let l : r.length ≤ b.length = ltb-false _ _ e in record { reaches = λ _. l; keeps = omega arith; source = inl refl }
 
@@ -65,7 +65,7 @@ step a best r = go (matches r a) refl
 record Outcome (a : ℕ) (best : Chosen) (rs : List Route) (c : Chosen) : Type 0 where
   reaches : (s : Route) → Listed s rs → matches s a ≡ true → Reached s.length c
   keeps : Kept best c
-  source : (c ≡ best) ⊎ ((r : Route) × (c ≡ By r) × Listed r rs × (matches r a ≡ true))
+  source : (c ≡ best) ⊎ ((r : Route) × (c ≡ Some r) × Listed r rs × (matches r a ≡ true))
 
 outcome : (a : ℕ) (best : Chosen) (rs : List Route) → Outcome a best rs (chosen_from a best rs)
 outcome a best [] = record { reaches = λ s h _. absurd h; keeps = kept_self best; source = inl refl }
@@ -78,39 +78,39 @@ outcome a best (r ∷ rs) = after (step a best r) (outcome a (preferred a best r
         all s (inl e) m = reach s.length b c (rw e (one.reaches (rw (← e) m))) rest.keeps
         all s (inr h) m = rest.reaches s h m
 
-        first : c ≡ b → (b ≡ best) ⊎ ((b ≡ By r) × (matches r a ≡ true)) → (c ≡ best) ⊎ ((s : Route) × (c ≡ By s) × Listed s (r ∷ rs) × (matches s a ≡ true))
+        first : c ≡ b → (b ≡ best) ⊎ ((b ≡ Some r) × (matches r a ≡ true)) → (c ≡ best) ⊎ ((s : Route) × (c ≡ Some s) × Listed s (r ∷ rs) × (matches s a ≡ true))
         first e (inl f) = inl (e ∙ f)
         first e (inr (f, m)) = inr (r, e ∙ f, inl refl, m)
 
-        from : (c ≡ b) ⊎ ((s : Route) × (c ≡ By s) × Listed s rs × (matches s a ≡ true)) → (c ≡ best) ⊎ ((s : Route) × (c ≡ By s) × Listed s (r ∷ rs) × (matches s a ≡ true))
+        from : (c ≡ b) ⊎ ((s : Route) × (c ≡ Some s) × Listed s rs × (matches s a ≡ true)) → (c ≡ best) ⊎ ((s : Route) × (c ≡ Some s) × Listed s (r ∷ rs) × (matches s a ≡ true))
         from (inl e) = first e one.source
         from (inr (s, e, h, m)) = inr (s, e, inr h, m)
 
-none_by : {X : Type 0} (r : Route) → ◌≡◌ {A = Chosen} NoRoute (By r) → X
+none_by : {X : Type 0} (r : Route) → ◌≡◌ {A = Chosen} None (Some r) → X
 none_by r e = absurd (let z : ◌≡◌ {A = ℕ} 0 1 = cc in omega arith)
 
-chosen_by : {r s : Route} → ◌≡◌ {A = Chosen} (By r) (By s) → r ≡ s
+chosen_by : {r s : Route} → ◌≡◌ {A = Chosen} (Some r) (Some s) → r ≡ s
 chosen_by e = cc
 
-chosen_of : (a : ℕ) (rs : List Route) (r : Route) (c : Chosen) → c ≡ By r → Outcome a NoRoute rs c → Decides a rs r
+chosen_of : (a : ℕ) (rs : List Route) (r : Route) (c : Chosen) → c ≡ Some r → Outcome a None rs c → Decides a rs r
 chosen_of a rs r c e o = from o.source
   where
     most : (s : Route) → Listed s rs → matches s a ≡ true → s.length ≤ r.length
     most s h m = subst (λ (d : Chosen). Reached s.length d) e (o.reaches s h m)
 
-    from : (c ≡ NoRoute) ⊎ ((s : Route) × (c ≡ By s) × Listed s rs × (matches s a ≡ true)) → Decides a rs r
+    from : (c ≡ None) ⊎ ((s : Route) × (c ≡ Some s) × Listed s rs × (matches s a ≡ true)) → Decides a rs r
     from (inl f) = none_by r (sym f ∙ e)
     from (inr (s, f, h, m)) =
         let z : s ≡ r = chosen_by (sym f ∙ e) in
         record { listed = rw (← z) h; hits = rw (← z) m; most = most }
 
-unmatched_of : (a : ℕ) (rs : List Route) (c : Chosen) → c ≡ NoRoute → Outcome a NoRoute rs c → (s : Route) → Listed s rs → matches s a ≡ false
+unmatched_of : (a : ℕ) (rs : List Route) (c : Chosen) → c ≡ None → Outcome a None rs c → (s : Route) → Listed s rs → matches s a ≡ false
 unmatched_of a rs c e o s h = not_yes (matches s a) (λ m. subst (λ (d : Chosen). Reached s.length d) e (o.reaches s h m))
 
-unchosen_of : (a : ℕ) (rs : List Route) (c : Chosen) → ((s : Route) → Listed s rs → matches s a ≡ false) → Outcome a NoRoute rs c → c ≡ NoRoute
+unchosen_of : (a : ℕ) (rs : List Route) (c : Chosen) → ((s : Route) → Listed s rs → matches s a ≡ false) → Outcome a None rs c → c ≡ None
 unchosen_of a rs c none o = from o.source
   where
-    from : (c ≡ NoRoute) ⊎ ((s : Route) × (c ≡ By s) × Listed s rs × (matches s a ≡ true)) → c ≡ NoRoute
+    from : (c ≡ None) ⊎ ((s : Route) × (c ≡ Some s) × Listed s rs × (matches s a ≡ true)) → c ≡ None
     from (inl f) = f
     from (inr (s, f, h, m)) = absurd (never (sym m ∙ none s h))
 
@@ -174,14 +174,14 @@ pub longest_match : LongestMatch
 unfolding longest
 longest_match =
     record {
-      chosen = λ a rs r e. chosen_of a rs r _ e (outcome a NoRoute rs);
+      chosen = λ a rs r e. chosen_of a rs r _ e (outcome a None rs);
       only = only_sound;
-      unmatched = λ a rs e. unmatched_of a rs _ e (outcome a NoRoute rs);
-      unchosen = λ a rs none. unchosen_of a rs _ none (outcome a NoRoute rs);
+      unmatched = λ a rs e. unmatched_of a rs _ e (outcome a None rs);
+      unchosen = λ a rs none. unchosen_of a rs _ none (outcome a None rs);
     }
 
 -- the route chosen leads to a port of the list
-pub chosen_leads : (a : ℕ) (domains ns : List ℕ) (r : Route) → routes_sound domains ns ≡ true → longest a (routes_of ns) ≡ By r → r.port < length domains
+pub chosen_leads : (a : ℕ) (domains ns : List ℕ) (r : Route) → routes_sound domains ns ≡ true → longest a (routes_of ns) ≡ Some r → r.port < length domains
 unfolding routes_sound
 chosen_leads a domains ns r e c =
     let each = and_right (whole_routes ns) (every (route_sound domains) (routes_of ns) && prefixes_differ (routes_of ns))

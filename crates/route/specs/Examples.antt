@@ -1,8 +1,6 @@
 -- Worked examples: a list of routes, and the port that each address goes to.
-use Rattle.std.specs.Prelude.{List, [], ◌∷◌, map, true, false, ◌≡◌, ℕ}
-use Rattle.route.specs.declared.Chosen.{Chosen}
-use Rattle.route.specs.declared.Chosen.TheVariants.{NoRoute, By}
-use Rattle.route.specs.Route.{routes_of, longest, routes_sound}
+use Rattle.std.specs.Prelude.{None, Some, List, [], ◌∷◌, map, true, false, ◌≡◌, ℕ}
+use Rattle.route.specs.Route.{Chosen, routes_of, longest, routes_sound}
 
 -- 10.0.0.0/8 to port 1, 10.1.0.0/16 to port 2, 10.1.2.3/32 to port 0, 192.168.0.0/16 to port 2; ports 0 to 2 have the domains 5, 9 and 5
 abbrev pub some_routes : List ℕ
@@ -13,8 +11,8 @@ some_domains = 5 ∷ 9 ∷ 5 ∷ []
 
 -- the number of the port, and 64 where no route matches
 abbrev pub port_of : Chosen → ℕ
-port_of NoRoute = 64
-port_of (By r) = r.port
+port_of None = 64
+port_of (Some r) = r.port
 
 abbrev pub ports_of : List ℕ → List ℕ
 ports_of addresses = map (λ a. port_of (longest a (routes_of some_routes))) addresses

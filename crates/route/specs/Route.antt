@@ -1,8 +1,6 @@
 -- Document 02, Wish 7: routes. A route is a prefix, how many of its first bits count, and the port and domain that it leads to; the longest matching prefix decides.
-use Rattle.std.specs.Prelude.{Bool, true, cond, not, ◌&&◌, List, [], ◌∷◌, ℕ, ◌-◌, ◌*◌, ◌/◌, ◌%◌, ◌^◌, leb, ltb, eqb, length as count, get_or}
+use Rattle.std.specs.Prelude.{Option, None, Some, Bool, true, cond, not, ◌&&◌, List, [], ◌∷◌, ℕ, ◌-◌, ◌*◌, ◌/◌, ◌%◌, ◌^◌, leb, ltb, eqb, length as count, get_or}
 use Rattle.route.specs.declared.Route.{Route}
-use Rattle.route.specs.declared.Chosen.{Chosen}
-use Rattle.route.specs.declared.Chosen.TheVariants.{NoRoute, By}
 
 -- the routes of a lent list of numbers, four a route: prefix, prefix length, port number, domain; what is left over at the end is no route
 abbrev pub routes_of : List ℕ → List Route
@@ -20,10 +18,14 @@ first_bits bits address = address / 2 ^ (32 - bits)
 abbrev pub matches : Route → ℕ → Bool
 matches r address = eqb (first_bits r.length r.prefix) (first_bits r.length address)
 
+-- the route that decides, where one does
+abbrev pub Chosen : Type 0
+Chosen = Option Route
+
 -- of the best so far and a route that matches, the longer one
 abbrev pub longer : Chosen → Route → Chosen
-longer NoRoute r = By r
-longer (By b) r = cond (ltb b.length r.length) (By r) (By b)
+longer None r = Some r
+longer (Some b) r = cond (ltb b.length r.length) (Some r) (Some b)
 
 -- one route more is looked at
 abbrev pub preferred : ℕ → Chosen → Route → Chosen
@@ -35,7 +37,7 @@ chosen_from address best (r ∷ rs) = chosen_from address (preferred address bes
 
 -- the longest route that matches: `specs/Theorems.antt` says what that means, whatever the order of the routes
 unfoldable pub longest : ℕ → List Route → Chosen
-longest address rs = chosen_from address NoRoute rs
+longest address rs = chosen_from address None rs
 
 -- Wish 7: what makes routes unsound, part by part. `domains` has the domain of each port of the list, by its number.
 -- too long a list: more than 256 routes

@@ -18,53 +18,41 @@ pub struct Route {
     pub domain: u32,
 }
 
-// The route that decides.
-#[derive(Clone, Copy)]
-pub enum Chosen {
-    NoRoute,
-    By(Route),
-}
-
-// The longest route that matches the address.
-pub fn choose_route(routes: &[u32], address: u32) -> Chosen
+// The longest route that matches the address, where one does.
+pub fn choose_route(routes: &[u32], address: u32) -> Option<Route>
     ensures { result ≡ longest address (routes_of routes.now) }
 {
-    let n = routes.len();
-    let mut best = Chosen::NoRoute;
-    let mut at: usize = 0;
-    while 4 <= n - at {
-        let r = read_route(routes, at);
-        best = prefer(best, r, address);
-        at += 4;
+    let mut best = None;
+    for numbers in routes.as_chunks::<4>().0 {
+        best = prefer(best, read_route(numbers), address);
     }
     best
 }
 
-// The route at a place.
-fn read_route(routes: &[u32], at: usize) -> Route
-    requires { at + 4 ≤ length routes.now }
-    ensures { result ≡ route_at routes.now at }
+// The route that four numbers say.
+fn read_route(numbers: &[u32; 4]) -> Route
+    ensures { result ≡ route_at numbers.now 0 }
 {
     Route {
-        prefix: routes[at],
-        length: routes[at + 1],
-        port: routes[at + 2],
-        domain: routes[at + 3],
+        prefix: numbers[0],
+        length: numbers[1],
+        port: numbers[2],
+        domain: numbers[3],
     }
 }
 
 // The route, where it matches and is longer than the best so far.
-fn prefer(best: Chosen, r: Route, address: u32) -> Chosen
+fn prefer(best: Option<Route>, r: Route, address: u32) -> Option<Route>
     ensures { result ≡ preferred address best r }
 {
     if !route_matches(r, address) {
         return best;
     }
     match best {
-        Chosen::NoRoute => Chosen::By(r),
-        Chosen::By(b) => {
+        None => Some(r),
+        Some(b) => {
             if b.length < r.length {
-                return Chosen::By(r);
+                return Some(r);
             }
             best
         }
@@ -105,16 +93,11 @@ pub fn routes_sound(routes: &[u32], domains: &[u32]) -> bool
 fn each_sound(routes: &[u32], domains: &[u32]) -> bool
     ensures { result ≡ every (route_sound domains.now) (routes_of routes.now) }
 {
-    let n = routes.len();
-    let mut at: usize = 0;
-    while 4 <= n - at {
-        let r = read_route(routes, at);
-        if !route_sound(r, domains) {
-            return false;
-        }
-        at += 4;
-    }
-    true
+    routes
+        .as_chunks::<4>()
+        .0
+        .iter()
+        .all(|numbers| route_sound(read_route(numbers), domains))
 }
 
 fn route_sound(r: Route, domains: &[u32]) -> bool
@@ -162,25 +145,20 @@ fn keys_differ(routes: &[u32], hosts: bool) -> bool
     let mut keys = [0u32; 256];
     let n = gather_keys(routes, hosts, &mut keys);
     sort_keys(&mut keys, n);
-    keys_climb(&keys, n)
+    keys[..n].is_sorted_by(|a, b| *a < *b)
 }
 
-fn gather_keys(routes: &[u32], hosts: bool, keys: &mut [u32]) -> usize
-    requires { (length routes.now ≤ 1024) × (length keys.old ≡ 256) × (every prefix_sound (routes_of routes.now) ≡ true) }
+fn gather_keys(routes: &[u32], hosts: bool, keys: &mut [u32; 256]) -> usize
+    requires { (length routes.now ≤ 1024) × (every prefix_sound (routes_of routes.now) ≡ true) }
     ensures gathered { Gathered (keys_of hosts (routes_of routes.now)) keys.new result }
     ensures upper_bound { result ≤ 256 }
 {
-    let all = routes.len();
     let mut n: usize = 0;
-    let mut at: usize = 0;
-    while 4 <= all - at {
-        let r = read_route(routes, at);
+    for numbers in routes.as_chunks::<4>().0 {
+        let r = read_route(numbers);
         if is_among(hosts, r) {
             keys[n] = prefix_key(r.prefix, r.length);
             n += 1;
-            at += 4;
-        } else {
-            at += 4;
         }
     }
     n
@@ -213,28 +191,4 @@ fn marker(length: u32) -> u32
         return 1;
     }
     1u32 << (31 - length)
-}
-
-fn keys_climb(keys: &[u32], n: usize) -> bool
-    requires { n ≤ length keys.now }
-    ensures { result ≡ climbs 0 (take n keys.now) }
-{
-    let mut floor: u64 = 0;
-    let mut i: usize = 0;
-    while i < n {
-        let k = wide(keys[i]);
-        if k < floor {
-            return false;
-        }
-        floor = k + 1;
-        i += 1;
-    }
-    true
-}
-
-// A number in a type that holds one more than it.
-fn wide(x: u32) -> u64
-    ensures { (result ≡ x) × (result ≤ 4294967295) }
-{
-    x as u64
 }

@@ -21,8 +21,8 @@ use Rattle.forward_rules.specs.Forward.{forwarding_of}
 use Rattle.decision.specs.declared.Facts.{Facts}
 use Rattle.table.specs.Renumbering.{LentTable, lent_of, levels_of}
 use Rattle.route.specs.declared.Route.{Route}
-use Rattle.route.specs.declared.Chosen.{Chosen}
-use Rattle.route.specs.declared.Chosen.TheVariants.{NoRoute, By}
+use Rattle.route.specs.Route.{Chosen}
+use Rattle.std.specs.Prelude.{None, Some}
 use Rattle.route.specs.Route.{routes_sound}
 use Rattle.route.proofs.Longest.{chosen_leads}
 use Rattle.route_ports.specs.Ports.{port_at, ports_sound, domains_of}
@@ -59,7 +59,7 @@ module _ (b : Routing) (e : box_sound b ≡ true) where
   pub arriving_sound : port_sound (arriving_port b) ≡ true
   arriving_sound = sound_at b.ports ports_of_lem b.arriving (ltb-true b.arriving (length b.ports) (and_left (arriving_listed b) (routes_sound (domains_of b.ports) b.routes) last_of))
 
-  leaving_sound : (r : Route) → chosen b ≡ By r → port_sound (port_at b.ports r.port) ≡ true
+  leaving_sound : (r : Route) → chosen b ≡ Some r → port_sound (port_at b.ports r.port) ≡ true
   unfolding chosen
   leaving_sound r c =
       let l : r.port < length (domains_of b.ports) = chosen_leads b.destination (domains_of b.ports) b.routes r (and_right (arriving_listed b) (routes_sound (domains_of b.ports) b.routes) last_of) c in
@@ -67,7 +67,7 @@ module _ (b : Routing) (e : box_sound b ≡ true) where
       sound_at b.ports ports_of_lem r.port (omega arith)
 
   -- no record that the two-port decision reads is unsound
-  pub records_none : (r : Route) → chosen b ≡ By r → records (pair_by b r) ≡ none
+  pub records_none : (r : Route) → chosen b ≡ Some r → records (pair_by b r) ≡ none
   unfolding records
   records_none r c =
       let t = first_table_lem.sound (arriving_port b).domain (port_at b.ports r.port).domain (tables_from (used_tables b.tables) b.rows) tables_of in
@@ -81,7 +81,7 @@ module _ (b : Routing) (e : box_sound b ≡ true) where
   unfolding set_check
   set_none = rw e
 
-  module _ (r : Route) (c : chosen b ≡ By r) where
+  module _ (r : Route) (c : chosen b ≡ Some r) where
     route_none : route_check b ≡ none
     unfolding route_check
     route_none = rw c
@@ -119,7 +119,7 @@ module _ (b : Routing) (e : box_sound b ≡ true) where
     output_of_lem out = rw (first_routed, c)
 
 -- without a route
-module _ (b : Routing) (e : box_sound b ≡ true) (c : chosen b ≡ NoRoute) where
+module _ (b : Routing) (e : box_sound b ≡ true) (c : chosen b ≡ None) where
   route_none_matches : route_check b ≡ some no_route
   unfolding route_check
   route_none_matches = rw c

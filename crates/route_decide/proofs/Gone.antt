@@ -1,6 +1,6 @@
--- What is decided by the way found is the decision of the box.
-use mathlib.Core.Path.{◌≡◌, refl, sym, ◌∙◌, ap, subst}
-use mathlib.Core.Bool.{Bool, true, false, cond, not, ◌&&◌, ◌||◌}
+-- What is decided without a sound set, without a route and by a route is the decision of the box.
+use mathlib.Core.Path.{◌≡◌, refl, sym, ◌∙◌, ap}
+use mathlib.Core.Bool.{Bool, true, false, not, ◌&&◌, ◌||◌}
 use mathlib.Core.List.{List, [], ◌∷◌, ◌++◌}
 use mathlib.Core.Option.{Option, some}
 use Prim.Native.Nat.{ℕ}
@@ -15,18 +15,18 @@ use Rattle.decision.specs.declared.Decision.{Decision}
 use Rattle.decision.specs.Decision.{Refusal, silenced, decided}
 use Rattle.area.specs.Area.{bad_area}
 use Rattle.arrive.specs.Checks.{silent, when, first_of, arrival_checks}
-use Rattle.forward_rules.specs.Crossing.{sizes}
-use Rattle.route.specs.declared.Chosen.{Chosen}
-use Rattle.route.specs.declared.Chosen.TheVariants.{NoRoute, By}
+use Rattle.forward_rules.specs.Crossing.{Forwarding, sizes}
+use Rattle.forward_rules.specs.Forward.{forward_of, output_of}
+use Rattle.route.specs.declared.Route.{Route}
+use Rattle.std.specs.Prelude.{None, Some}
 use Rattle.route.specs.Route.{routes_of, longest, routes_sound}
 use Rattle.route_ports.specs.declared.Survey.{Survey}
 use Rattle.route_ports.specs.Ports.{unlisted_port, port_at, ports_sound, domains_of, survey_of}
 use Rattle.route_ports.proofs.Laws.{few_enough, count_known, domains_known, survey_sound, none_unsound}
 use Rattle.table_choose.specs.declared.Tables.{Tables}
 use Rattle.table_choose.specs.Tables.{tables_sound}
-use Rattle.route_decide.specs.declared.Course.{Course}
-use Rattle.route_decide.specs.Routing.{Routing, box_sound, chosen, chosen_pair, no_route, routing_of, routed_output}
-use Rattle.route_decide.specs.Stages.{routing_for, known_sound, way_by, way_of, unrouted_of, gone_by, gone_out}
+use Rattle.route_decide.specs.Routing.{Routing, box_sound, chosen, chosen_pair, pair_by, between, no_route, routing_of, routed_output}
+use Rattle.route_decide.specs.Stages.{routing_for, known_sound, unrouted_of}
 use Rattle.route_decide.proofs.Lists.{skip, cut}
 use Rattle.route_decide.proofs.Decides.{arriving_sound, routed_of, output_of_lem, unrouted_of_lem, unwritten_of, unsound_of, untouched_of}
 
@@ -60,34 +60,26 @@ module _ (ps : List Port) (ts : Tables) (ns rs : List ℕ) (i destination : ℕ)
       ap (λ (t : Bool). decided (silenced facts) (first_of (when (bad_area area || ltb room 40) (silent 1) ∷ when (not t) (silent 2) ∷ (arrival_checks (port_at ps i) area 9 ++ (some no_route ∷ [])))) zero_label 0) e
       ∙ ap (λ (o : Option Refusal). decided (silenced facts) o zero_label 0) (skip (when (bad_area area || ltb room 40) (silent 1) ∷ []) (arrival_checks (port_at ps i) area 9 ++ (some no_route ∷ [])))
 
-  abbrev nowhere : Course
-  nowhere = record { sound = false; routed = false; leaving = 0 }
+  -- what is decided where the set is unsound, where no route matches, and by a route
+  pub unsound_gone : (s : Survey) → s ≡ survey_of ps → known_sound s ts ns rs i ≡ false → (p : Port) → p ≡ unlisted_port → (d : Decision) → d ≡ unrouted_of p facts area room → (out : List ℕ)
+      → (d ≡ routing_of b) × (out ≡ routed_output b out)
+  unsound_gone s es k p ep d ed out =
+      let e : box_sound b ≡ false = sym known_set ∙ ap (λ (x : Survey). known_sound x ts ns rs i) (sym es) ∙ k in
+      (ed ∙ ap (λ (q : Port). unrouted_of q facts area room) ep ∙ unsound_answer ∙ sym (unsound_of b e), sym (untouched_of b e out))
 
-  abbrev Goes : Course → List ℕ → Type 0
-  Goes w out = (gone_by w (port_at ps i) (port_at ps w.leaving) ts ns facts area room ≡ routing_of b) × (gone_out w (port_at ps i) (port_at ps w.leaving) ts ns facts area room out ≡ routed_output b out)
+  module _ (s : Survey) (es : s ≡ survey_of ps) (k : known_sound s ts ns rs i ≡ true) where
+    sound : box_sound b ≡ true
+    sound = sym known_set ∙ ap (λ (x : Survey). known_sound x ts ns rs i) (sym es) ∙ k
 
-  by_choice : box_sound b ≡ true → (c : Chosen) → chosen b ≡ c → (out : List ℕ) → Goes (way_by c) out
-  unfolding gone_by gone_out
-  by_choice e NoRoute c out = (unrouted_answer (arriving_sound b e) ∙ sym (unrouted_of_lem b e c), sym (unwritten_of b e c out))
-  by_choice e (By r) c out = (sym (routed_of b e r c), sym (output_of_lem b e r c out))
+    pub unrouted_gone : longest destination (routes_of rs) ≡ None → (a : Port) → a ≡ port_at ps i → (d : Decision) → d ≡ unrouted_of a facts area room → (out : List ℕ)
+        → (d ≡ routing_of b) × (out ≡ routed_output b out)
+    unfolding chosen
+    unrouted_gone c a ea d ed out =
+        (ed ∙ ap (λ (q : Port). unrouted_of q facts area room) ea ∙ unrouted_answer (arriving_sound b sound) ∙ sym (unrouted_of_lem b sound c), sym (unwritten_of b sound c out))
 
-  by_set : (t : Bool) → box_sound b ≡ t → (out : List ℕ) → Goes (cond t (way_by (chosen b)) nowhere) out
-  unfolding gone_by gone_out
-  by_set true e out = by_choice e (chosen b) refl out
-  by_set false e out = (unsound_answer ∙ sym (unsound_of b e), sym (untouched_of b e out))
-
-  found_way : (s : Survey) (w : Course) → s ≡ survey_of ps → w ≡ way_of s ts ns rs i destination → w ≡ cond (box_sound b) (way_by (chosen b)) nowhere
-  unfolding way_of chosen
-  found_way s w es ew =
-      ew
-      ∙ ap (λ (x : Survey). cond (known_sound x ts ns rs i) (way_by (longest destination (routes_of rs))) nowhere) es
-      ∙ ap (λ (t : Bool). cond t (way_by (longest destination (routes_of rs))) nowhere) known_set
-
-  pub gone : (s : Survey) (w : Course) (a l : Port) (d : Decision) (out zs : List ℕ) → s ≡ survey_of ps → w ≡ way_of s ts ns rs i destination → a ≡ port_at ps i → l ≡ port_at ps w.leaving
-      → (d ≡ gone_by w a l ts ns facts area room) × (zs ≡ gone_out w a l ts ns facts area room out) → (d ≡ routing_of b) × (zs ≡ routed_output b out)
-  gone s w a l d out zs es ew ea el g =
-      let k = found_way s w es ew in
-      let h = subst (λ (v : Course). Goes v out) (sym k) (by_set (box_sound b) refl out) in (
-        g.0 ∙ ap (λ (p : Port). gone_by w p l ts ns facts area room) ea ∙ ap (λ (p : Port). gone_by w (port_at ps i) p ts ns facts area room) el ∙ h.0,
-        g.1 ∙ ap (λ (p : Port). gone_out w p l ts ns facts area room out) ea ∙ ap (λ (p : Port). gone_out w (port_at ps i) p ts ns facts area room out) el ∙ h.1,
-      )
+    pub routed_gone : (r : Route) → longest destination (routes_of rs) ≡ Some r → (a l : Port) → a ≡ port_at ps i → l ≡ port_at ps r.port → (d : Decision) (out zs : List ℕ)
+        → (d ≡ forward_of (between a l ts ns facts area room)) × (zs ≡ output_of (between a l ts ns facts area room) out) → (d ≡ routing_of b) × (zs ≡ routed_output b out)
+    unfolding chosen
+    routed_gone r c a l ea el d out zs g =
+        let e : between a l ts ns facts area room ≡ pair_by b r = λ j. between (ea j) (el j) ts ns facts area room in
+        (g.0 ∙ ap forward_of e ∙ sym (routed_of b sound r c), g.1 ∙ ap (λ (f : Forwarding). output_of f out) e ∙ sym (output_of_lem b sound r c out))

@@ -1,5 +1,5 @@
 -- Document 02, Wish 7: the decision of a box of many ports. A route chooses the port that a datagram leaves by; what is decided then is the two-port decision for that pair.
-use Rattle.std.specs.Prelude.{Bool, true, false, not, ◌&&◌, List, [], ◌∷◌, ◌++◌, ℕ, ltb, length}
+use Rattle.std.specs.Prelude.{None, Some, Bool, true, false, not, ◌&&◌, List, [], ◌∷◌, ◌++◌, ℕ, ltb, length}
 use Rattle.std.proofs.Math.Option.{Option, none}
 use Rattle.port.specs.declared.Port.{Port}
 use Rattle.area_leaving.specs.Kept.{kept_of}
@@ -11,9 +11,7 @@ use Rattle.forward_rules.specs.Crossing.{Forwarding, sizes, leaving_basic_check,
 use Rattle.forward_rules.specs.Forward.{option_octets, leaving_count, written}
 use Rattle.table.specs.Renumbering.{LentTable, lent_of, levels_of}
 use Rattle.route.specs.declared.Route.{Route}
-use Rattle.route.specs.declared.Chosen.{Chosen}
-use Rattle.route.specs.declared.Chosen.TheVariants.{NoRoute, By}
-use Rattle.route.specs.Route.{routes_of, longest, routes_sound}
+use Rattle.route.specs.Route.{Chosen, routes_of, longest, routes_sound}
 use Rattle.route_ports.specs.Ports.{unlisted_port, port_at, ports_sound, domains_of}
 use Rattle.table_choose.specs.declared.Tables.{Tables}
 use Rattle.table_choose.specs.Tables.{used_tables, tables_from, tables_sound, first_table}
@@ -47,8 +45,8 @@ arriving_port b = port_at b.ports b.arriving
 
 -- the port that the route leads to
 abbrev pub port_by : List Port → Chosen → Port
-port_by ps NoRoute = unlisted_port
-port_by ps (By r) = port_at ps r.port
+port_by ps None = unlisted_port
+port_by ps (Some r) = port_at ps r.port
 
 abbrev pub leaving_port : Routing → Port
 leaving_port b = port_by b.ports (chosen b)
@@ -84,16 +82,16 @@ set_check b = when (not (box_sound b)) (silent 2)
 
 -- 21 of the leaving port: without a route there is none
 abbrev pub leaving_basic_by : Chosen → Forwarding → Option Refusal
-leaving_basic_by NoRoute f = none
-leaving_basic_by (By r) f = leaving_basic_check f
+leaving_basic_by None f = none
+leaving_basic_by (Some r) f = leaving_basic_check f
 
 -- 22: no route matches
 abbrev pub no_route : Refusal
 no_route = barred 22 0
 
 abbrev pub is_unrouted : Chosen → Bool
-is_unrouted NoRoute = true
-is_unrouted (By r) = false
+is_unrouted None = true
+is_unrouted (Some r) = false
 
 unfoldable pub route_check : Routing → Option Refusal
 route_check b = when (is_unrouted (chosen b)) no_route

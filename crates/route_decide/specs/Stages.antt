@@ -1,5 +1,5 @@
 -- What the private functions answer; no public contract names these but for the inputs put together.
-use Rattle.std.specs.Prelude.{Bool, true, false, cond, not, ◌&&◌, ◌||◌, List, [], ◌∷◌, ◌++◌, ℕ, leb, ltb, eqb, take}
+use Rattle.std.specs.Prelude.{Bool, true, cond, not, ◌&&◌, ◌||◌, List, [], ◌∷◌, ◌++◌, ℕ, leb, ltb, eqb, take}
 use Rattle.std.proofs.Math.Option.{Option}
 use Rattle.label.specs.Label.{zero_label}
 use Rattle.port.specs.declared.Port.{Port}
@@ -11,16 +11,11 @@ use Rattle.decision.specs.Decision.{Refusal, silenced, decided}
 use Rattle.area.specs.Area.{bad_area}
 use Rattle.arrive.specs.Checks.{silent, when, first_of, arrival_checks}
 use Rattle.decision.specs.Verdict.{stopped}
-use Rattle.forward_rules.specs.Forward.{forward_of, output_of}
-use Rattle.route.specs.declared.Chosen.{Chosen}
-use Rattle.route.specs.declared.Chosen.TheVariants.{NoRoute, By}
-use Rattle.route.specs.Route.{routes_of, longest, routes_sound}
+use Rattle.route.specs.Route.{routes_sound}
 use Rattle.route_ports.specs.declared.Survey.{Survey}
-use Rattle.route_ports.specs.Ports.{unlisted_port}
 use Rattle.table_choose.specs.declared.Tables.{Tables}
 use Rattle.table_choose.specs.Tables.{tables_sound}
-use Rattle.route_decide.specs.declared.Course.{Course}
-use Rattle.route_decide.specs.Routing.{Routing, no_route, between}
+use Rattle.route_decide.specs.Routing.{Routing, no_route}
 
 -- the inputs of a decision
 abbrev pub routing_for : List Port → Tables → List ℕ → List ℕ → ℕ → ℕ → Facts → List ℕ → ℕ → Routing
@@ -32,14 +27,6 @@ unfoldable pub known_sound : Survey → Tables → List ℕ → List ℕ → ℕ
 known_sound s ts ns rs arriving =
     s.sound && (tables_sound ts ns && (ltb arriving s.count && (leb s.count 64 && routes_sound (take s.count s.domains) rs)))
 
--- where the datagram goes: nowhere by an unsound set, by no route, or to a port
-abbrev pub way_by : Chosen → Course
-way_by NoRoute = record { sound = true; routed = false; leaving = 0 }
-way_by (By r) = record { sound = true; routed = true; leaving = r.port }
-
-unfoldable pub way_of : Survey → Tables → List ℕ → List ℕ → ℕ → ℕ → Course
-way_of s ts ns rs arriving destination = cond (known_sound s ts ns rs arriving) (way_by (longest destination (routes_of rs))) (record { sound = false; routed = false; leaving = 0 })
-
 -- without a route: 1, 2 of the arriving port, 3 to 14 of it, and then 22
 abbrev pub unrouted_checks : Port → List ℕ → ℕ → List (Option Refusal)
 unrouted_checks a area room = when (bad_area area || ltb room 40) (silent 1) ∷ when (not (port_sound a)) (silent 2) ∷ (arrival_checks a area 9 ++ (when true no_route ∷ []))
@@ -50,11 +37,3 @@ unrouted_of a facts area room = decided (silenced facts) (first_of (unrouted_che
 -- what arriving answered, with 1 of the output before and 22 behind
 unfoldable pub unrouted_by : Verdict → ℕ → Verdict
 unrouted_by r room = cond (eqb r.number 1) r (cond (ltb room 40) (stopped 1 0 0 0) (cond (eqb r.number 0) (stopped 22 3 0 0) r))
-
--- the decision by the way found, and what the output holds then
-unfoldable pub gone_by : Course → Port → Port → Tables → List ℕ → Facts → List ℕ → ℕ → Decision
-gone_by w a l ts ns facts area room =
-    cond w.sound (cond w.routed (forward_of (between a l ts ns facts area room)) (unrouted_of a facts area room)) (unrouted_of unlisted_port facts area room)
-
-unfoldable pub gone_out : Course → Port → Port → Tables → List ℕ → Facts → List ℕ → ℕ → List ℕ → List ℕ
-gone_out w a l ts ns facts area room out = cond w.sound (cond w.routed (output_of (between a l ts ns facts area room) out) out) out

@@ -2,26 +2,19 @@
 // two-port decision for that pair, with the first table for its domains.
 #![tactic(auto)]
 
-ghost use Rattle.std.specs.Prelude.{◌≡◌, ◌≤◌, length};
-ghost use Rattle.route_decide.specs.Routing.{routing_of, routed_output};
-ghost use Rattle.route_decide.specs.Stages.{routing_for, known_sound, way_of, unrouted_of, unrouted_by, gone_by, gone_out};
+ghost use Rattle.std.specs.Prelude.{◌≡◌, length};
+ghost use Rattle.forward_rules.specs.Forward.{forward_of, output_of};
+ghost use Rattle.route_decide.specs.Routing.{between, routing_of, routed_output};
+ghost use Rattle.route_decide.specs.Stages.{routing_for, known_sound, unrouted_of, unrouted_by};
 
 use arrive::arrive;
 use decision::{Decision, Facts, Verdict, conclude, stop};
 use forward::forward;
 use port::Port;
-use route::{Chosen, choose_route, routes_sound};
+use route::{choose_route, routes_sound};
 use route_ports::{MAX_PORTS, Survey, no_port, pick_port, survey_ports};
 use table::levels_of;
 use table_choose::{Tables, first_table, tables_sound};
-
-// Where a datagram goes: nowhere where the set is unsound or no route matches, else to the port of a number.
-#[derive(Clone, Copy)]
-struct Course {
-    sound: bool,
-    routed: bool,
-    leaving: usize,
-}
 
 // Decides what becomes of a datagram that arrives at a port of the list, by its destination, and writes its leaving area. The rows of all
 // tables are lent as one list of numbers, three a row; routes as numbers, four a route: prefix, prefix length, port number, domain.
@@ -39,48 +32,17 @@ pub fn decide(
     ensures { (result ≡ routing_of (routing_for ports.now tables rows.now routes.now arriving destination facts area.now (length out.old))) × (out.new ≡ routed_output (routing_for ports.now tables rows.now routes.now arriving destination facts area.now (length out.old)) out.old) }
 {
     let known = survey_ports(ports);
-    let way = find_way(known, tables, rows, routes, arriving, destination);
-    let a = pick_port(ports, arriving);
-    let l = pick_port(ports, way.leaving);
-    go_way(way, a, l, tables, rows, facts, area, out)
-}
-
-// Checks the set, and chooses the route.
-fn find_way(
-    known: Survey,
-    tables: Tables,
-    rows: &[u16],
-    routes: &[u32],
-    arriving: usize,
-    destination: u32,
-) -> Course
-    ensures { (result ≡ way_of known tables rows.now routes.now arriving destination) × (result.leaving ≤ 4294967295) }
-{
     if !set_sound(known, tables, rows, routes, arriving) {
-        return Course {
-            sound: false,
-            routed: false,
-            leaving: 0,
-        };
+        return refuse_unrouted(no_port(), facts, area, out.len());
     }
+    let a = pick_port(ports, arriving);
     match choose_route(routes, destination) {
-        Chosen::NoRoute => Course {
-            sound: true,
-            routed: false,
-            leaving: 0,
-        },
-        Chosen::By(route) => Course {
-            sound: true,
-            routed: true,
-            leaving: widen(route.port),
-        },
+        None => refuse_unrouted(a, facts, area, out.len()),
+        Some(route) => {
+            let l = pick_port(ports, route.port as usize);
+            forward_between(a, l, tables, rows, facts, area, out)
+        }
     }
-}
-
-fn widen(port: u32) -> usize
-    ensures { (result ≡ port) × (result ≤ 4294967295) }
-{
-    port as usize
 }
 
 // Whether the set is sound.
@@ -104,9 +66,8 @@ fn set_sound(known: Survey, tables: Tables, rows: &[u16], routes: &[u32], arrivi
     routes_sound(routes, &domains[0..n])
 }
 
-// Decides by the way found. A box whose set is unsound answers as one whose arriving port is.
-fn go_way(
-    way: Course,
+// The two-port decision, with the first table for the pair of domains.
+fn forward_between(
     a: Port,
     l: Port,
     tables: Tables,
@@ -115,14 +76,8 @@ fn go_way(
     area: &[u8],
     out: &mut [u8],
 ) -> Decision
-    ensures { (result ≡ gone_by way a l tables rows.now facts area.now (length out.old)) × (out.new ≡ gone_out way a l tables rows.now facts area.now (length out.old) out.old) }
+    ensures { (result ≡ forward_of (between a l tables rows.now facts area.now (length out.old))) × (out.new ≡ output_of (between a l tables rows.now facts area.now (length out.old)) out.old) }
 {
-    if !way.sound {
-        return refuse_unrouted(no_port(), facts, area, out.len());
-    }
-    if !way.routed {
-        return refuse_unrouted(a, facts, area, out.len());
-    }
     let found = first_table(tables, rows, a.domain, l.domain);
     let item = found.item;
     let at = found.at;
@@ -139,7 +94,7 @@ fn go_way(
     )
 }
 
-// Without a route: the checks of the arriving port, and then 22.
+// Without a route: the checks of the arriving port, and then 22. A box whose set is unsound answers as one whose arriving port is.
 fn refuse_unrouted(a: Port, facts: Facts, area: &[u8], room: usize) -> Decision
     ensures { result ≡ unrouted_of a facts area.now room }
 {

@@ -19,8 +19,8 @@ use Rattle.lists_search.proofs.Theorems.{parts}
 use Rattle.lists_sort.specs.Order.{Sorted, all}
 use Rattle.lists_sort.proofs.Laws.{sorted_first, sort_sorted, sort_all}
 use Rattle.route.specs.declared.Route.{Route}
-use Rattle.route.specs.declared.Chosen.{Chosen}
-use Rattle.route.specs.declared.Chosen.TheVariants.{NoRoute}
+use Rattle.route.specs.Route.{Chosen}
+use Rattle.std.specs.Prelude.{None}
 use Rattle.route.specs.Route.{matches, preferred, chosen_from, longest, longer}
 use Rattle.route.proofs.Laws.{power_pos}
 use Rattle.route_index.specs.Index.{port_number, port_at, first_address, behind_address, edges_of, edges, index_of, held, edge_count, indexed, found_in}
@@ -90,7 +90,7 @@ module _ (b a : ℕ) (up : b ≤ a) (top : a < 4294967296) where
 
   same_port : (rs : List Route) → all (Clear b a) (edges_of rs) ≡ true → port_at rs b ≡ port_at rs a
   unfolding longest
-  same_port rs e = ap port_number (sym (same_chosen NoRoute rs e))
+  same_port rs e = ap port_number (sym (same_chosen None rs e))
 
 -- Numbers in order.
 pub sorted_up : (lo : ℕ) (xs : List ℕ) (i j : ℕ) → Sorted lo xs → i ≤ j → j < length xs → get_or xs i 0 ≤ get_or xs j 0

@@ -1,86 +1,106 @@
 -- Laws of painting the routes over the addresses.
 use mathlib.Core.Path.{◌≡◌, refl, sym, ◌∙◌, ap}
 use mathlib.Core.Bool.{Bool, true, false, cond, ◌&&◌, and-false}
-use mathlib.Core.List.{List, [], ◌∷◌, ◌++◌, map}
-use Prim.Native.Nat.{ℕ, zero, suc, ◌+◌, ◌-◌, ◌*◌, ◌/◌, ◌^◌, ◌≤◌, ◌<◌, max}
+use mathlib.Core.List.{List, [], ◌∷◌, ◌++◌, map, map-append}
+use Prim.Native.Nat.{ℕ, zero, suc, ◌+◌, ◌-◌, ◌*◌, ◌/◌, ◌^◌, ◌≤◌, ◌<◌}
 use native.Mathlib.Omega.{arith}
-use native.Mathlib.Decide.{dec_le, ℕ_discrete}
+use native.Mathlib.Decide.{dec_le}
 use lib.Dec.{leb, ltb, eqb}
-use lib.ListN.{length, take, drop, get_or, set, length-set, length-map, length-drop, take-append-drop}
-use lib.Seq.{get_or-set_same, get_or-set_other, drop-set-lt, get_or-take, get_or-drop, length-take-le, drop-drop, ext_get_or}
+use lib.ListN.{length, take, drop, get_or, set, length-set, length-map, length-append, length-take, length-drop}
+use lib.Seq.{take-suc, take_all, get_or-set_other, get_or-append-add, get_or-take, get_or-drop, length-take-le, ext_get_or}
 use borrow.Author.Tests.{le-leb, lt-leb, lt-ltb, le-ltb, ltb-true, ltb-false, ne_eqb}
 use native.Mathlib.Numerals.{add-one}
 use lib.ListN.{get_or-append}
-use Rattle.lists_search.specs.Halves.{halved}
-use Rattle.lists_search.proofs.Theorems.{parts}
+use Rattle.std.specs.List.Sorted.{IsPartitionedBy, IsPartitionPoint}
+use Rattle.std.proofs.lemmas.List.{get_or_default, get_or-map}
+use Rattle.lists_sort.proofs.Merge.{put}
 use Rattle.lists_sort.specs.Order.{sort_keys}
 use Rattle.lists_sort.proofs.Laws.{sort_sorted, sort_length}
-use Rattle.route.specs.declared.Chosen.TheVariants.{By}
+use Rattle.std.specs.Prelude.{Some}
 use Rattle.route.specs.Route.{routes_of, matches, longer, preferred, chosen_from, longest}
 use Rattle.route.specs.Stages.{route_at}
 use Rattle.route.proofs.Laws.{chosen_turn, at_end, power_pos}
 use Rattle.route_index.specs.Index.{port_number, port_at, first_address}
-use Rattle.route_index.specs.Stages.{code_chosen, code_port, better_code, no_code, Rising, Updated, Painted, Kept}
+use Rattle.route_index.specs.Stages.{code_chosen, code_port, better_code, Rising, Below, Within, Painted}
 use Rattle.route_index.proofs.Found.{in_block, sorted_up}
 
--- A loop over the numbers behind the first n.
-module _ (g : ℕ → ℕ) (was : List ℕ) (n : ℕ) where
-  pub updated_start : (low : ℕ) → Updated g was was n low low
-  updated_start low = record { sized = refl; front = λ i l. refl; rest = refl; done = λ j l a b. absurd (omega arith); under = λ j l a. refl; above = λ j l a. refl }
+-- A loop that puts f of each number of one list at its place in another.
+pub record Mapped (f : ℕ → ℕ) (src now : List ℕ) (i : ℕ) : Type 0 where
+  pub sized : length now ≡ length src
+  pub done : take i now ≡ map f (take i src)
 
-  module _ (room : n + n ≤ length was) (index : List ℕ) (low i : ℕ) (s : Updated g was index n low i) where
-    pub updated_room : i < n → n + i < length index
-    updated_room h = omega (arith, s.sized)
+pub mapped_start : (f : ℕ → ℕ) (src now : List ℕ) → length now ≡ length src → Mapped f src now 0
+mapped_start f src now e = record { sized = e; done = refl }
 
-    pub updated_next : i < n → low ≤ i → (x : ℕ) → x ≡ g (get_or index (n + i) 0) → Updated g was (set index (n + i) x) n low (i + 1)
-    updated_next h l x e =
-        record {
-          sized = length-set index (n + i) x ∙ s.sized;
-          front = λ k a. get_or-set_other index (n + i) k x 0 (λ z. omega arith) ∙ s.front k a;
-          rest = drop-set-lt (n + n) index (n + i) x (omega arith) ∙ s.rest;
-          done = λ j a b c. elim (ℕ_discrete j i) [
-            | yes z ↦ ap (λ (k : ℕ). get_or (set index (n + i) x) (n + k) 0) z ∙ get_or-set_same index (n + i) x 0 (updated_room h) ∙ e ∙ ap g (s.above i h (omega arith)) ∙ ap (λ (k : ℕ). g (get_or was (n + k) 0)) (sym z)
-            | no z ↦ get_or-set_other index (n + i) (n + j) x 0 (λ y. z (omega arith)) ∙ s.done j a b (other j z c)
-          ];
-          under = λ j a b. get_or-set_other index (n + i) (n + j) x 0 (λ y. omega arith) ∙ s.under j a b;
-          above = λ j a b. get_or-set_other index (n + i) (n + j) x 0 (λ y. omega arith) ∙ s.above j a (omega arith);
-        }
-      where
-        other : (j : ℕ) → (j ≡ i → ⊥) → j < i + 1 → j < i
-        other j z c = omega arith
+module _ (f : ℕ → ℕ) (src now : List ℕ) (i : ℕ) (s : Mapped f src now i) where
+  pub mapped_next : i < length src → (x : ℕ) → x ≡ f (get_or src i 0) → Mapped f src (set now i x) (i + 1)
+  mapped_next h x e =
+      record {
+        sized = length-set now i x ∙ s.sized;
+        done = put now i x (omega (arith, s.sized)) ∙ ap (λ (z : List ℕ). z ++ (x ∷ [])) s.done ∙ ap (λ (y : ℕ). map f (take i src) ++ (y ∷ [])) e
+            ∙ rw (add-one i, take-suc src i 0 h) (sym (map-append f (take i src) (get_or src i 0 ∷ [])));
+      }
 
-    pub updated_end : (high : ℕ) → low ≤ i → i ≤ max low high → high ≤ i → Updated g was index n low high
-    updated_end high a b c =
-        record {
-          sized = s.sized;
-          front = s.front;
-          rest = s.rest;
-          done = λ j l d e. s.done j l d (omega arith);
-          under = s.under;
-          above = λ j l d. elim (dec_le i j) [ yes u ↦ s.above j l u | no u ↦ s.under j l (omega arith) ];
-        }
+  pub mapped_end : length src ≤ i → now ≡ map f src
+  mapped_end h = sym (take_all i now (omega (arith, s.sized))) ∙ s.done ∙ ap (map f) (take_all i src h)
 
--- The parts of a list by their numbers.
-module _ (f : ℕ → ℕ) (was index : List ℕ) (n : ℕ) (room : n + n ≤ length was) (z : length index ≡ length was) where
-  map_at : (xs : List ℕ) (i : ℕ) → i < length xs → get_or (map f xs) i 0 ≡ f (get_or xs i 0)
-  map_at [] i h = absurd (omega arith)
-  map_at (x ∷ xs) zero h = refl
-  map_at (x ∷ xs) (suc i) h = map_at xs i (omega arith)
+-- the numbers not yet reached are as they were
+abbrev pub Ahead : List ℕ → List ℕ → ℕ → Type 0
+Ahead was now i = (j : ℕ) → i ≤ j → get_or now j 0 ≡ get_or was j 0
 
-  pub places_list : ((i : ℕ) → i < n → get_or index i 0 ≡ get_or was i 0) → ((i : ℕ) → i < n → get_or index (n + i) 0 ≡ f (get_or was i 0)) → drop (n + n) index ≡ drop (n + n) was
-      → index ≡ take n was ++ (map f (take n was) ++ drop (n + n) was)
-  places_list front each rest =
-      let a : length (take n index) ≡ n = length-take-le n index (omega arith) in
-      let b : length (take n was) ≡ n = length-take-le n was (omega arith) in
-      let c : length (take n (drop n index)) ≡ n = length-take-le n (drop n index) (omega (arith, length-drop n index)) in
-      let d : length (map f (take n was)) ≡ n = length-map (take n was) f ∙ b in
-      let p : take n index ≡ take n was = ext_get_or 0 (take n index) (take n was) (a ∙ sym b) (λ i l. let h : i < n = omega arith in get_or-take n index i 0 h ∙ front i h ∙ sym (get_or-take n was i 0 h)) in
-      let q : take n (drop n index) ≡ map f (take n was) =
-      ext_get_or 0 (take n (drop n index)) (map f (take n was)) (c ∙ sym d)
-      (λ i l. let h : i < n = omega arith in get_or-take n (drop n index) i 0 h ∙ get_or-drop n index i 0 ∙ each i h ∙ ap f (sym (get_or-take n was i 0 h)) ∙ sym (map_at (take n was) i (omega arith))) in
-      sym (take-append-drop n index)
-      ∙ ap (λ (x : List ℕ). x ++ drop n index) p
-      ∙ ap (λ (x : List ℕ). take n was ++ x) (sym (take-append-drop n (drop n index)) ∙ ap (λ (x : List ℕ). x ++ drop n (drop n index)) q ∙ ap (λ (x : List ℕ). map f (take n was) ++ x) (drop-drop n n index ∙ rest))
+pub ahead_next : (was now : List ℕ) (i x : ℕ) → Ahead was now i → Ahead was (set now i x) (i + 1)
+ahead_next was now i x a j h = get_or-set_other now i j x 0 (λ z. omega arith) ∙ a j (omega arith)
+
+-- A part of a list, from low to high, that was changed number by number.
+module _ (f : ℕ → ℕ) (xs : List ℕ) (low high : ℕ) (up : low ≤ high) (fits : high ≤ length xs) where
+  abbrev pub spliced : List ℕ
+  spliced = take low xs ++ (map f (take (high - low) (drop low xs)) ++ drop (high - low) (drop low xs))
+
+  head_length : length (take low xs) ≡ low
+  head_length = length-take-le low xs (omega arith)
+
+  part_length : length (map f (take (high - low) (drop low xs))) ≡ high - low
+  part_length = length-map (take (high - low) (drop low xs)) f ∙ length-take-le (high - low) (drop low xs) (omega (arith, length-drop low xs))
+
+  pub spliced_length : length spliced ≡ length xs
+  spliced_length =
+      omega (
+        arith,
+        length-append (take low xs) (map f (take (high - low) (drop low xs)) ++ drop (high - low) (drop low xs)),
+        head_length,
+        part_length,
+        length-append (map f (take (high - low) (drop low xs))) (drop (high - low) (drop low xs)),
+        length-drop (high - low) (drop low xs),
+        length-drop low xs,
+      )
+
+  pub spliced_before : (i : ℕ) → i < low → get_or spliced i 0 ≡ get_or xs i 0
+  spliced_before i h = get_or-append (take low xs) (map f (take (high - low) (drop low xs)) ++ drop (high - low) (drop low xs)) 0 i (omega (arith, head_length)) ∙ get_or-take low xs i 0 h
+
+  behind_head : (j : ℕ) → get_or spliced (low + j) 0 ≡ get_or (map f (take (high - low) (drop low xs)) ++ drop (high - low) (drop low xs)) j 0
+  behind_head j =
+      ap (λ (k : ℕ). get_or spliced (k + j) 0) (sym head_length) ∙ get_or-append-add (take low xs) (map f (take (high - low) (drop low xs)) ++ drop (high - low) (drop low xs)) j 0
+
+  pub spliced_in : (i : ℕ) → low ≤ i → i < high → get_or spliced i 0 ≡ f (get_or xs i 0)
+  spliced_in i a b =
+      let e : low + (i - low) ≡ i = omega arith in
+      let l : i - low < length (take (high - low) (drop low xs)) = omega (arith, length-take-le (high - low) (drop low xs) (omega (arith, length-drop low xs))) in
+      ap (λ (k : ℕ). get_or spliced k 0) (sym e)
+      ∙ behind_head (i - low)
+      ∙ get_or-append (map f (take (high - low) (drop low xs))) (drop (high - low) (drop low xs)) 0 (i - low) (omega (arith, part_length))
+      ∙ get_or-map f (take (high - low) (drop low xs)) (i - low) 0 0 l
+      ∙ ap f (get_or-take (high - low) (drop low xs) (i - low) 0 (omega arith) ∙ get_or-drop low xs (i - low) 0 ∙ ap (λ (k : ℕ). get_or xs k 0) e)
+
+  pub spliced_behind : (i : ℕ) → high ≤ i → get_or spliced i 0 ≡ get_or xs i 0
+  spliced_behind i h =
+      let e : low + ((high - low) + (i - high)) ≡ i = omega arith in
+      ap (λ (k : ℕ). get_or spliced k 0) (sym e)
+      ∙ behind_head ((high - low) + (i - high))
+      ∙ ap (λ (k : ℕ). get_or (map f (take (high - low) (drop low xs)) ++ drop (high - low) (drop low xs)) (k + (i - high)) 0) (sym part_length)
+      ∙ get_or-append-add (map f (take (high - low) (drop low xs))) (drop (high - low) (drop low xs)) (i - high) 0
+      ∙ get_or-drop (high - low) (drop low xs) (i - high) 0
+      ∙ get_or-drop low xs ((high - low) + (i - high)) 0
+      ∙ ap (λ (k : ℕ). get_or xs k 0) e
 
 -- Numbers that were put in order rise.
 pub sorted_rising : (n : ℕ) (a b : List ℕ) → n ≤ length a → b ≡ sort_keys (take n a) ++ drop n a → Rising b n
@@ -89,36 +109,37 @@ sorted_rising n a b h e i j l k =
     let at : (x : ℕ) → x < n → get_or b x 0 ≡ get_or (sort_keys (take n a)) x 0 = λ x u. ap (λ (z : List ℕ). get_or z x 0) e ∙ get_or-append (sort_keys (take n a)) (drop n a) 0 x (omega arith) in
     omega (arith, at i (omega arith), at j k, sorted_up 0 (sort_keys (take n a)) i j (sort_sorted [] (take n a) tt) l (omega arith))
 
--- The place of a number among those that rise.
-record Below (index : List ℕ) (n x k : ℕ) : Type 0 where
-  inside : k ≤ n
-  under : (j : ℕ) → j < n → j < k → get_or index j 0 < x
-  above : (j : ℕ) → j < n → k ≤ j → x ≤ get_or index j 0
+pub rising_front : (b : List ℕ) (n : ℕ) → n ≤ length b → Rising b n → Rising (take n b) (length (take n b))
+rising_front b n h up i j l k =
+    let m : length (take n b) ≡ n = length-take-le n b h in
+    omega (arith, get_or-take n b i 0 (omega arith), get_or-take n b j 0 (omega arith), up i j l (omega arith))
 
-below_place : (index : List ℕ) (n x k : ℕ) → Rising index n → k ≡ halved n (λ i. ltb (get_or index i 0) x) 0 n → Below index n x k
-below_place index n x k up e =
-    let p = parts (λ i. ltb (get_or index i 0) x) 0 n (λ i j l h t. lt-ltb (get_or index i 0) x (omega (arith, up i j l h, ltb-true (get_or index j 0) x t))) n (omega arith) in
-    rw e (record {
-      inside = p.inside (omega arith);
-      under = λ j l h. ltb-true (get_or index j 0) x (p.before j (omega arith) h);
-      above = λ j l h. omega (arith, up _ j h l, ltb-false (get_or index (halved n (λ i. ltb (get_or index i 0) x) 0 n) 0) x (p.there (omega arith)));
-    })
+-- The place of a number among those that rise.
+pub rising_parted : (xs : List ℕ) (x : ℕ) → Rising xs (length xs) → IsPartitionedBy (λ y. ltb y x) xs
+rising_parted xs x up i j d l k t =
+    let a : get_or xs i d ≡ get_or xs i 0 = get_or_default xs i d 0 (omega arith) in
+    let b : get_or xs j d ≡ get_or xs j 0 = get_or_default xs j d 0 (omega arith) in
+    lt-ltb _ x (omega (arith, a, b, up i j l (omega arith), ltb-true _ x t))
+
+pub below_place : (xs : List ℕ) (x k : ℕ) → k ≤ length xs → IsPartitionPoint (λ y. ltb y x ≡ true) (λ y. ltb y x ≡ false) xs k → Below xs (length xs) x k
+below_place xs x k b p =
+    record { inside = b; under = λ j u v. ltb-true (get_or xs j 0) x (p.0 j 0 (omega arith) v); above = λ j u v. ltb-false (get_or xs j 0) x (p.1 j 0 v (omega arith)) }
 
 -- The longer of two routes, as numbers.
 better_longer : (routes : List ℕ) (at c : ℕ) → at ≡ at / 4 * 4 → code_chosen routes (better_code routes at c) ≡ longer (code_chosen routes c) (route_at routes at)
-better_longer routes at zero e = ap (code_chosen routes) (add-one (at / 4)) ∙ ap (λ (k : ℕ). By (route_at routes k)) (sym e)
+better_longer routes at zero e = ap (code_chosen routes) (add-one (at / 4)) ∙ ap (λ (k : ℕ). Some (route_at routes k)) (sym e)
 better_longer routes at (suc m) e = go (ltb (get_or routes (m * 4 + 1) 0) (get_or routes (at + 1) 0)) refl
   where
     z : (suc m - 1) * 4 + 1 ≡ m * 4 + 1
     z = omega arith
 
-    own : code_chosen routes (at / 4 + 1) ≡ By (route_at routes at)
-    own = ap (code_chosen routes) (add-one (at / 4)) ∙ ap (λ (k : ℕ). By (route_at routes k)) (sym e)
+    own : code_chosen routes (at / 4 + 1) ≡ Some (route_at routes at)
+    own = ap (code_chosen routes) (add-one (at / 4)) ∙ ap (λ (k : ℕ). Some (route_at routes k)) (sym e)
 
     code : (b : Bool) → ltb (get_or routes (m * 4 + 1) 0) (get_or routes (at + 1) 0) ≡ b → better_code routes at (suc m) ≡ cond b (at / 4 + 1) (suc m)
     code b q = rw (ne_eqb (suc m) 0 (λ y. omega arith), z, q)
 
-    go : (b : Bool) → ltb (get_or routes (m * 4 + 1) 0) (get_or routes (at + 1) 0) ≡ b → code_chosen routes (better_code routes at (suc m)) ≡ cond b (By (route_at routes at)) (By (route_at routes (m * 4)))
+    go : (b : Bool) → ltb (get_or routes (m * 4 + 1) 0) (get_or routes (at + 1) 0) ≡ b → code_chosen routes (better_code routes at (suc m)) ≡ cond b (Some (route_at routes at)) (Some (route_at routes (m * 4)))
     go true q = ap (code_chosen routes) (code true q) ∙ own
     go false q = ap (code_chosen routes) (code false q)
 
@@ -131,74 +152,71 @@ better_inside routes at c h = go (eqb c 0) (ltb (get_or routes ((c - 1) * 4 + 1)
     go false false = omega arith
 
 -- One route more.
-module _ (routes index index' : List ℕ) (n at low high first size : ℕ) (up : Rising index n) (s : Painted routes index n at) (whole : at + 4 ≤ length routes) (fours : at ≡ at / 4 * 4)
+module _ (routes addresses codes : List ℕ) (at low high first size : ℕ) (up : Rising addresses (length addresses)) (s : Painted routes addresses codes at) (whole : at + 4 ≤ length routes) (fours : at ≡ at / 4 * 4)
     (ef : first ≡ first_address (get_or routes at 0) (get_or routes (at + 1) 0)) (es : size ≡ 2 ^ (32 - get_or routes (at + 1) 0))
-    (el : low ≡ halved n (λ i. ltb (get_or index i 0) first) 0 n) (eh : high ≡ halved n (λ i. ltb (get_or index i 0) (first + size)) 0 n) where
-  pub high_inside : high ≤ n
-  high_inside = (below_place index n (first + size) high up eh).inside
+    (lo : Below addresses (length addresses) first low) (hi : Below addresses (length addresses) (first + size) high) where
+  pub in_order : low ≤ high
+  in_order = elim (dec_le low high) [ yes p ↦ p | no q ↦ absurd (let a = lo.under high (omega (arith, lo.inside)) (omega arith) in let b = hi.above high (omega (arith, lo.inside)) (omega arith) in omega arith) ]
 
-  module _ (u : Updated (better_code routes at) index index' n low high) where
-    block_is : (a : ℕ) → matches (route_at routes at) a ≡ (leb first a && ltb a (first + size))
-    block_is a = in_block (get_or routes at 0) a (2 ^ (32 - get_or routes (at + 1) 0)) (power_pos (32 - get_or routes (at + 1) 0)) ∙ rw (ef, es)
+  pub part_within : Within at (take (high - low) (drop low codes))
+  part_within i l =
+      let k : i < high - low = omega (arith, length-take (high - low) (drop low codes)) in
+      omega (arith, get_or-take (high - low) (drop low codes) i 0 k, get_or-drop low codes i 0, s.inside (low + i) (omega (arith, in_order, hi.inside, s.sized)))
 
-    step : (i : ℕ) → i < n → (get_or index' (n + i) 0 * 4 ≤ at + 4) × (code_chosen routes (get_or index' (n + i) 0) ≡ preferred (get_or index i 0) (code_chosen routes (get_or index (n + i) 0)) (route_at routes at))
-    step i l =
-        let a : ℕ = get_or index i 0 in
-        let c : ℕ = get_or index (n + i) 0 in
-        let lo = below_place index n first low up el in
-        let hi = below_place index n (first + size) high up eh in
-        elim (dec_le low i) [
-          | yes p ↦ elim (dec_le high i) [
-            | yes q ↦ kept i l (u.above i l q) (block_is a ∙ rw (le-ltb a (first + size) (hi.above i l q)) (and-false (leb first a)))
-            | no q ↦ (let e : get_or index' (n + i) 0 ≡ better_code routes at c = u.done i l p (omega arith) in
-                let m : matches (route_at routes at) a ≡ true = block_is a ∙ rw (le-leb first a (lo.above i l p), lt-ltb a (first + size) (hi.under i l (omega arith))) in
-                (rw e (better_inside routes at c (s.inside i l)), ap (code_chosen routes) e ∙ better_longer routes at c fours ∙ sym (rw m)))
-          ]
-          | no p ↦ kept i l (u.under i l (omega arith)) (block_is a ∙ rw (lt-leb first a (lo.under i l (omega arith))))
+  abbrev codes' : List ℕ
+  codes' = spliced (better_code routes at) codes low high in_order (omega (arith, hi.inside, s.sized))
+
+  block_is : (a : ℕ) → matches (route_at routes at) a ≡ (leb first a && ltb a (first + size))
+  block_is a = in_block (get_or routes at 0) a (2 ^ (32 - get_or routes (at + 1) 0)) (power_pos (32 - get_or routes (at + 1) 0)) ∙ rw (ef, es)
+
+  step : (i : ℕ) → i < length addresses → (get_or codes' i 0 * 4 ≤ at + 4) × (code_chosen routes (get_or codes' i 0) ≡ preferred (get_or addresses i 0) (code_chosen routes (get_or codes i 0)) (route_at routes at))
+  step i l =
+      let a : ℕ = get_or addresses i 0 in
+      let c : ℕ = get_or codes i 0 in
+      let g = better_code routes at in
+      let f : high ≤ length codes = omega (arith, hi.inside, s.sized) in
+      elim (dec_le low i) [
+        | yes p ↦ elim (dec_le high i) [
+          | yes q ↦ kept i l (spliced_behind g codes low high in_order f i q) (block_is a ∙ rw (le-ltb a (first + size) (hi.above i l q)) (and-false (leb first a)))
+          | no q ↦ (let e : get_or codes' i 0 ≡ better_code routes at c = spliced_in g codes low high in_order f i p (omega arith) in
+              let m : matches (route_at routes at) a ≡ true = block_is a ∙ rw (le-leb first a (lo.above i l p), lt-ltb a (first + size) (hi.under i l (omega arith))) in
+              (rw e (better_inside routes at c (s.inside i (omega (arith, s.sized)))), ap (code_chosen routes) e ∙ better_longer routes at c fours ∙ sym (rw m)))
         ]
-      where
-        kept : (i : ℕ) → i < n → get_or index' (n + i) 0 ≡ get_or index (n + i) 0 → matches (route_at routes at) (get_or index i 0) ≡ false
-            → (get_or index' (n + i) 0 * 4 ≤ at + 4) × (code_chosen routes (get_or index' (n + i) 0) ≡ preferred (get_or index i 0) (code_chosen routes (get_or index (n + i) 0)) (route_at routes at))
-        kept i l e m = (omega (arith, e, s.inside i l), ap (code_chosen routes) e ∙ sym (rw m))
+        | no p ↦ kept i l (spliced_before g codes low high in_order f i (omega arith)) (block_is a ∙ rw (lt-leb first a (lo.under i l (omega arith))))
+      ]
+    where
+      kept : (i : ℕ) → i < length addresses → get_or codes' i 0 ≡ get_or codes i 0 → matches (route_at routes at) (get_or addresses i 0) ≡ false
+          → (get_or codes' i 0 * 4 ≤ at + 4) × (code_chosen routes (get_or codes' i 0) ≡ preferred (get_or addresses i 0) (code_chosen routes (get_or codes i 0)) (route_at routes at))
+      kept i l e m = (omega (arith, e, s.inside i (omega (arith, s.sized))), ap (code_chosen routes) e ∙ sym (rw m))
 
-    pub painted_next : Painted routes index' n (at + 4) × Kept index index' n
-    painted_next = (
+  pub painted_next : Painted routes addresses codes' (at + 4)
+  painted_next =
+      let z : length codes' ≡ length codes = spliced_length (better_code routes at) codes low high in_order (omega (arith, hi.inside, s.sized)) in
       record {
-        inside = λ i l. (step i l).0;
-        chosen = λ i l. ap (λ (a : ℕ). longest a (routes_of routes)) (u.front i l)
-            ∙ chosen_turn routes at (get_or index i 0) (code_chosen routes (get_or index (n + i) 0)) (longest (get_or index i 0) (routes_of routes)) (s.chosen i l) whole (route_at routes at) refl (code_chosen routes (get_or index' (n + i) 0)) (step i l).1
-            ∙ ap (λ (a : ℕ). chosen_from a (code_chosen routes (get_or index' (n + i) 0)) (routes_of (drop (at + 4) routes))) (sym (u.front i l));
-      },
-      record { sized = u.sized; front = u.front; rest = u.rest },
-    )
+        sized = z ∙ s.sized;
+        inside = λ i l. (step i (omega (arith, z, s.sized))).0;
+        chosen = λ i l. chosen_turn routes at (get_or addresses i 0) (code_chosen routes (get_or codes i 0)) (longest (get_or addresses i 0) (routes_of routes)) (s.chosen i l) whole (route_at routes at) refl (code_chosen routes (get_or codes' i 0)) (step i l).1;
+      }
 
 -- No route so far.
-pub painted_start : (routes was index : List ℕ) (n : ℕ) → Updated no_code was index n 0 n → Painted routes index n 0
+pub painted_start : (routes addresses codes : List ℕ) → length codes ≡ length addresses → ((i : ℕ) → i < length codes → get_or codes i 0 ≡ 0) → Painted routes addresses codes 0
 unfolding longest
-painted_start routes was index n u =
+painted_start routes addresses codes e z =
     record {
-      inside = λ i l. omega (arith, u.done i l (omega arith) l);
-      chosen = λ i l. sym (ap (λ (c : ℕ). chosen_from (get_or index i 0) (code_chosen routes c) (routes_of routes)) (u.done i l (omega arith) l));
+      sized = e;
+      inside = λ i l. omega (arith, z i l);
+      chosen = λ i l. sym (ap (λ (c : ℕ). chosen_from (get_or addresses i 0) (code_chosen routes c) (routes_of routes)) (z i (omega arith)));
     }
 
-pub rising_kept : (was index : List ℕ) (n : ℕ) → Rising was n → ((i : ℕ) → i < n → get_or index i 0 ≡ get_or was i 0) → Rising index n
-rising_kept was index n up front i j l k = omega (arith, up i j l k, front i (omega arith), front j k)
-
-pub kept_same : (was : List ℕ) (n : ℕ) → Kept was was n
-kept_same was n = record { sized = refl; front = λ i l. refl; rest = refl }
-
-pub kept_on : (a b c : List ℕ) (n : ℕ) → Kept a b n → Kept b c n → Kept a c n
-kept_on a b c n p q = record { sized = q.sized ∙ p.sized; front = λ i l. q.front i l ∙ p.front i l; rest = q.rest ∙ p.rest }
-
 -- all routes painted, and their ports named
-pub painted_all : (routes a b c d : List ℕ) (n : ℕ) → n + n ≤ length a → Updated no_code a b n 0 n → Painted routes c n (length routes / 4 * 4) → Kept b c n → Updated (code_port routes) c d n 0 n
-    → d ≡ take n a ++ (map (port_at (routes_of routes)) (take n a) ++ drop (n + n) a)
-painted_all routes a b c d n room u s k v =
-    places_list (port_at (routes_of routes)) a d n room (v.sized ∙ k.sized ∙ u.sized)
-    (λ i l. v.front i l ∙ k.front i l ∙ u.front i l)
+pub painted_all : (routes addresses codes : List ℕ) → Painted routes addresses codes (length routes / 4 * 4) → map (code_port routes) codes ≡ map (port_at (routes_of routes)) addresses
+painted_all routes addresses codes s =
+    let f = code_port routes in
+    let g = port_at (routes_of routes) in
+    ext_get_or 0 (map f codes) (map g addresses) (length-map codes f ∙ s.sized ∙ sym (length-map addresses g))
     (λ i l.
-    let e : get_or c i 0 ≡ get_or a i 0 = k.front i l ∙ u.front i l in
-    let q : longest (get_or c i 0) (routes_of routes) ≡ code_chosen routes (get_or c (n + i) 0) =
-    s.chosen i l ∙ ap (chosen_from (get_or c i 0) (code_chosen routes (get_or c (n + i) 0))) (at_end routes (length routes / 4 * 4) (omega arith)) in
-    v.done i l (omega arith) l ∙ ap port_number (sym q) ∙ ap (port_at (routes_of routes)) e)
-    (v.rest ∙ k.rest ∙ u.rest)
+    let h : i < length codes = omega (arith, length-map codes f) in
+    let k : i < length addresses = omega (arith, s.sized) in
+    let q : longest (get_or addresses i 0) (routes_of routes) ≡ code_chosen routes (get_or codes i 0) =
+    s.chosen i k ∙ ap (chosen_from (get_or addresses i 0) (code_chosen routes (get_or codes i 0))) (at_end routes (length routes / 4 * 4) (omega arith)) in
+    get_or-map f codes i 0 0 h ∙ ap port_number (sym q) ∙ sym (get_or-map g addresses i 0 0 k))

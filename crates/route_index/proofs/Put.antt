@@ -1,12 +1,11 @@
 -- Laws of the loops that write an index.
 use mathlib.Core.Path.{◌≡◌, refl, sym, ◌∙◌, ap}
 use mathlib.Core.Bool.{true, false}
-use mathlib.Core.List.{List, [], ◌∷◌, ◌++◌, map, map-append, append_assoc, append-nil}
+use mathlib.Core.List.{List, [], ◌∷◌, ◌++◌, map, append_assoc, append-nil}
 use Prim.Native.Nat.{ℕ, ◌+◌, ◌-◌, ◌*◌, ◌/◌, ◌≤◌, ◌<◌}
 use native.Mathlib.Omega.{arith}
-use native.Mathlib.Numerals.{add-one}
-use lib.ListN.{length, take, drop, get_or, set, length-append, length-map, length-set, take-append-drop, get_or-append}
-use lib.Seq.{take-suc, get_or-take, drop-set-lt, drop-drop, append_snoc, length-take-le, take_at, drop_at}
+use lib.ListN.{length, take, drop, get_or, set, length-append, length-map, length-set, take-append-drop}
+use lib.Seq.{drop-set-lt, drop-drop, append_snoc, length-take-le, take_at, drop_at}
 use borrow.Author.Tests.{le-leb, lt-leb}
 use Rattle.lists_sort.specs.Order.{sort_keys}
 use Rattle.lists_sort.proofs.Laws.{sort_length}
@@ -83,49 +82,6 @@ edging_all routes was index w at room s h =
     let n : length (set was 0 0) ≡ length was = length-set was 0 0 in
     edging_end routes (set was 0 0) index w at (omega arith) s h
     ∙ ap (λ (z : List ℕ). (0 ∷ edges_of (routes_of routes)) ++ z) (drop-set-lt (length (0 ∷ edges_of (routes_of routes))) was 0 0 (omega arith))
-
--- The ports of the first i edges are written behind them.
-pub record Porting (f : ℕ → ℕ) (was index : List ℕ) (n i : ℕ) : Type 0 where
-  pub inside : i ≤ n
-  pub sized : length index ≡ length was
-  pub front : take (n + i) index ≡ take n was ++ map f (take i was)
-  pub rest : drop (n + i) index ≡ drop (n + i) was
-
-pub porting_start : (f : ℕ → ℕ) (was : List ℕ) (n : ℕ) → Porting f was was n 0
-porting_start f was n =
-    let z : n + 0 ≡ n = omega arith in
-    record { inside = omega arith; sized = refl; front = ap (λ (k : ℕ). take k was) z ∙ sym (append-nil (take n was)); rest = refl }
-
-module _ (f : ℕ → ℕ) (was : List ℕ) (n : ℕ) (room : n + n ≤ length was) (index : List ℕ) (i : ℕ) (s : Porting f was index n i) where
-  pub porting_read : i < n → get_or index i 0 ≡ get_or was i 0
-  porting_read h =
-      let l : i < length (take n was) = omega (arith, length-take-le n was (omega arith)) in
-      sym (get_or-take (n + i) index i 0 (omega arith)) ∙ ap (λ (z : List ℕ). get_or z i 0) s.front ∙ get_or-append (take n was) (map f (take i was)) 0 i l ∙ get_or-take n was i 0 h
-
-  pub porting_room : i < n → n + i < length index
-  porting_room h = omega (arith, s.sized)
-
-  pub porting_again : (x : ℕ) → i < n → x ≡ f (get_or index i 0) → Porting f was (set index (n + i) x) n (i + 1)
-  porting_again x h e =
-      let z : n + i + 1 ≡ n + (i + 1) = omega arith in
-      let p : take (n + i + 1) (set index (n + i) x) ≡ take (n + i) index ++ (x ∷ []) = put index (n + i) x (porting_room h) in
-      let m : map f (take (i + 1) was) ≡ map f (take i was) ++ (x ∷ []) =
-      ap (λ (k : ℕ). map f (take k was)) (add-one i) ∙ ap (map f) (take-suc was i 0 (omega arith)) ∙ map-append f (take i was) (get_or was i 0 ∷ []) ∙ ap (λ (y : ℕ). map f (take i was) ++ (y ∷ [])) (sym (e ∙ ap f (porting_read h))) in
-      record {
-        inside = omega arith;
-        sized = length-set index (n + i) x ∙ s.sized;
-        front = ap (λ (k : ℕ). take k (set index (n + i) x)) (sym z) ∙ p ∙ ap (λ (y : List ℕ). y ++ (x ∷ [])) s.front ∙ append_assoc (take n was) (map f (take i was)) (x ∷ []) ∙ ap (λ (y : List ℕ). take n was ++ y) (sym m);
-        rest = drop-set-lt (n + (i + 1)) index (n + i) x (omega arith) ∙ later index was (n + i) (n + (i + 1)) (omega arith) s.rest;
-      }
-
-  pub porting_end : n ≤ i → index ≡ take n was ++ (map f (take n was) ++ drop (n + n) was)
-  porting_end h =
-      let z : i ≡ n = omega (arith, s.inside) in
-      sym (take-append-drop (n + i) index)
-      ∙ ap (λ (y : List ℕ). y ++ drop (n + i) index) s.front
-      ∙ append_assoc (take n was) (map f (take i was)) (drop (n + i) index)
-      ∙ ap (λ (y : List ℕ). take n was ++ (map f (take i was) ++ y)) s.rest
-      ∙ ap (λ (k : ℕ). take n was ++ (map f (take k was) ++ drop (n + k) was)) z
 
 -- How many routes, and how many edges.
 pub routes_length : (ns : List ℕ) → length (routes_of ns) ≡ length ns / 4

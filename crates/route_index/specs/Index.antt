@@ -1,16 +1,14 @@
 -- Document 02, Wish 7 ("the longest matching prefix decides"): an index of routes, made once for many datagrams, and what is found by it, whatever numbers it has.
-use Rattle.std.specs.Prelude.{Bool, cond, List, [], ◌∷◌, ◌++◌, map, ℕ, ◌+◌, ◌-◌, ◌*◌, ◌/◌, ◌%◌, ◌^◌, leb, eqb, length as count, drop, get_or}
+use Rattle.std.specs.Prelude.{None, Some, Bool, cond, List, [], ◌∷◌, ◌++◌, map, ℕ, ◌+◌, ◌-◌, ◌*◌, ◌/◌, ◌%◌, ◌^◌, leb, eqb, length as count, drop, get_or}
 use Rattle.lists_search.specs.Halves.{halved}
 use Rattle.lists_sort.specs.Order.{sort_keys}
 use Rattle.route.specs.declared.Route.{Route}
-use Rattle.route.specs.declared.Chosen.{Chosen}
-use Rattle.route.specs.declared.Chosen.TheVariants.{NoRoute, By}
-use Rattle.route.specs.Route.{longest}
+use Rattle.route.specs.Route.{Chosen, longest}
 
 -- the port of the route that decides, as a number; the highest number stands for none
 abbrev pub port_number : Chosen → ℕ
-port_number NoRoute = 4294967295
-port_number (By r) = r.port
+port_number None = 4294967295
+port_number (Some r) = r.port
 
 -- the port that an address goes to
 abbrev pub port_at : List Route → ℕ → ℕ

@@ -6,10 +6,10 @@ ghost use Rattle.std.specs.Prelude.{◌≡◌, ◌∷◌, ◌++◌, map, ◌+◌
 ghost use Rattle.lists_search.specs.Halves.{halved};
 ghost use Rattle.route.specs.Route.{routes_of};
 ghost use Rattle.route_index.specs.Index.{port_number, port_at, first_address, behind_address, edges_of, edge_count, indexed, found_in};
-ghost use Rattle.route_index.specs.Stages.{code_port, better_code, no_code, Rising, Updated, Painted, Kept};
+ghost use Rattle.route_index.specs.Stages.{code_port, better_code, Rising, Below, Within, Painted};
 
 use lists_sort::sort_keys;
-use route::{Chosen, choose_route};
+use route::{Route, choose_route};
 
 // The number that stands for no port.
 pub const NO_PORT: u32 = 4294967295;
@@ -25,11 +25,13 @@ pub fn index_routes(routes: &[u32], index: &mut [u32]) -> usize
     }
     put_edges(routes, index);
     sort_keys(index, n);
+    let (addresses, behind) = index.split_at_mut(n);
+    let ports = &mut behind[..n];
     if routes.len() <= 1024 {
-        paint_ports(routes, index, n);
+        paint_ports(routes, addresses, ports);
         return n;
     }
-    put_ports(routes, index, n);
+    put_ports(routes, addresses, ports);
     n
 }
 
@@ -38,17 +40,12 @@ fn put_edges(routes: &[u32], index: &mut [u32])
     requires { length routes.now / 4 * 2 + 1 ≤ length index.old }
     ensures { index.new ≡ (0 ∷ edges_of (routes_of routes.now)) ++ drop (length (0 ∷ edges_of (routes_of routes.now))) index.old }
 {
-    let n = routes.len();
     index[0] = 0;
-    let mut w: usize = 1;
-    let mut at: usize = 0;
-    while 4 <= n - at {
-        let prefix = routes[at];
-        let length = routes[at + 1];
-        index[w] = first_address(prefix, length);
-        index[w + 1] = behind_address(prefix, length);
-        w += 2;
-        at += 4;
+    for i in 0..routes.len() / 4 {
+        let prefix = routes[4 * i];
+        let length = routes[4 * i + 1];
+        index[2 * i + 1] = first_address(prefix, length);
+        index[2 * i + 2] = behind_address(prefix, length);
     }
 }
 
@@ -83,103 +80,65 @@ fn behind_address(prefix: u32, length: u32) -> u32
     ((first + size) % 4294967296) as u32
 }
 
-// Behind the first n numbers, for each the port that it goes to as an address.
-fn put_ports(routes: &[u32], index: &mut [u32], n: usize)
-    requires { n + n ≤ length index.old }
-    ensures { index.new ≡ take n index.old ++ (map (port_at (routes_of routes.now)) (take n index.old) ++ drop (n + n) index.old) }
+// For each address the port that it goes to.
+fn put_ports(routes: &[u32], addresses: &[u32], ports: &mut [u32])
+    requires { length ports.old ≡ length addresses.now }
+    ensures { ports.new ≡ map (port_at (routes_of routes.now)) addresses.now }
 {
-    let mut i: usize = 0;
-    while i < n {
-        let address = index[i];
-        let chosen = choose_route(routes, address);
-        index[n + i] = port_number(chosen);
-        i += 1;
+    for (i, address) in addresses.iter().enumerate() {
+        ports[i] = port_number(choose_route(routes, *address));
     }
 }
 
 // The same, faster, of a list that may be sound: route by route, at the addresses of each, which lie side by side.
-fn paint_ports(routes: &[u32], index: &mut [u32], n: usize)
-    requires { (n + n ≤ length index.old) × (length routes.now ≤ 1024) × Rising index.old n }
-    ensures { index.new ≡ take n index.old ++ (map (port_at (routes_of routes.now)) (take n index.old) ++ drop (n + n) index.old) }
+fn paint_ports(routes: &[u32], addresses: &[u32], ports: &mut [u32])
+    requires { (length ports.old ≡ length addresses.now) × (length routes.now ≤ 1024) × Rising addresses.now (length addresses.now) }
+    ensures { ports.new ≡ map (port_at (routes_of routes.now)) addresses.now }
 {
-    put_none(index, n);
-    paint_routes(routes, index, n);
-    name_ports(routes, index, n);
-}
-
-// No address has a route so far.
-fn put_none(index: &mut [u32], n: usize)
-    requires { n + n ≤ length index.old }
-    ensures { Updated no_code index.old index.new n 0 n }
-{
-    let mut i: usize = 0;
-    while i < n {
-        index[n + i] = 0;
-        i += 1;
-    }
+    // no address has a route so far
+    ports.fill(0);
+    paint_routes(routes, addresses, ports);
+    name_ports(routes, ports);
 }
 
 // Each route in its turn.
-fn paint_routes(routes: &[u32], index: &mut [u32], n: usize)
-    requires { (n + n ≤ length index.old) × (length routes.now ≤ 1024) × Rising index.old n × Painted routes.now index.old n 0 }
-    ensures { Painted routes.now index.new n (length routes.now / 4 * 4) × Kept index.old index.new n }
+fn paint_routes(routes: &[u32], addresses: &[u32], ports: &mut [u32])
+    requires { (length routes.now ≤ 1024) × Rising addresses.now (length addresses.now) × Painted routes.now addresses.now ports.old 0 }
+    ensures { Painted routes.now addresses.now ports.new (length routes.now / 4 * 4) }
 {
-    let all = routes.len();
-    let mut at: usize = 0;
-    while 4 <= all - at {
-        paint_route(routes, at, index, n);
-        at += 4;
+    for i in 0..routes.len() / 4 {
+        paint_route(routes, 4 * i, addresses, ports);
     }
 }
 
 // One route more, at its addresses.
-fn paint_route(routes: &[u32], at: usize, index: &mut [u32], n: usize)
-    requires { (n + n ≤ length index.old) × (length routes.now ≤ 1024) × (at + 4 ≤ length routes.now) × (at ≡ at / 4 * 4) × Rising index.old n × Painted routes.now index.old n at }
-    ensures { Painted routes.now index.new n (at + 4) × Kept index.old index.new n }
+fn paint_route(routes: &[u32], at: usize, addresses: &[u32], ports: &mut [u32])
+    requires { (length routes.now ≤ 1024) × (at + 4 ≤ length routes.now) × (at ≡ at / 4 * 4) × Rising addresses.now (length addresses.now) × Painted routes.now addresses.now ports.old at }
+    ensures { Painted routes.now addresses.now ports.new (at + 4) }
 {
     let length = routes[at + 1];
-    let first = wide(first_address(routes[at], length));
+    let first = first_address(routes[at], length) as u64;
     let size = block(length);
-    let low = count_below(index, n, first);
-    let high = count_below(index, n, first + size);
-    paint_places(routes, at, index, n, low, high);
+    let low = count_below(addresses, first);
+    let high = count_below(addresses, first + size);
+    paint_places(routes, at, &mut ports[low..high]);
 }
 
-fn wide(x: u32) -> u64
-    ensures { (result ≡ x) × (result ≤ 4294967295) }
+// How many of the numbers, which rise, are below another, by halves.
+fn count_below(addresses: &[u32], x: u64) -> usize
+    requires { Rising addresses.now (length addresses.now) }
+    ensures { Below addresses.now (length addresses.now) x result }
 {
-    x as u64
+    addresses.partition_point(|edge| (*edge as u64) < x)
 }
 
-// How many of the first n numbers, which rise, are below another, by halves.
-fn count_below(index: &[u32], n: usize, x: u64) -> usize
-    requires { n ≤ length index.now }
-    ensures { result ≡ halved n (λ i. ltb (get_or index.now i 0) x) 0 n }
+// The route at these places, where none is so far or a shorter one.
+fn paint_places(routes: &[u32], at: usize, places: &mut [u32])
+    requires { (length routes.now ≤ 1024) × (at + 4 ≤ length routes.now) × Within at places.old }
+    ensures { places.new ≡ map (better_code routes.now at) places.old }
 {
-    let mut low: usize = 0;
-    let mut high = n;
-    while low < high {
-        let middle = low + (high - low) / 2;
-        let edge = wide(index[middle]);
-        if edge < x {
-            low = middle + 1;
-        } else {
-            high = middle;
-        }
-    }
-    low
-}
-
-// The route at the places from low to high, where none is so far or a shorter one.
-fn paint_places(routes: &[u32], at: usize, index: &mut [u32], n: usize, low: usize, high: usize)
-    requires { (n + n ≤ length index.old) × (length routes.now ≤ 1024) × (at + 4 ≤ length routes.now) × (high ≤ n) × Painted routes.now index.old n at }
-    ensures { Updated (better_code routes.now at) index.old index.new n low high }
-{
-    let mut i = low;
-    while i < high {
-        let code = index[n + i];
-        index[n + i] = better_code(routes, at, code);
-        i += 1;
+    for place in places.iter_mut() {
+        *place = better_code(routes, at, *place);
     }
 }
 
@@ -199,15 +158,12 @@ fn better_code(routes: &[u32], at: usize, code: u32) -> u32
 }
 
 // The numbers of the routes become those of their ports.
-fn name_ports(routes: &[u32], index: &mut [u32], n: usize)
-    requires { (n + n ≤ length index.old) × (length routes.now ≤ 1024) × Painted routes.now index.old n (length routes.now / 4 * 4) }
-    ensures { Updated (code_port routes.now) index.old index.new n 0 n }
+fn name_ports(routes: &[u32], ports: &mut [u32])
+    requires { (length routes.now ≤ 1024) × Within (length routes.now) ports.old }
+    ensures { ports.new ≡ map (code_port routes.now) ports.old }
 {
-    let mut i: usize = 0;
-    while i < n {
-        let code = index[n + i];
-        index[n + i] = port_of(routes, code);
-        i += 1;
+    for port in ports.iter_mut() {
+        *port = port_of(routes, *port);
     }
 }
 
@@ -222,12 +178,12 @@ fn port_of(routes: &[u32], code: u32) -> u32
     routes[place]
 }
 
-fn port_number(chosen: Chosen) -> u32
+fn port_number(chosen: Option<Route>) -> u32
     ensures { result ≡ port_number chosen }
 {
     match chosen {
-        Chosen::NoRoute => NO_PORT,
-        Chosen::By(route) => route.port,
+        None => NO_PORT,
+        Some(route) => route.port,
     }
 }
 

@@ -76,31 +76,18 @@ module _ (xs : List Port) (p : Port) where
       go (inl h) = noted_room h
       go (inr h) = noted_full h
 
--- what is known before the turn at `i`
-pub record Surveyed (ys : List Port) (i : ℕ) (s : Survey) : Type 0 where
-  pub within : i ≤ length ys
-  pub so_far : s ≡ survey_of (take i ys)
-
-pub begin : (ys : List Port) (s : Survey) → s ≡ start_of → Surveyed ys 0 s
+-- what is known before the first port, and of one more
+pub begin : survey_of [] ≡ start_of
 unfolding survey_of ports_sound
-begin ys s e = record { within = omega arith; so_far = e }
+begin = refl
 
-pub one_more : (ys : List Port) (i : ℕ) (s : Survey) → i < length ys → Surveyed ys i s → (p : Port) → p ≡ port_at ys i → (r : Survey) → r ≡ noted_by s p → Surveyed ys (i + 1) r
-unfolding port_at
-one_more ys i s l k p ep r er =
-    record {
-      within = omega arith;
-      so_far =
-          er
-          ∙ ap (λ (t : Survey). noted_by t p) k.so_far
-          ∙ noted (take i ys) p
-          ∙ ap (λ (q : Port). survey_of (take i ys ++ (q ∷ []))) ep
-          ∙ ap survey_of (sym (take-suc ys i unlisted_port l))
-          ∙ ap (λ (n : ℕ). survey_of (take n ys)) (sym (add-one i));
-    }
-
-pub at_end : (ys : List Port) (i : ℕ) (s : Survey) → length ys ≤ i → Surveyed ys i s → s ≡ survey_of ys
-at_end ys i s l k = k.so_far ∙ ap survey_of (take_all i ys l)
+pub one_more : (ys : List Port) (i : ℕ) (s : Survey) → i < length ys → s ≡ survey_of (take i ys) → (d : Port) (r : Survey) → r ≡ noted_by s (get_or ys i d) → r ≡ survey_of (take (i + 1) ys)
+one_more ys i s l k d r e =
+    e
+    ∙ ap (λ (t : Survey). noted_by t (get_or ys i d)) k
+    ∙ noted (take i ys) (get_or ys i d)
+    ∙ ap survey_of (sym (take-suc ys i d l))
+    ∙ ap (λ (n : ℕ). survey_of (take n ys)) (sym (add-one i))
 
 -- Of sound ports: each is sound, none is left out, and the domains known are theirs.
 sound_in : (ps : List Port) (i : ℕ) → all_sound ps ≡ true → i < length ps → port_sound (get_or ps i unlisted_port) ≡ true

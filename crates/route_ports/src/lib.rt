@@ -42,13 +42,9 @@ pub fn pick_port(ports: &[Port], i: usize) -> Port
 pub fn survey_ports(ports: &[Port]) -> Survey
     ensures { result ≡ survey_of ports.now }
 {
-    let n = ports.len();
     let mut s = start();
-    let mut i: usize = 0;
-    while i < n {
-        let p = pick_port(ports, i);
-        s = note_port(s, p);
-        i += 1;
+    for p in ports {
+        s = note_port(s, *p);
     }
     s
 }

@@ -1,18 +1,16 @@
 -- The theorem of `specs/Theorems.antt`.
-use mathlib.Core.Path.{◌≡◌, refl, sym, ◌∙◌, ap}
+use mathlib.Core.Path.{◌≡◌, refl, ◌∙◌, ap}
 use mathlib.Core.Bool.{Bool, true, false, cond, ◌&&◌}
-use mathlib.Core.List.{List, []}
+use mathlib.Core.List.{List}
 use mathlib.Core.Option.{some}
 use Prim.Native.Nat.{ℕ, ◌≤◌, ◌<◌}
 use lib.Dec.{eqb, leb}
 use lib.ListN.{take}
-use borrow.Author.Tests.{eq-eqb, ne_eqb, le-leb, lt-leb}
-use Rattle.table.specs.declared.Renumbering.{Renumbering}
+use borrow.Author.Tests.{ne_eqb, lt-leb}
 use Rattle.table.specs.Renumbering.{lent_of, levels_of, LentTable}
-use Rattle.table_choose.specs.Tables.{used_tables, tables_from, no_table_from}
+use Rattle.table_choose.specs.Tables.{tables_from, no_table_from}
 use Rattle.table_choose.proofs.Theorems.{first_table_lem}
 use Rattle.file_set.specs.declared.Set.{Set}
-use Rattle.file_set.specs.Set.{tables_in}
 use Rattle.route_ports.specs.Ports.{port_at}
 use Rattle.decision.specs.Decision.{no_fact}
 use Rattle.arrive.specs.Checks.{barred}

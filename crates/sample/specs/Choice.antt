@@ -1,6 +1,6 @@
 -- Document 02, Wish 1, "The sample": what the program runs with, of what was read of the file. A file that is missing or refused, or that has under two ports, is none to run
 -- with: one `BROKEN` line.
-use Rattle.std.specs.Prelude.{Bool, true, false, cond, ◌&&◌, List, [], ◌∷◌, ℕ, ◌-◌, eqb, leb, take, drop}
+use Rattle.std.specs.Prelude.{Option, Some, None, Bool, true, false, cond, ◌&&◌, List, [], ◌∷◌, ℕ, ◌-◌, eqb, leb, take, drop}
 use Rattle.port.specs.declared.Port.{Port}
 use Rattle.table.specs.Renumbering.{LentTable, no_renumbering}
 use Rattle.table_choose.specs.declared.Found.{Found}
@@ -36,11 +36,10 @@ sample_from verdict s ns =
     (record { ok = false; arriving = unlisted_port; leaving = unlisted_port; table = record { item = no_renumbering; rows = [] } })
 
 -- what the code answers, with the list that the rows lie in
-abbrev pub chosen_of : Choice → List ℕ → Chosen
-chosen_of c ns = record { ok = c.ok; arriving = c.arriving; leaving = c.leaving; table = record { item = c.item; rows = take (c.end - c.at) (drop c.at ns) } }
-
-abbrev pub nothing : Choice
-nothing = record { ok = false; arriving = unlisted_port; leaving = unlisted_port; item = no_renumbering; at = 0; end = 0 }
+abbrev pub chosen_of : Option Choice → List ℕ → Chosen
+chosen_of None ns = record { ok = false; arriving = unlisted_port; leaving = unlisted_port; table = record { item = no_renumbering; rows = [] } }
+chosen_of (Some c) ns =
+    record { ok = true; arriving = c.arriving; leaving = c.leaving; table = record { item = c.item; rows = take (c.end - c.at) (drop c.at ns) } }
 
 abbrev pub chosen_by : Port → Port → Found → Choice
-chosen_by a l f = record { ok = true; arriving = a; leaving = l; item = f.item; at = f.at; end = f.end }
+chosen_by a l f = record { arriving = a; leaving = l; item = f.item; at = f.at; end = f.end }

@@ -8,7 +8,7 @@ use Rattle.decision.specs.Decision.{no_fact}
 use Rattle.arrive.specs.Checks.{barred}
 use Rattle.forward_rules.specs.Crossing.{number_check, crossing}
 use Rattle.forward_rules.specs.Forward.{forwarding_of}
-use Rattle.sample.specs.Choice.{Chosen, sample_from}
+use Rattle.sample.specs.Choice.{sample_from}
 
 pub record Sample : Type 0 where
   -- a missing or refused file, and one with under two ports: nothing is run with

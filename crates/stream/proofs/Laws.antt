@@ -1,47 +1,14 @@
 -- Laws of the input's window and of places.
-use Rattle.std.proofs.Common.{ℕ, suc, ◌+◌, ◌-◌, ◌≤◌, ◌<◌, ◌≡◌, refl, sym, ap, ◌∙◌, Bool, true, false, cond, ◌&&◌, List, [], ◌∷◌, ◌++◌, arith}
+use Rattle.std.proofs.Common.{ℕ, suc, ◌+◌, ◌-◌, ◌≤◌, ◌<◌, ◌≡◌, refl, sym, ap, ◌∙◌, Bool, true, false, cond, ◌&&◌, List, [], ◌++◌, arith, Continue}
 use borrow.Author.Tests.{leb-true, le-leb}
 use lib.Dec.{leb}
-use lib.ListN.{length, take, drop, set, get_or, length-take, length-drop, take-append-drop}
-use lib.Seq.{take-suc, drop-cons, append_snoc, set_at, get_or-append-add, get_or-drop, take-take, take_at, length-take-le}
+use lib.ListN.{length, take, drop, length-take, length-drop, take-append-drop}
+use lib.Seq.{take_at, length-take-le}
+use Rattle.std.specs.List.{copy_within}
 use Rattle.stream.specs.declared.input.Window.{Window}
 use Rattle.stream.specs.declared.place.Place.{Place}
 use Rattle.stream.specs.Input.{lying, held_count, held, Holds, HoldsPiece}
-use Rattle.stream.specs.Place.{going_place, stopped_place, flushed, Flushes, Spares, Feeds}
-
--- a buffer whose octets from `at` on stand at the front too, `to` of them
-abbrev pub moved : ℕ → ℕ → List ℕ → List ℕ
-moved at to xs = take to (drop at xs) ++ drop to xs
-
-module _ (xs : List ℕ) (at to : ℕ) (h : at + to < length xs) where
-  front_length : length (take to (drop at xs)) ≡ to
-  front_length = simp (length-take, length-drop) (omega arith)
-
-  -- the octet that is moved next is still where it was
-  read_moved : get_or (moved at to xs) (at + to) 0 ≡ get_or xs (at + to) 0
-  read_moved =
-      let i : at + to ≡ length (take to (drop at xs)) + at = omega (arith, front_length) in
-      let j : to + at ≡ at + to = omega arith in
-      ap (λ (k : ℕ). get_or (moved at to xs) k 0) i
-      ∙ get_or-append-add (take to (drop at xs)) (drop to xs) at 0
-      ∙ get_or-drop to xs at 0
-      ∙ ap (λ (k : ℕ). get_or xs k 0) j
-
-  pub move_more : set (moved at to xs) to (get_or (moved at to xs) (at + to) 0) ≡ moved at (suc to) xs
-  move_more =
-      let inside : to < length (drop at xs) = simp length-drop (omega arith) in
-      let within : to < length xs = omega arith in
-      let x = get_or xs (at + to) 0 in
-      ap (λ (v : ℕ). set (moved at to xs) to v) read_moved
-      ∙ ap (λ (l : List ℕ). set (take to (drop at xs) ++ l) to x) (drop-cons xs to 0 within)
-      ∙ set_at (take to (drop at xs)) (get_or xs to 0) (drop (suc to) xs) x to front_length
-      ∙ sym (append_snoc (take to (drop at xs)) x (drop (suc to) xs))
-      ∙ ap (λ (v : ℕ). take to (drop at xs) ++ (v ∷ []) ++ drop (suc to) xs) (sym (get_or-drop at xs to 0))
-      ∙ ap (λ (l : List ℕ). l ++ drop (suc to) xs) (sym (take-suc (drop at xs) to 0 inside))
-
--- buffers that agree in their first octets agree in fewer of them
-pub take_fewer : (xs ys : List ℕ) (m n : ℕ) → m ≤ n → take n xs ≡ take n ys → take m xs ≡ take m ys
-take_fewer xs ys m n h e = sym (take-take m n xs h) ∙ ap (take m) e ∙ take-take m n ys h
+use Rattle.stream.specs.Place.{Answer, going_place, stopped_place, waiting_of, flushed, Flushes, Spares, Feeds}
 
 -- a window in its buffer, as `lie` answers it
 module _ (xs : List ℕ) (w v : Window) (lies : v ≡ lying (length xs) w) (inside : (v.at ≤ v.end) × (v.end ≤ length xs)) where
@@ -64,13 +31,13 @@ module _ (xs : List ℕ) (w v : Window) (lies : v ≡ lying (length xs) w) (insi
         first = λ k. absurd (omega (arith, held_count_lem));
       }
 
-  pub holds_read : (n : ℕ) (ys zs : List ℕ) (last : ℕ) → v.end - v.at < n → ys ≡ moved v.at (v.end - v.at) xs → length ys ≡ length xs
+  pub holds_read : (n : ℕ) (ys zs : List ℕ) (last : ℕ) → v.end - v.at < n → ys ≡ copy_within xs v.at v.end 0 → length ys ≡ length xs
       → v.end - v.at ≤ last → last ≤ length zs → length zs ≡ length ys → take (v.end - v.at) zs ≡ take (v.end - v.at) ys
       → Holds xs w n zs (record { at = 0; end = last })
   holds_read n ys zs last h m l a b e t =
       let k = v.end - v.at in
       let f : length (take k (drop v.at xs)) ≡ k = simp (length-take, length-drop) (omega arith) in
-      let g : take k zs ≡ take k (drop v.at xs) = t ∙ ap (take k) m ∙ take_at (take k (drop v.at xs)) (drop k xs) k f in
+      let g : take k zs ≡ take k (drop v.at xs) = t ∙ ap (take k) m ∙ take_at (take k (drop v.at xs)) (drop (0 + k) xs) k f in
       record {
         rest = drop k zs;
         sized = e ∙ l;
@@ -81,7 +48,7 @@ module _ (xs : List ℕ) (w v : Window) (lies : v ≡ lying (length xs) w) (insi
       }
 
   -- a piece behind what is held
-  pub holds_piece : (most : ℕ) (ys zs : List ℕ) (got : ℕ) → ys ≡ moved v.at (v.end - v.at) xs → length ys ≡ length xs
+  pub holds_piece : (most : ℕ) (ys zs : List ℕ) (got : ℕ) → ys ≡ copy_within xs v.at v.end 0 → length ys ≡ length xs
       → v.end - v.at + got ≤ length zs → got ≤ most → length zs ≡ length ys → take (v.end - v.at) zs ≡ take (v.end - v.at) ys
       → HoldsPiece xs w most zs (record { at = v.end - v.at; end = v.end - v.at + got })
   holds_piece most ys zs got m l b g e t =
@@ -131,16 +98,16 @@ module _ (xs : List ℕ) (p : Place) (v : Window) (lies : v ≡ lying (length xs
         fed = λ k e. (r, refl, refl);
       }
 
-flushed_waiting : (p : Place) (sent : Bool) → (flushed p sent).waiting ≡ 0
+flushed_waiting : (p : Place) (sent : Bool) → waiting_of (flushed p sent) ≡ 0
 flushed_waiting p true = refl
 flushed_waiting p false = refl
 
-pub spares_fits : (out : List ℕ) (p : Place) (room : ℕ) → p.waiting + room ≤ length out → Spares out p room p
+pub spares_fits : (out : List ℕ) (p : Place) (room : ℕ) → p.waiting + room ≤ length out → Spares out p room (Continue p)
 spares_fits out p room h = record { sent = true; fits = λ k. refl; full = λ k. absurd (omega arith); spare = λ k. h }
 
-pub spares_full : (out : List ℕ) (p : Place) (room : ℕ) (r : Place) → length out < p.waiting + room → Flushes p r → Spares out p room r
+pub spares_full : (out : List ℕ) (p : Place) (room : ℕ) (r : Answer) → length out < p.waiting + room → Flushes p r → Spares out p room r
 spares_full out p room r h f =
-    let e : r.waiting ≡ 0 = ap (λ (q : Place). q.waiting) f.place ∙ flushed_waiting p f.sent in
+    let e : waiting_of r ≡ 0 = ap waiting_of f.place ∙ flushed_waiting p f.sent in
     record { sent = f.sent; fits = λ k. absurd (omega arith); full = λ k. f.place; spare = λ k. omega arith }
 
 -- as many octets are held as the window has

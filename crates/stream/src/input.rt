@@ -22,7 +22,7 @@ pub fn hold(stdin: Stdin, input: &mut [u8], window: Window, n: usize) -> Window
     if n <= end - at {
         return w;
     }
-    move_down(input, at, end);
+    input.copy_within(at..end, 0);
     let last = read_until(stdin, input, end - at, n);
     Window { at: 0, end: last }
 }
@@ -33,29 +33,10 @@ pub fn lie(room: usize, window: Window) -> Window
     ensures value { result ≡ lying room window }
     ensures at_le_end { (result.at ≤ result.end) × (result.end ≤ room) }
 {
-    if window.end < window.at {
-        return Window { at: 0, end: 0 };
-    }
-    if room < window.end {
+    if window.end < window.at || room < window.end {
         return Window { at: 0, end: 0 };
     }
     window
-}
-
-// Moves the octets from `at` up to `end` to the front.
-fn move_down(input: &mut [u8], at: usize, end: usize)
-    requires at_le_end { at ≤ end }
-    requires end_in_bounds { end ≤ length input.old }
-    ensures input_after { input.new ≡ take (end - at) (drop at input.old) ++ drop (end - at) input.old }
-    ensures input_len_unchanged { length input.new ≡ length input.old }
-{
-    let mut to: usize = 0;
-    let mut from = at;
-    while from < end {
-        input[to] = input[from];
-        to += 1;
-        from += 1;
-    }
 }
 
 // Reads on from `held` until n octets are there, the input ends or the buffer is full, and answers how many are there.
@@ -93,23 +74,12 @@ pub fn hold_piece(stdin: Stdin, input: &mut [u8], window: Window, most: usize) -
     let w = lie(input.len(), window);
     let at = w.at;
     let end = w.end;
-    move_down(input, at, end);
+    input.copy_within(at..end, 0);
     let held = end - at;
-    let to = end_piece(held, most, input.len());
+    let to = held + most.min(input.len() - held);
     let got = read_once(stdin, input, held, to);
     Window {
         at: held,
         end: held + got,
     }
-}
-
-// Where a piece behind so many octets can end: behind `most` octets, or with the buffer.
-fn end_piece(held: usize, most: usize, room: usize) -> usize
-    requires { held ≤ room }
-    ensures { (held ≤ result) × (result ≤ room) × (result ≤ held + most) }
-{
-    if room - held < most {
-        return room;
-    }
-    held + most
 }

@@ -6,4 +6,4 @@ mod output;
 mod place;
 
 pub use input::{Window, hold, hold_piece};
-pub use place::{Place, begin, feed, flush, go_on, spare, stop};
+pub use place::{Place, begin, feed, finish, flush, go_on, say_broken, spare};

@@ -10,8 +10,5 @@ pub fn send(stdout: Stdout, out: &[u8], n: usize) -> bool
     if n == 0 {
         return true;
     }
-    if out.len() <= n {
-        return stdout.write_all(out).is_ok();
-    }
-    stdout.write_all(&out[..n]).is_ok()
+    stdout.write_all(&out[..n.min(out.len())]).is_ok()
 }

@@ -6,14 +6,13 @@ use Prim.Native.Nat.{ℕ, zero, suc, ◌+◌, ◌*◌, ◌/◌, ◌%◌, ◌≤�
 use native.Mathlib.Omega.{arith}
 use native.Mathlib.Numerals.{add-one}
 use lib.Dec.{leb, ltb, eqb}
-use lib.ListN.{length, take, drop, get_or, set, replicate, length-drop, replicate-append-replicate, length-map, get_or-map}
+use lib.ListN.{length, take, drop, get_or, set, replicate, length-drop, length-map, get_or-map}
 use lib.Seq.{take-suc, set_at, take_at, drop_at, take-length, length-take-le, get_or-take}
 use borrow.Author.Tests.{le-leb, leb-true, ltb-true, lt-ltb, eqb-true, eq-eqb, ne_eqb}
 use Rattle.label.proofs.Bools.{and_left, and_right, and_both}
 use Rattle.label.proofs.Steps.{next}
 use Rattle.lists_sort.specs.Order.{all, sort_keys}
 use Rattle.lists_sort.proofs.Laws.{sort_length}
-use Rattle.lists_sort.proofs.Merge.{put}
 use Rattle.table.specs.declared.Row.{Row}
 use Rattle.table.specs.declared.Table.{Table}
 use Rattle.table.specs.Table.{Lent, lent, rows_from, targets_apart, no_row, target_end, rising, rows_sound, typed, bare_sound, table_sound}
@@ -21,10 +20,6 @@ use Rattle.table_levels.specs.Levels.{levels_sound, level_numbers, pairs_sound}
 use Rattle.table.specs.Order.{order_keys, row_order, order_of, bare_order, row_at, in_order}
 use Rattle.table.specs.Stages.{fields_sound, RowsRise}
 use Rattle.table.proofs.Rows.{order_all, good}
-
--- Zeros written one by one.
-pub cleared : (s : List ℕ) (i : ℕ) → i < length s → take i s ≡ replicate i 0 → take (i + 1) (set s i 0) ≡ replicate (i + 1) 0
-cleared s i h e = put s i 0 h ∙ ap (λ (z : List ℕ). z ++ (0 ∷ [])) e ∙ replicate-append-replicate i 1 0
 
 -- A refusal writes nothing that is told.
 pub refused : {rs : List Row} {was order : List ℕ} → rising 0 rs ≡ false → RowsRise rs false false was order
@@ -113,6 +108,14 @@ order_turn rs n order i h e w q l =
       goal = eqb-true _ _ (and_right (leb (row_at rs k).low (row_at rs k).high) _ q2);
       next = next (row_at rs 0) (in_order rs) i there ∙ ap (λ (z : Row). z ∷ drop (i + 1) (in_order rs)) (get_or-map (row_at rs) (row_order rs) i 0);
     })
+
+-- the same as a loop over the first n of the list meets it
+pub turn_read : (rs : List Row) (n : ℕ) (order : List ℕ) (i : ℕ)
+    → (length rs ≡ n) × (n ≤ 1024) × (n ≤ length order) × (rising 0 rs ≡ true) × (take n order ≡ row_order rs) → i < length (take n order)
+    → Turn rs i (get_or (take n order) i 0)
+turn_read rs n order i q h =
+    let l : i < n = omega (arith, length-take-le n order q.2) in
+    rw (get_or-take n order i 0 l) (order_turn rs n order i (omega (arith, q.0, q.1)) q.3 q.4 (sym q.0) l)
 
 -- The rows written down, and put in order.
 module _ (rs : List Row) (n : ℕ) (was order : List ℕ) (q : length rs ≡ n) (w : order ≡ order_keys 0 rs ++ drop (length rs) was) where

@@ -47,7 +47,11 @@ pub fn row_at(rows: &[u16], i: usize) -> Row
     ensures { result ≡ get_or (rows_from rows.now) i no_row }
 {
     if rows.len() / 3 <= i {
-        return to_row(0, 0, 0);
+        return Row {
+            low: 0,
+            high: 0,
+            target: 0,
+        };
     }
     read_row(rows, i)
 }
@@ -58,16 +62,10 @@ fn read_row(rows: &[u16], i: usize) -> Row
     ensures { result ≡ get_or (rows_from rows.now) i no_row }
 {
     let at = i * 3;
-    to_row(rows[at], rows[at + 1], rows[at + 2])
-}
-
-fn to_row(low: u16, high: u16, target: u16) -> Row
-    ensures { result ≡ row low high target }
-{
     Row {
-        low: low,
-        high: high,
-        target: target,
+        low: rows[at],
+        high: rows[at + 1],
+        target: rows[at + 2],
     }
 }
 
@@ -83,24 +81,16 @@ pub fn rows_sound(rows: &[u16]) -> bool
         return false;
     }
     if n <= FEW_ROWS {
-        return few_rows(rows, n);
+        return rows_in::<FEW_ROWS>(rows, n);
     }
-    many_rows(rows, n)
+    rows_in::<MAX_ROWS>(rows, n)
 }
 
-fn few_rows(rows: &[u16], n: usize) -> bool
-    requires { (length rows.now ≡ n * 3) × (n ≤ 64) }
+fn rows_in<const PLACES: usize>(rows: &[u16], n: usize) -> bool
+    requires { (length rows.now ≡ n * 3) × (n ≤ 1024) × (n ≤ PLACES) × (PLACES ≤ 1024) }
     ensures { result ≡ (rising 0 (rows_from rows.now) && targets_apart (rows_from rows.now)) }
 {
-    let mut order = [0u32; FEW_ROWS];
-    rows_order(rows, n, &mut order)
-}
-
-fn many_rows(rows: &[u16], n: usize) -> bool
-    requires { (length rows.now ≡ n * 3) × (n ≤ 1024) }
-    ensures { result ≡ (rising 0 (rows_from rows.now) && targets_apart (rows_from rows.now)) }
-{
-    let mut order = [0u32; MAX_ROWS];
+    let mut order = [0u32; PLACES];
     rows_order(rows, n, &mut order)
 }
 
@@ -131,11 +121,8 @@ pub fn levels_of(renumbering: Renumbering) -> Levels
     ensures { (result ≡ levels_of renumbering) × (typed_pairs renumbering ≡ true) }
 {
     let mut levels = [[0u8; 2]; MAX_PAIRS];
-    let mut i: usize = 0;
-    while i < MAX_PAIRS {
-        let pair = renumbering.levels[i];
-        levels[i] = two_of(pair);
-        i += 1;
+    for (i, pair) in renumbering.levels.iter().enumerate() {
+        levels[i] = two_of(*pair);
     }
     levels
 }
@@ -145,23 +132,16 @@ pub fn table_sound(table: Table, rows: &[u16], levels: Levels) -> bool
     ensures { result ≡ table_sound (lent table rows.now) levels }
 {
     if table.count <= FEW_ROWS {
-        return few_sound(table, rows, levels);
+        return sound_in::<FEW_ROWS>(table, rows, levels);
     }
-    many_sound(table, rows, levels)
+    sound_in::<MAX_ROWS>(table, rows, levels)
 }
 
-fn few_sound(table: Table, rows: &[u16], levels: Levels) -> bool
-    requires { table.count ≤ 64 }
+fn sound_in<const PLACES: usize>(table: Table, rows: &[u16], levels: Levels) -> bool
+    requires { (table.count ≤ 1024 → table.count ≤ PLACES) × (PLACES ≤ 1024) }
     ensures { result ≡ table_sound (lent table rows.now) levels }
 {
-    let mut order = [0u32; FEW_ROWS];
-    table_order(table, rows, levels, &mut order)
-}
-
-fn many_sound(table: Table, rows: &[u16], levels: Levels) -> bool
-    ensures { result ≡ table_sound (lent table rows.now) levels }
-{
-    let mut order = [0u32; MAX_ROWS];
+    let mut order = [0u32; PLACES];
     table_order(table, rows, levels, &mut order)
 }
 
@@ -171,7 +151,7 @@ pub fn table_order(table: Table, rows: &[u16], levels: Levels, order: &mut [u32]
     ensures { (result ≡ (table_sound (lent table rows.now) levels && leb table.count (length order.old))) × (order.new ≡ order_of (lent table rows.now) levels order.old) }
 {
     if !levels_sound(levels, table.pairs) {
-        clear(order);
+        order.fill(0);
         return false;
     }
     bare_order(table, rows, order)
@@ -184,25 +164,14 @@ pub fn bare_order(table: Table, rows: &[u16], order: &mut [u32]) -> bool
     let n = table.count;
     let fields = fields_sound(table, rows.len());
     if !(fields & (n <= order.len())) {
-        clear(order);
+        order.fill(0);
         return false;
     }
     if rows_order(rows, n, order) {
         return true;
     }
-    clear(order);
+    order.fill(0);
     false
-}
-
-fn clear(order: &mut [u32])
-    ensures { order.new ≡ replicate (length order.old) 0 }
-{
-    let n = order.len();
-    let mut i: usize = 0;
-    while i < n {
-        order[i] = 0;
-        i += 1;
-    }
 }
 
 // All but the rows and the level pairs; of the rows, that as many numbers are lent as the count says.
@@ -232,15 +201,6 @@ struct Rise {
     targets: bool,
 }
 
-fn to_rise(sources: bool, targets: bool) -> Rise
-    ensures { (result.sources ≡ sources) × (result.targets ≡ targets) }
-{
-    Rise {
-        sources: sources,
-        targets: targets,
-    }
-}
-
 // Whether the rows are sound, which the order of their targets shows; they are put in order only where they do not stand so.
 fn rows_order(rows: &[u16], n: usize, order: &mut [u32]) -> bool
     requires { (length rows.now ≡ n * 3) × (n ≤ 1024) × (n ≤ length order.old) }
@@ -265,20 +225,24 @@ fn rows_rise(rows: &[u16], n: usize, order: &mut [u32]) -> Rise
     let mut targets = true;
     let mut floor: u32 = 0;
     let mut past: u32 = 0;
-    let mut i: usize = 0;
-    while i < n {
+    for i in 0..n {
         let row = read_row(rows, i);
         if !row_rises(row.low, row.high, row.target, floor) {
-            return to_rise(false, false);
+            return Rise {
+                sources: false,
+                targets: false,
+            };
         }
         let target = row.target as u32;
         targets = targets & (past <= target);
         past = after_targets(row);
         order[i] = target * 65536 + (i as u32);
         floor = (row.high as u32) + 1;
-        i += 1;
     }
-    to_rise(true, targets)
+    Rise {
+        sources: true,
+        targets: targets,
+    }
 }
 
 // Whether each target, along the order, begins above the end of the one before.
@@ -288,15 +252,11 @@ fn targets_apart(order: &[u32], rows: &[u16], n: usize) -> bool
 {
     let mut apart = true;
     let mut past: u32 = 0;
-    let mut i: usize = 0;
-    while i < n {
-        let k = order[i];
-        let j = (k % 65536) as usize;
-        let row = read_row(rows, j);
+    for k in &order[..n] {
+        let row = read_row(rows, (*k % 65536) as usize);
         let target = row.target as u32;
         apart = apart & (past <= target);
         past = after_targets(row);
-        i += 1;
     }
     apart
 }

@@ -5,7 +5,7 @@
 ghost use Rattle.std.specs.Prelude.{◌≡◌, cond, ◌&&◌, ◌+◌, ◌-◌, ◌*◌, ◌≤◌, leb, eqb, length};
 ghost use Rattle.table_choose.specs.Tables.{used_tables, tables_from, tables_sound, no_table_from, first_table, lent_found};
 
-use table::{Renumbering, Table, empty_table, levels_of, table_sound};
+use table::{Renumbering, empty_table, levels_of, table_sound};
 
 // The most tables of a set.
 pub const MAX_TABLES: usize = 8;
@@ -34,16 +34,13 @@ pub fn tables_sound(tables: Tables, rows: &[u16]) -> bool
         return false;
     }
     let mut at: usize = 0;
-    let mut i: usize = 0;
-    while i < n {
-        let item = tables.items[i];
+    for item in &tables.items[..n] {
         let table = item.table;
         let end = end_of(at, table.count, rows.len());
-        if !table_sound(table, &rows[at..end], levels_of(item)) {
+        if !table_sound(table, &rows[at..end], levels_of(*item)) {
             return false;
         }
         at = end;
-        i += 1;
     }
     at == rows.len()
 }
@@ -64,60 +61,35 @@ fn end_of(at: usize, count: usize, held: usize) -> usize
 pub fn first_table(tables: Tables, rows: &[u16], from: u32, to: u32) -> Found
     ensures { (lent_found result rows.now ≡ first_table from to (tables_from (used_tables tables) rows.now)) × (result.at ≤ result.end) × (result.end ≤ length rows.now) }
 {
-    let n = tables.count;
+    let n = tables.count.min(MAX_TABLES);
     let mut at: usize = 0;
-    let mut i: usize = 0;
-    while i < n {
-        if MAX_TABLES <= i {
-            return no_table_from(from);
-        }
-        let item = tables.items[i];
+    for item in &tables.items[..n] {
         let table = item.table;
         let end = end_of(at, table.count, rows.len());
-        if is_pair(table.from, table.to, from, to) {
-            return found_at(item, at, end);
+        if (table.from == from) & (table.to == to) {
+            return Found {
+                item: *item,
+                at: at,
+                end: end,
+            };
         }
         at = end;
-        i += 1;
     }
     no_table_from(from)
-}
-
-fn found_at(item: Renumbering, at: usize, end: usize) -> Found
-    ensures { (result.item ≡ item) × (result.at ≡ at) × (result.end ≡ end) }
-{
-    Found {
-        item: item,
-        at: at,
-        end: end,
-    }
-}
-
-fn is_pair(own: u32, far: u32, from: u32, to: u32) -> bool
-    ensures { result ≡ (eqb own from && eqb far to) }
-{
-    if own != from {
-        return false;
-    }
-    far == to
 }
 
 // A sound table from another domain.
 fn no_table_from(from: u32) -> Found
     ensures { (result.item ≡ (no_table_from from).item) × (result.at ≡ 0) × (result.end ≡ 0) }
 {
-    let none = empty_table();
-    let levels = none.levels;
-    let item = Renumbering {
-        table: Table {
-            from: another(from),
-            to: 1,
-            pairs: 0,
-            count: 0,
-        },
-        levels: levels,
-    };
-    found_at(item, 0, 0)
+    let mut item = empty_table();
+    item.table.from = another(from);
+    item.table.to = 1;
+    Found {
+        item: item,
+        at: 0,
+        end: 0,
+    }
 }
 
 // A domain other than the one given, and not 0.

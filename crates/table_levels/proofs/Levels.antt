@@ -1,17 +1,19 @@
 -- Laws of level pairs: one more pair, as a loop meets it.
-use mathlib.Core.Path.{◌≡◌, refl, sym, ◌∙◌}
-use mathlib.Core.Bool.{Bool, true, false, ◌&&◌}
+use mathlib.Core.Path.{◌≡◌, refl, sym, ◌∙◌, ap}
+use mathlib.Core.Bool.{Bool, true, false, cond, ◌&&◌}
 use mathlib.Core.List.{List, ◌∷◌}
-use Prim.Native.Nat.{ℕ, ◌+◌, ◌*◌, ◌<◌, min}
+use Prim.Native.Nat.{ℕ, ◌+◌, ◌*◌, ◌-◌, ◌<◌, min}
 use native.Mathlib.Omega.{arith}
 use native.Mathlib.Decide.{dec_le}
 use lib.Bits.{bit_or, or_add_and, and_le_l, and_le_r}
 use lib.Dec.{eqb}
-use lib.ListN.{length, get_or, take, drop, length-take, drop_of_length-le}
+use lib.ListN.{length, get_or, take, drop, length-take, length-drop, drop_of_length-le}
 use lib.Seq.{get_or-take, take_all}
 use borrow.Author.Tests.{eqb-true, eq-eqb}
+use Rattle.std.specs.Prelude.{None, Some}
 use Rattle.label.proofs.Bools.{and_left, and_right, same_yes, and_both}
 use Rattle.label.proofs.Steps.{next}
+use Rattle.table_levels.specs.Levels.{Partner, levels_rise, unused_pairs, levels_sound, level_numbers, pairs_sound, partner_of, sound_partner}
 
 -- at a place that is there, among the first n
 pub next_there : {A : Type 0} (d : A) (l : List A) (n i : ℕ) → i < n → i < length l → drop i (take n l) ≡ get_or l i d ∷ drop (i + 1) (take n l)
@@ -27,7 +29,7 @@ pub back_same : {A : Type 0} (l : List A) (n k : ℕ) → length l ≡ 256 → k
 back_same l n k h e = elim (dec_le n 256) [ yes u ↦ (let q : k ≡ n = omega arith in rw q) | no u ↦ (drop_of_length-le l {i = k} (omega arith) ∙ sym (drop_of_length-le l {i = n} (omega arith))) ]
 
 -- What rises is made of levels, so that the types decide nothing.
-pub sound_both : (a b c p : Bool) → a ≡ true → c ≡ true → p ≡ b → p ≡ ((a && b) && c)
+sound_both : (a b c p : Bool) → a ≡ true → c ≡ true → p ≡ b → p ≡ ((a && b) && c)
 sound_both a b c p e f g = rw (e, f, g) (go b)
   where
     go : (x : Bool) → x ≡ (x && true)
@@ -59,3 +61,29 @@ pair_step s a b u = rw (or_zero s (a + b * 256), pair_zero a b) (go (eqb s 0) (e
     go false b c d = refl
     go true false c d = refl
     go true true c d = refl
+
+-- What the two loops leave: pairs that do not rise are not sound, and of the others the ones behind them decide.
+module _ (ls : List (List ℕ)) (count n : ℕ) (sized : length ls ≡ 256) (few : n ≡ min count 256) where
+  pub fallen : (v : ℕ) → levels_rise 0 0 (take n ls) ≡ false → None ≡ sound_partner ls count v
+  unfolding levels_sound
+  fallen v e = let f : levels_rise 0 0 (take count ls) ≡ false = sym (ap (levels_rise 0 0) (front_same ls count n sized few)) ∙ e in sym (rw f)
+
+  module _ (rest v : ℕ) (q : Partner) (rise : levels_rise 0 0 (take n ls) ≡ true) (numbers : level_numbers (take n ls) ≡ true)
+      (unused : unused_pairs (take (256 - n) (drop n ls)) ≡ eqb rest 0) (partner : partner_of (take n ls) v ≡ q) where
+    looked : cond (eqb rest 0) (Some q) None ≡ sound_partner ls count v
+    unfolding levels_sound
+    looked =
+        let front = front_same ls count n sized few in
+        let back : take (256 - n) (drop n ls) ≡ drop count ls = take_all (256 - n) (drop n ls) (simp length-drop (omega arith)) ∙ back_same ls count n sized few in
+        let sound : eqb rest 0 ≡ pairs_sound ls count = sound_both (levels_rise 0 0 (take count ls)) (unused_pairs (drop count ls)) (level_numbers (take count ls)) (eqb rest 0)
+        (sym (ap (levels_rise 0 0) front) ∙ rise)
+        (sym (ap level_numbers front) ∙ numbers)
+        (sym unused ∙ ap unused_pairs back) in
+        let found : q ≡ partner_of (take count ls) v = sym partner ∙ ap (λ (z : List (List ℕ)). partner_of z v) front in
+        (λ i. cond (sound i) (Some (found i)) None)
+
+    pub looked_whole : eqb rest 0 ≡ true → Some q ≡ sound_partner ls count v
+    looked_whole e = ap (λ (b : Bool). cond b (Some q) None) (sym e) ∙ looked
+
+    pub looked_broken : eqb rest 0 ≡ false → None ≡ sound_partner ls count v
+    looked_broken e = ap (λ (b : Bool). cond b (Some q) None) (sym e) ∙ looked

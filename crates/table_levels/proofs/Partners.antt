@@ -3,27 +3,26 @@ use mathlib.Core.Path.{◌≡◌, refl}
 use mathlib.Core.Bool.{Bool, true, false, cond}
 use mathlib.Core.List.{List, [], ◌∷◌}
 use mathlib.Core.Logic.{◌⊎◌, inl, inr, ⊎_elim}
-use Prim.Native.Nat.{ℕ, ◌+◌, ◌≤◌, ◌<◌}
+use Prim.Native.Nat.{ℕ, ◌+◌, ◌≤◌}
 use native.Mathlib.Omega.{arith}
 use lib.Dec.{leb, eqb}
 use lib.ListN.{get_or}
-use borrow.Author.Tests.{le-leb, leb-true, leb-false, eqb-true}
+use borrow.Author.Tests.{le-leb, leb-true, eqb-true}
+use Rattle.std.specs.Prelude.{None, Some}
 use Rattle.label.proofs.Bools.{and_left, and_right}
-use Rattle.table_levels.specs.declared.Partner.{Partner}
-use Rattle.table_levels.specs.declared.Partner.TheVariants.{Level, Missing}
-use Rattle.table_levels.specs.Levels.{levels_rise, level_numbers, partner_of, partner_number, partner_from, lead_on}
+use Rattle.table_levels.specs.Levels.{Partner, levels_rise, level_numbers, partner_of, partner_number, partner_from}
 
 -- the first pair is the level's, or the others decide
-pub partner_cases : (p : List ℕ) (ps : List (List ℕ)) (v w : ℕ) → partner_of (p ∷ ps) v ≡ Level w
-    → ((get_or p 0 0 ≡ v) × (get_or p 1 0 ≡ w)) ⊎ (partner_of ps v ≡ Level w)
+pub partner_cases : (p : List ℕ) (ps : List (List ℕ)) (v w : ℕ) → partner_of (p ∷ ps) v ≡ Some w
+    → ((get_or p 0 0 ≡ v) × (get_or p 1 0 ≡ w)) ⊎ (partner_of ps v ≡ Some w)
 partner_cases p ps v w e = go (eqb (get_or p 0 0) v) refl e
   where
-    go : (b : Bool) → eqb (get_or p 0 0) v ≡ b → cond b (Level (get_or p 1 0)) (partner_of ps v) ≡ Level w
-        → ((get_or p 0 0 ≡ v) × (get_or p 1 0 ≡ w)) ⊎ (partner_of ps v ≡ Level w)
+    go : (b : Bool) → eqb (get_or p 0 0) v ≡ b → cond b (Some (get_or p 1 0)) (partner_of ps v) ≡ Some w
+        → ((get_or p 0 0 ≡ v) × (get_or p 1 0 ≡ w)) ⊎ (partner_of ps v ≡ Some w)
     go true q k = inl (eqb-true _ _ q, (cc))
     go false q k = inr k
 
-pub missing_not : (w : ℕ) → Missing ≡ Level w → ⊥
+pub missing_not : (w : ℕ) → None ≡ Some w → ⊥
 missing_not w e = let z : ◌≡◌ {A = ℕ} 0 1 = cc in omega arith
 
 pub record Pair (f g v w : ℕ) : Type 0 where
@@ -31,7 +30,7 @@ pub record Pair (f g v w : ℕ) : Type 0 where
   pub second : g ≤ w
 
 -- a level and its partner lie at or above the floors
-pub partner_from_lem : (f g : ℕ) (ps : List (List ℕ)) (v w : ℕ) → levels_rise f g ps ≡ true → partner_of ps v ≡ Level w → Pair f g v w
+pub partner_from_lem : (f g : ℕ) (ps : List (List ℕ)) (v w : ℕ) → levels_rise f g ps ≡ true → partner_of ps v ≡ Some w → Pair f g v w
 partner_from_lem f g [] v w e h = absurd (missing_not w h)
 partner_from_lem f g (p ∷ ps) v w e h =
     let a : f ≤ get_or p 0 0 = leb-true _ _ (and_left (leb f (get_or p 0 0)) _ e) in
@@ -49,7 +48,7 @@ pub record Ordered (v w v' w' : ℕ) : Type 0 where
   pub to : v ≤ v' → w ≤ w'
   pub back : w ≤ w' → v ≤ v'
 
-pub partners_order : (f g : ℕ) (ps : List (List ℕ)) (v w v' w' : ℕ) → levels_rise f g ps ≡ true → partner_of ps v ≡ Level w → partner_of ps v' ≡ Level w' → Ordered v w v' w'
+pub partners_order : (f g : ℕ) (ps : List (List ℕ)) (v w v' w' : ℕ) → levels_rise f g ps ≡ true → partner_of ps v ≡ Some w → partner_of ps v' ≡ Some w' → Ordered v w v' w'
 partners_order f g [] v w v' w' e h k = absurd (missing_not w h)
 partners_order f g (p ∷ ps) v w v' w' e h k =
     let e2 = and_right (leb g (get_or p 1 0)) _ (and_right (leb f (get_or p 0 0)) _ e) in
@@ -67,46 +66,26 @@ partners_order f g (p ∷ ps) v w v' w' e h k =
     (partner_cases p ps v w h)
 
 -- A partner is a level.
-pub partner_level : (ps : List (List ℕ)) (v w : ℕ) → level_numbers ps ≡ true → partner_of ps v ≡ Level w → w ≤ 255
+pub partner_level : (ps : List (List ℕ)) (v w : ℕ) → level_numbers ps ≡ true → partner_of ps v ≡ Some w → w ≤ 255
 partner_level [] v w e h = absurd (missing_not w h)
 partner_level (p ∷ ps) v w e h =
     let e1 = and_right (leb (get_or p 0 0) 255) _ e in
     let b : get_or p 1 0 ≤ 255 = leb-true _ _ (and_left (leb (get_or p 1 0) 255) _ e1) in
     ⊎_elim (λ q. omega (arith, q.1)) (λ q. partner_level ps v w (and_right (leb (get_or p 1 0) 255) _ e1) q) (partner_cases p ps v w h)
 
--- A partner as a number: what was found before the pairs that are left, or what they give.
-abbrev pub lead_over : ℕ → List (List ℕ) → ℕ → ℕ
-lead_over lead ps v = cond (leb lead 255) lead (partner_number (partner_of ps v))
+-- The partner that was found, or that of the pairs that are left.
+abbrev pub first_found : Partner → Partner → Partner
+first_found None q = q
+first_found (Some v) q = Some v
 
-pub lead_next : (lead : ℕ) (p : List ℕ) (ps : List (List ℕ)) (v : ℕ) → get_or p 1 0 ≤ 255 → lead_over lead (p ∷ ps) v ≡ lead_over (lead_on lead (get_or p 0 0) (get_or p 1 0) v) ps v
-lead_next lead p ps v h = go (leb lead 255) refl (eqb (get_or p 0 0) v)
-  where
-    go : (b : Bool) → leb lead 255 ≡ b → (e : Bool)
-        → cond b lead (partner_number (cond e (Level (get_or p 1 0)) (partner_of ps v)))
-        ≡ cond (leb (cond b lead (cond e (get_or p 1 0) 256)) 255) (cond b lead (cond e (get_or p 1 0) 256)) (partner_number (partner_of ps v))
-    go true q e = rw q
-    go false q true = rw (le-leb (get_or p 1 0) 255 h)
-    go false q false = refl
-
-pub lead_small : (lead a b v : ℕ) → b ≤ 255 → lead ≤ 256 → lead_on lead a b v ≤ 256
-lead_small lead a b v h l = go (leb lead 255) (eqb a v)
-  where
-    go : (x y : Bool) → cond x lead (cond y b 256) ≤ 256
-    go true y = l
-    go false true = omega arith
-    go false false = omega arith
-
-pub lead_end : (lead v : ℕ) → lead ≤ 256 → lead_over lead [] v ≡ lead
-lead_end lead v h = go (leb lead 255) refl
-  where
-    go : (b : Bool) → leb lead 255 ≡ b → cond b lead 256 ≡ lead
-    go true q = refl
-    go false q = let z : 255 < lead = leb-false _ _ q in omega arith
+pub first_end : (q : Partner) → first_found q None ≡ q
+first_end None = refl
+first_end (Some v) = refl
 
 -- The partner that such a number stands for.
 pub lead_partner : (ps : List (List ℕ)) (v : ℕ) → level_numbers ps ≡ true → partner_from (partner_number (partner_of ps v)) ≡ partner_of ps v
 lead_partner ps v e = go (partner_of ps v) refl
   where
     go : (p : Partner) → partner_of ps v ≡ p → partner_from (partner_number p) ≡ p
-    go Missing q = refl
-    go (Level w) q = rw (le-leb w 255 (partner_level ps v w e q))
+    go None q = refl
+    go (Some w) q = rw (le-leb w 255 (partner_level ps v w e q))

@@ -1,8 +1,6 @@
 -- Document 01, "Records": the level pairs of a renumbering table, what makes them sound, and the level that a level goes to.
-use Rattle.std.specs.Prelude.{Bool, true, false, cond, ◌&&◌, List, [], ◌∷◌, ℕ, ◌+◌, leb, eqb, take, drop, get_or}
+use Rattle.std.specs.Prelude.{Bool, true, false, cond, ◌&&◌, List, [], ◌∷◌, ℕ, ◌+◌, leb, eqb, take, drop, get_or, Option, None, Some}
 use Rattle.table_levels.specs.declared.LevelPair.{LevelPair}
-use Rattle.table_levels.specs.declared.Partner.{Partner}
-use Rattle.table_levels.specs.declared.Partner.TheVariants.{Level, Missing}
 
 -- a level pair, and the one of zeros, which stands in every place that is not used
 abbrev pub pair : ℕ → ℕ → LevelPair
@@ -32,28 +30,32 @@ level_numbers (p ∷ ps) = leb (get_or p 0 0) 255 && (leb (get_or p 1 0) 255 && 
 abbrev pub pairs_sound : List (List ℕ) → ℕ → Bool
 pairs_sound ls n = levels_sound ls n && level_numbers (take n ls)
 
+-- the level that a level goes to, where it has one
+abbrev pub Partner : Type 0
+Partner = Option ℕ
+
 -- the second level of the first pair whose first level it is
 abbrev pub partner_of : List (List ℕ) → ℕ → Partner
-partner_of [] v = Missing
-partner_of (p ∷ ps) v = cond (eqb (get_or p 0 0) v) (Level (get_or p 1 0)) (partner_of ps v)
+partner_of [] v = None
+partner_of (p ∷ ps) v = cond (eqb (get_or p 0 0) v) (Some (get_or p 1 0)) (partner_of ps v)
 
 -- the level has a partner
 abbrev pub known : Partner → Bool
-known Missing = false
-known (Level v) = true
+known None = false
+known (Some v) = true
 
 abbrev pub level_or0 : Partner → ℕ
-level_or0 Missing = 0
-level_or0 (Level v) = v
+level_or0 None = 0
+level_or0 (Some v) = v
 
 -- a partner as one number, 256 where there is none, and back
 abbrev pub partner_number : Partner → ℕ
-partner_number Missing = 256
-partner_number (Level v) = v
+partner_number None = 256
+partner_number (Some v) = v
 
 abbrev pub partner_from : ℕ → Partner
-partner_from n = cond (leb n 255) (Level n) Missing
+partner_from n = cond (leb n 255) (Some n) None
 
--- such a number after one pair more: the first that was found stays
-abbrev pub lead_on : ℕ → ℕ → ℕ → ℕ → ℕ
-lead_on lead a b v = cond (leb lead 255) lead (cond (eqb a v) b 256)
+-- of sound pairs the partner of a level
+abbrev pub sound_partner : List (List ℕ) → ℕ → ℕ → Option Partner
+sound_partner ls n v = cond (pairs_sound ls n) (Some (partner_of (take n ls) v)) None

@@ -8,7 +8,8 @@ use native.Mathlib.Nat.{pow-suc}
 use borrow.Author.Tests.{lt-ltb, ne_eqb}
 use lib.ListN.{length, set, drop, length-set, drop_of_length-le}
 use lib.Seq.{sets, append_snoc, drop-cons, get_or-set_same, drop-set-lt}
-use Rattle.text.specs.Put.{put_octet, behind, put, place_after, Puts}
+use Rattle.text.specs.declared.Line.{Line}
+use Rattle.text.specs.Put.{put_octet, behind, put, place_after, Puts, Writes}
 use Rattle.text.specs.Text.{leading, hex_digit, hex_of}
 
 put_append : (out : List ℕ) (n : ℕ) (xs ys : List ℕ) → put (put out n xs) (place_after out n xs) ys ≡ put out n (xs ++ ys)
@@ -21,6 +22,12 @@ unfolding put place_after
 place_append out n [] ys = refl
 place_append out n (x ∷ xs) ys = place_append (put_octet out n x) (behind out n) xs ys
 
+-- a buffer keeps its length
+pub put_length : (out : List ℕ) (n : ℕ) (xs : List ℕ) → length (put out n xs) ≡ length out
+unfolding put
+put_length out n [] = refl
+put_length out n (x ∷ xs) = put_length (put_octet out n x) (behind out n) xs ∙ length-set out n x
+
 -- octets, and behind them more
 pub puts_then : {a : List ℕ} {n : ℕ} {xs : List ℕ} {b : List ℕ} {k : ℕ} {ys c : List ℕ} {r : ℕ} → Puts a n xs b k → Puts b k ys c r → Puts a n (xs ++ ys) c r
 puts_then {a} {n} {xs} {b} {k} {ys} {c} {r} p q =
@@ -32,6 +39,13 @@ puts_then {a} {n} {xs} {b} {k} {ys} {c} {r} p q =
 pub puts_none : {a : List ℕ} {n : ℕ} → Puts a n [] a n
 unfolding put place_after
 puts_none = record { buffer = refl; place = refl }
+
+-- the same of a line
+pub writes_then : {a : Line} {xs : List ℕ} {b : Line} {ys : List ℕ} {c : Line} → Writes a xs b → Writes b ys c → Writes a (xs ++ ys) c
+writes_then p q = record { same = q.same ∙ p.same; puts = puts_then p.puts q.puts }
+
+pub writes_none : {a : Line} → Writes a [] a
+writes_none = record { same = refl; puts = puts_none }
 
 -- while there is room, octets are stored one after the other
 pub put_sets : (out : List ℕ) (n : ℕ) (xs : List ℕ) → n + length xs ≤ length out → put out n xs ≡ sets out n xs

@@ -1,5 +1,6 @@
 -- What putting octets into a buffer leaves there, and the place behind them. House: an octet that finds no room is left out.
 use Rattle.std.specs.Prelude.{ℕ, ◌+◌, ◌≡◌, cond, List, [], ◌∷◌, length, set, ltb}
+use Rattle.text.specs.declared.Line.{Line}
 
 -- the buffer with x at place n; as it was where it has no such place
 abbrev pub put_octet : List ℕ → ℕ → ℕ → List ℕ
@@ -23,3 +24,8 @@ place_after out n (x ∷ xs) = place_after (put_octet out n x) (behind out n) xs
 pub record Puts (before : List ℕ) (n : ℕ) (octets : List ℕ) (after : List ℕ) (answer : ℕ) : Type 0 where
   pub buffer : after ≡ put before n octets
   pub place : answer ≡ place_after before n octets
+
+-- a line at entry, the octets put behind its end, and the line at exit: it stands in the buffer that was lent
+pub record Writes (before : Line) (octets : List ℕ) (after : Line) : Type 0 where
+  pub same : after.octets.ghost_name ≡ before.octets.ghost_name
+  pub puts : Puts before.octets.now before.end octets after.octets.now after.end

@@ -1,75 +1,115 @@
-// Text in a lent buffer: octets, words, numbers in decimal and in hex, and the lines of the sample program (document 01, "The sample program"). Nothing here reads or writes: each
-// function puts octets into a buffer from place n on and answers the place behind them, and an octet that finds no room is left out.
+// Text in a lent buffer: octets, words, numbers in decimal and in hex, and the lines of the sample program (document 01, "The sample program"). Nothing here reads or writes:
+// what is put stands in a lent buffer.
 #![tactic(auto)]
 
 ghost use Rattle.std.specs.Prelude.{◌≡◌, [], ◌∷◌, ◌+◌, ◌%◌, ◌≤◌, ◌<◌, length, drop};
-ghost use Rattle.text.specs.Put.{Puts};
+ghost use Rattle.text.specs.Put.{Writes};
 ghost use Rattle.text.specs.Text.{decimal, next, hex_digit, hex_of};
 ghost use Rattle.text.specs.Line.{shown, forward_line, drop_line, broken_line};
 
 // The most digits of a number in decimal.
 const DIGITS: usize = 20;
 
-// One octet.
-pub fn put_octet(out: &mut [u8], n: usize, x: u8) -> usize
-    ensures { Puts out.old n (x ∷ []) out.new result }
-{
-    if n < out.len() {
-        out[n] = x;
-        return n + 1;
+// A line in a lent buffer. What is put goes behind the place `end`, and an octet that finds no room is left out.
+#[derive(Drop)]
+pub struct Line<'a> {
+    pub octets: &'a mut [u8],
+    pub end: usize,
+}
+
+impl Line<'_> {
+    // One octet.
+    pub fn octet(&mut self, x: u8)
+        ensures { Writes self.old (x ∷ []) self.new }
+    {
+        if self.end < self.octets.len() {
+            self.octets[self.end] = x;
+            self.end += 1;
+        }
     }
-    n
-}
 
-// The octets of a word.
-pub fn put_word(out: &mut [u8], n: usize, word: &[u8]) -> usize
-    ensures { Puts out.old n word.now out.new result }
-{
-    let mut k = n;
-    let mut i: usize = 0;
-    while i < word.len() {
-        k = put_octet(out, k, word[i]);
-        i += 1;
+    // The octets of a word.
+    pub fn word(&mut self, word: &[u8])
+        ensures { Writes self.old word.now self.new }
+    {
+        for x in word {
+            self.octet(*x);
+        }
     }
-    k
-}
 
-// A number in decimal.
-pub fn put_decimal(out: &mut [u8], n: usize, x: u64) -> usize
-    ensures { Puts out.old n (decimal x) out.new result }
-{
-    let mut digits = [0u8; DIGITS];
-    let from = spell(x, &mut digits);
-    put_word(out, n, &digits[from..])
-}
-
-// A blank, and a number in decimal.
-pub fn put_next(out: &mut [u8], n: usize, x: u64) -> usize
-    ensures { Puts out.old n (next x) out.new result }
-{
-    let k = put_octet(out, n, b' ');
-    put_decimal(out, k, x)
-}
-
-// The octets in lower-case hex, two digits each.
-pub fn put_hex(out: &mut [u8], n: usize, octets: &[u8]) -> usize
-    ensures { Puts out.old n (hex_of octets.now) out.new result }
-{
-    let mut k = n;
-    let mut i: usize = 0;
-    while i < octets.len() {
-        k = put_pair(out, k, octets[i]);
-        i += 1;
+    // A number in decimal.
+    pub fn decimal(&mut self, x: u64)
+        ensures { Writes self.old (decimal x) self.new }
+    {
+        let mut digits = [0u8; DIGITS];
+        let from = spell(x, &mut digits);
+        self.word(&digits[from..]);
     }
-    k
-}
 
-// An octet as two hex digits.
-fn put_pair(out: &mut [u8], n: usize, x: u8) -> usize
-    ensures { Puts out.old n (hex_of (x ∷ [])) out.new result }
-{
-    let k = put_octet(out, n, hex_digit(x / 16));
-    put_octet(out, k, hex_digit(x % 16))
+    // A blank, and a number in decimal.
+    pub fn next(&mut self, x: u64)
+        ensures { Writes self.old (next x) self.new }
+    {
+        self.octet(b' ');
+        self.decimal(x);
+    }
+
+    // The octets in lower-case hex, two digits each.
+    pub fn hex(&mut self, octets: &[u8])
+        ensures { Writes self.old (hex_of octets.now) self.new }
+    {
+        for x in octets {
+            self.pair(*x);
+        }
+    }
+
+    // An octet as two hex digits.
+    fn pair(&mut self, x: u8)
+        ensures { Writes self.old (hex_of (x ∷ [])) self.new }
+    {
+        self.octet(hex_digit(x / 16));
+        self.octet(hex_digit(x % 16));
+    }
+
+    // A forwarding's line: the count, and that many octets of the leaving area in hex.
+    pub fn put_forward(&mut self, count: usize, area: &[u8])
+        ensures { Writes self.old (forward_line count area.now) self.new }
+    {
+        self.word(b"FORWARD");
+        self.next(count as u64);
+        self.first(count, area);
+        self.octet(b'\n');
+    }
+
+    // A blank, and the first `count` octets in hex, or as many as there are; nothing for a count of 0.
+    fn first(&mut self, count: usize, area: &[u8])
+        ensures { Writes self.old (shown count area.now) self.new }
+    {
+        if count == 0 {
+            return;
+        }
+        self.octet(b' ');
+        self.hex(&area[..count.min(area.len())]);
+    }
+
+    // A refusal's line: number, type, code and pointer.
+    pub fn put_drop(&mut self, number: u8, kind: u8, code: u8, pointer: u8)
+        ensures { Writes self.old (drop_line number kind code pointer) self.new }
+    {
+        self.word(b"DROP");
+        self.next(u64::from(number));
+        self.next(u64::from(kind));
+        self.next(u64::from(code));
+        self.next(u64::from(pointer));
+        self.octet(b'\n');
+    }
+
+    // The line of a record that is cut short.
+    pub fn put_broken(&mut self)
+        ensures { Writes self.old broken_line self.new }
+    {
+        self.word(b"BROKEN\n");
+    }
 }
 
 // The digit of a number below 16.
@@ -104,47 +144,4 @@ fn digit(x: u64) -> u8
     ensures { result ≡ 48 + x % 10 }
 {
     (x % 10) as u8 + b'0'
-}
-
-// A forwarding's line: the count, and that many octets of the leaving area in hex.
-pub fn put_forward(out: &mut [u8], n: usize, count: usize, area: &[u8]) -> usize
-    ensures { Puts out.old n (forward_line count area.now) out.new result }
-{
-    let named = put_word(out, n, b"FORWARD");
-    let counted = put_next(out, named, count as u64);
-    let ended = put_first(out, counted, count, area);
-    put_octet(out, ended, b'\n')
-}
-
-// A blank, and the first `count` octets in hex, or as many as there are; nothing for a count of 0.
-fn put_first(out: &mut [u8], n: usize, count: usize, area: &[u8]) -> usize
-    ensures { Puts out.old n (shown count area.now) out.new result }
-{
-    if count == 0 {
-        return n;
-    }
-    let k = put_octet(out, n, b' ');
-    if area.len() < count {
-        return put_hex(out, k, area);
-    }
-    put_hex(out, k, &area[..count])
-}
-
-// A refusal's line: number, type, code and pointer.
-pub fn put_drop(out: &mut [u8], n: usize, number: u8, kind: u8, code: u8, pointer: u8) -> usize
-    ensures { Puts out.old n (drop_line number kind code pointer) out.new result }
-{
-    let named = put_word(out, n, b"DROP");
-    let numbered = put_next(out, named, number as u64);
-    let typed = put_next(out, numbered, kind as u64);
-    let coded = put_next(out, typed, code as u64);
-    let pointed = put_next(out, coded, pointer as u64);
-    put_octet(out, pointed, b'\n')
-}
-
-// The line of a record that is cut short.
-pub fn put_broken(out: &mut [u8], n: usize) -> usize
-    ensures { Puts out.old n broken_line out.new result }
-{
-    put_word(out, n, b"BROKEN\n")
 }

@@ -1,5 +1,5 @@
 -- `area_leaving::copy_kept` meets its contract.
-use Prim.Native.Nat.{ℕ, ◌≤◌, ◌-◌, ◌+◌}
+use Prim.Native.Nat.{ℕ, ◌≤◌, ◌-◌, ◌+◌, min}
 use mathlib.Core.Path.{◌≡◌, refl, sym, ap, ◌∙◌}
 use mathlib.Core.List.{List, [], ◌++◌}
 use native.Mathlib.Omega.{arith}
@@ -26,81 +26,54 @@ returns-then-left-eq0 c =
     let z : c.loop-at.left ≡ 0 = omega arith in
     let e : take c.loop-at.left (kept_from area c.loop-at.at) ≡ [] = rw z in record { value = omega (arith, ap length e, c.loop-at.invariant.3); out_after = paint_nothing c.loop-at.w c.loop-at.out _ e ∙ c.loop-at.invariant.4 }
 
-pub shape_of-out-in-Stop : goal.shape_of-out-in-Stop
-shape_of-out-in-Stop c = c.loop-at.invariant.1
+pub shape_of-out-in-None : goal.shape_of-out-in-None
+shape_of-out-in-None c = c.loop-at.invariant.1
 
-pub returns-in-Stop : goal.returns-in-Stop
-returns-in-Stop c =
+pub returns-in-None : goal.returns-in-None
+returns-in-None c =
     let area = c.args.area.now in
-    let e = take_none c.loop-at.left (kept_from area c.loop-at.at) (kept_stop area c.loop-at.at c.next_option.result c.loop-at-test.true c.next_option.ensures c.in-Stop.is) in record { value = omega (arith, ap length e, c.loop-at.invariant.3); out_after = paint_nothing c.loop-at.w c.loop-at.out _ e ∙ c.loop-at.invariant.4 }
-
-moved : (c : goal.After-lesser-m)
-    → let area = c.args.area.now in
-    (1 ≤ c.in-Over.n) × (c.loop-at.at + c.in-Over.n ≤ length area) × (c.in-Over.kept ≤ c.in-Over.n)
-moved c =
-    over_moves c.args.area.now c.loop-at.at c.next_option.result c.loop-at-test.true c.next_option.ensures _ _ c.in-Over.is
+    let e = take_none c.loop-at.left (kept_from area c.loop-at.at) (kept_stop area c.loop-at.at c.next_option.result c.loop-at-test.true c.next_option.ensures c.in-None.is) in record { value = omega (arith, ap length e, c.loop-at.invariant.3); out_after = paint_nothing c.loop-at.w c.loop-at.out _ e ∙ c.loop-at.invariant.4 }
 
 -- how many octets are copied, of those that are left
-few : (c : goal.After-lesser-m)
-    → let area = c.args.area.now in
-    (c.lesser-m.result ≤ c.in-Over.kept)
-    × (c.lesser-m.result ≤ c.loop-at.left)
-    × (c.lesser-m.result ≤ length (take (length area - c.loop-at.at) (drop c.loop-at.at area)))
-few c =
-    let area = c.args.area.now in
-    let v = moved c in
-    (omega (arith, c.lesser-m.ensures), omega (arith, c.lesser-m.ensures), simp (tail_is, length-drop) (omega (arith, c.lesser-m.ensures)))
+few : (area : List ℕ) (at kept n left m : ℕ) → m ≡ min kept left → at + n ≤ length area → kept ≤ n
+    → (m ≤ kept) × (m ≤ left) × (m ≤ length (take (length area - at) (drop at area)))
+few area at kept n left m e h k = (omega arith, omega arith, simp (tail_is, length-drop) (omega arith))
 
-pub slice_bounds-copy_octets-end : goal.slice_bounds-copy_octets-end
-slice_bounds-copy_octets-end c = sym (length-take-le _ _ (few c).2)
-
-moved-After-slice_known-in-Over-1 : (c : goal.After-slice_known-in-Over-1)
-    → let area = c.args.area.now in
-    (1 ≤ c.in-Over.n) × (c.loop-at.at + c.in-Over.n ≤ length area) × (c.in-Over.kept ≤ c.in-Over.n)
-moved-After-slice_known-in-Over-1 c =
-    over_moves c.args.area.now c.loop-at.at c.next_option.result c.loop-at-test.true c.next_option.ensures _ _ c.in-Over.is
-
--- how many octets are copied, of those that are left
-few-After-slice_known-in-Over-1 : (c : goal.After-slice_known-in-Over-1)
-    → let area = c.args.area.now in
-    (c.lesser-m.result ≤ c.in-Over.kept)
-    × (c.lesser-m.result ≤ c.loop-at.left)
-    × (c.lesser-m.result ≤ length (take (length area - c.loop-at.at) (drop c.loop-at.at area)))
-few-After-slice_known-in-Over-1 c =
-    let area = c.args.area.now in
-    let v = moved-After-slice_known-in-Over-1 c in
-    (omega (arith, c.lesser-m.ensures), omega (arith, c.lesser-m.ensures), simp (tail_is, length-drop) (omega (arith, c.lesser-m.ensures)))
+pub slice_bounds-copy_list-end : goal.slice_bounds-copy_list-end
+slice_bounds-copy_list-end c =
+    let v = over_moves c.args.area.now c.loop-at.at c.next_option.result c.loop-at-test.true c.next_option.ensures c.in-Some.over c.in-Some.is in
+    sym (length-take-le _ _ (few c.args.area.now c.loop-at.at c.in-Some.over.kept c.in-Some.over.n c.loop-at.left c.min-m.result c.min-m.ensures v.1 v.2).2)
 
 pub overflow_add-w : goal.overflow_add-w
-overflow_add-w c = omega (arith, few-After-slice_known-in-Over-1 c, c.loop-at.invariant, c)
+overflow_add-w c = omega (arith, c.min-m.ensures, c.loop-at.invariant, over_moves c.args.area.now c.loop-at.at c.next_option.result c.loop-at-test.true c.next_option.ensures c.in-Some.over c.in-Some.is)
 
 pub overflow_sub-left : goal.overflow_sub-left
-overflow_sub-left c = omega (arith, few-After-slice_known-in-Over-1 c)
+overflow_sub-left c = omega (arith, c.min-m.ensures)
 
 pub overflow_add-at : goal.overflow_add-at
-overflow_add-at c = omega (arith, moved-After-slice_known-in-Over-1 c, c)
+overflow_add-at c = omega (arith, over_moves c.args.area.now c.loop-at.at c.next_option.result c.loop-at-test.true c.next_option.ensures c.in-Some.over c.in-Some.is)
 
 pub loop-at-smaller : goal.loop-at-smaller
-loop-at-smaller c = omega (arith, moved-After-slice_known-in-Over-1 c)
+loop-at-smaller c = omega (arith, over_moves c.args.area.now c.loop-at.at c.next_option.result c.loop-at-test.true c.next_option.ensures c.in-Some.over c.in-Some.is)
 
 pub loop-at-preserved : goal.loop-at-preserved
 loop-at-preserved c =
     let area = c.args.area.now in
     let rest = take (length area - c.loop-at.at) (drop c.loop-at.at area) in
-    let kept = c.in-Over.kept in
-    let m = c.lesser-m.result in
-    let v = moved-After-slice_known-in-Over-1 c in
-    let f = few-After-slice_known-in-Over-1 c in
+    let kept = c.in-Some.over.kept in
+    let m = c.min-m.result in
+    let v = over_moves c.args.area.now c.loop-at.at c.next_option.result c.loop-at-test.true c.next_option.ensures c.in-Some.over c.in-Some.is in
+    let f = few area c.loop-at.at kept c.in-Some.over.n c.loop-at.left m c.min-m.ensures v.1 v.2 in
     let short : kept ≤ length rest = simp (tail_is, length-drop) (omega arith) in
     let xs : List ℕ = take m rest in
     let len : length xs ≡ m = length-take-le m rest (omega arith) in
     let room : c.loop-at.w + length xs ≤ length c.loop-at.out = omega (arith, c.loop-at.invariant) in
-    let ks : List ℕ = take (c.loop-at.left - m) (kept_from area (c.loop-at.at + c.in-Over.n)) in
+    let ks : List ℕ = take (c.loop-at.left - m) (kept_from area (c.loop-at.at + c.in-Some.over.n)) in
     let here : take c.loop-at.left (kept_from area c.loop-at.at) ≡ xs ++ ks =
-    ap (take c.loop-at.left) (kept_over area c.loop-at.at c.next_option.result c.loop-at-test.true c.next_option.ensures _ _ c.in-Over.is)
-    ∙ take_both kept c.loop-at.left m rest (kept_from area (c.loop-at.at + c.in-Over.n)) c.lesser-m.ensures short in
-    let ys = c.copy_octets.new.dst in
-    let wrote = c.copy_octets.ensures in
+    ap (take c.loop-at.left) (kept_over area c.loop-at.at c.next_option.result c.loop-at-test.true c.next_option.ensures c.in-Some.over c.in-Some.is)
+    ∙ take_both kept c.loop-at.left m rest (kept_from area (c.loop-at.at + c.in-Some.over.n)) c.min-m.ensures short in
+    let ys = c.copy_list.new.dst in
+    let wrote = c.copy_list.ensures in
     let whole = turn_length c.loop-at.w xs ys c.loop-at.out room wrote in (
       v.1,
       whole ∙ c.loop-at.invariant.1,

@@ -1,4 +1,3 @@
-use Prim.Native.Nat.{◌≤◌, ◌+◌}
 use mathlib.Core.Path.{ap}
 use native.Mathlib.Omega.{arith}
 use lib.ListN.{length}
@@ -23,29 +22,23 @@ pub returns-then-area-at-eq0 : goal.returns-then-area-at-eq0
 returns-then-area-at-eq0 c =
     let e = kept_none c.args.area.now c.loop-at.at c.loop-at-test.true c.if-area-at-eq0.true in record { value = omega (arith, ap length e); upper_bound = omega arith }
 
-pub returns-in-Stop : goal.returns-in-Stop
-returns-in-Stop c =
-    let e = kept_stop c.args.area.now c.loop-at.at c.next_option.result c.loop-at-test.true c.next_option.ensures c.in-Stop.is in record { value = omega (arith, ap length e); upper_bound = omega arith }
-
-moved : (c : goal.In-Over)
-    → let area = c.args.area.now in
-    (1 ≤ c.in-Over.n) × (c.loop-at.at + c.in-Over.n ≤ length area) × (c.in-Over.kept ≤ c.in-Over.n)
-moved c =
-    over_moves c.args.area.now c.loop-at.at c.next_option.result c.loop-at-test.true c.next_option.ensures _ _ c.in-Over.is
+pub returns-in-None : goal.returns-in-None
+returns-in-None c =
+    let e = kept_stop c.args.area.now c.loop-at.at c.next_option.result c.loop-at-test.true c.next_option.ensures c.in-None.is in record { value = omega (arith, ap length e); upper_bound = omega arith }
 
 pub overflow_add-w : goal.overflow_add-w
-overflow_add-w c = omega (arith, moved c)
+overflow_add-w c = omega (arith, over_moves c.args.area.now c.loop-at.at c.next_option.result c.loop-at-test.true c.next_option.ensures c.in-Some.over c.in-Some.is)
 
-pub overflow_add-at-in-Over : goal.overflow_add-at-in-Over
-overflow_add-at-in-Over c = omega (arith, moved c)
+pub overflow_add-at-in-Some : goal.overflow_add-at-in-Some
+overflow_add-at-in-Some c = omega (arith, over_moves c.args.area.now c.loop-at.at c.next_option.result c.loop-at-test.true c.next_option.ensures c.in-Some.over c.in-Some.is)
 
 pub loop-at-smaller : goal.loop-at-smaller
-loop-at-smaller c = omega (arith, moved c)
+loop-at-smaller c = omega (arith, over_moves c.args.area.now c.loop-at.at c.next_option.result c.loop-at-test.true c.next_option.ensures c.in-Some.over c.in-Some.is)
 
 pub loop-at-preserved : goal.loop-at-preserved
 loop-at-preserved c =
-    let m = moved c in
-    let e = over_count c.args.area.now c.loop-at.at c.next_option.result c.loop-at-test.true c.next_option.ensures _ _ c.in-Over.is in
+    let m = over_moves c.args.area.now c.loop-at.at c.next_option.result c.loop-at-test.true c.next_option.ensures c.in-Some.over c.in-Some.is in
+    let e = over_count c.args.area.now c.loop-at.at c.next_option.result c.loop-at-test.true c.next_option.ensures c.in-Some.over c.in-Some.is in
     (m.1, omega arith, omega arith)
 
 pub returns : goal.returns

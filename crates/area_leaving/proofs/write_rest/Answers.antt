@@ -21,11 +21,11 @@ short : (c : goal.After-slice_known-2-1) → c.copy_kept-w.result ≤ 40
 short c =
     omega (arith, take_short c.args.kept (kept_of c.args.area.now))
 
-pub slice_bounds-zero_all-count : goal.slice_bounds-zero_all-count
-slice_bounds-zero_all-count c = omega (arith, short c)
+pub slice_bounds-fill-count : goal.slice_bounds-fill-count
+slice_bounds-fill-count c = omega (arith, short c)
 
-pub slice_bounds-zero_all-start : goal.slice_bounds-zero_all-start
-slice_bounds-zero_all-start c = omega (arith, short c)
+pub slice_bounds-fill-start : goal.slice_bounds-fill-start
+slice_bounds-fill-start c = omega (arith, short c)
 
 -- no more is written than was asked for
 short-After-slice_known-3-1 : (c : goal.After-slice_known-3-1) → c.copy_kept-w.result ≤ 40
@@ -39,5 +39,5 @@ pub overflow_mul-result : goal.overflow_mul-result
 overflow_mul-result c = record { fits = omega (arith, short-After-slice_known-3-1 c) }
 
 pub returns : goal.returns
-returns c = let whole = rest_written c.args.from c.args.kept (kept_of c.args.area.now) c.args.out.now c.copy_kept-w.result c.copy_kept-w.new.out c.zero_all.new.out
-    (omega arith) (omega arith) c.copy_kept-w.ensures.value c.copy_kept-w.ensures.out_after c.zero_all.ensures in record { value = whole.0; out_after = whole.1 }
+returns c = let whole = rest_written c.args.from c.args.kept (kept_of c.args.area.now) c.args.out.now c.copy_kept-w.result c.copy_kept-w.new.out c.fill.new.self
+    (omega arith) (omega arith) c.copy_kept-w.ensures.value c.copy_kept-w.ensures.out_after (c.fill.ensures.after (λ y e. e)) in record { value = whole.0; out_after = whole.1 }

@@ -5,7 +5,8 @@ use mathlib.Core.Path.{◌≡◌, sym, ◌∙◌}
 use mathlib.Core.Bool.{true, false, ◌||◌}
 use lib.Dec.{ltb}
 use lib.ListN.{length}
-use Rattle.area.specs.declared.Walk.TheVariants.{Sound, Refused}
+use Rattle.std.specs.Prelude.{Ok, Err}
+use Rattle.area.specs.Kinds.{places, fault}
 use Rattle.area.proofs.Laws.{area_refused, sound_placed}
 use Rattle.port.specs.Port.{port_sound}
 use Rattle.area.specs.Area.{bad_area}
@@ -34,22 +35,11 @@ returns-then-not-port_sound c =
     rw c.silent-then-not-port_sound.ensures
     (port_unsound c.args.port c.args.area.now c.args.keys.now c.args.code (sized c) (sym c.port_sound.ensures ∙ not-true _ c.if-not-port_sound.true-raw))
 
--- the walk refused the area
-walked : (c : goal.In-Refused) →
-    walk_at c.args.port c.args.area.now ≡ Refused c.in-Refused.number c.in-Refused.at
-walked c = sym c.walk_area.ensures ∙ c.in-Refused.is
+pub overflow_add-fault : goal.overflow_add-fault
+overflow_add-fault c = omega (arith, (area_refused c.args.port.basic.on _ c.in-Err.fault.number c.in-Err.fault.at (sym c.walk_area.ensures ∙ c.in-Err.is)).2, area_short c.args.area.now (sym c.bad_area.ensures ∙ c.if-bad_area.false))
 
--- past check 1
-small-In-Refused : (c : goal.In-Refused) → bad_area c.args.area.now ≡ false
-small-In-Refused c = sym c.bad_area.ensures ∙ c.if-bad_area.false
-
-pub overflow_add-at : goal.overflow_add-at
-overflow_add-at c =
-    omega (arith, (area_refused c.args.port.basic.on _ _ _ (walked c)).2, area_short c.args.area.now (small-In-Refused c))
-
-pub overflow_cast-at : goal.overflow_cast-at
-overflow_cast-at c =
-    omega (arith, (area_refused c.args.port.basic.on _ _ _ (walked c)).2, area_short c.args.area.now (small-In-Refused c))
+pub overflow_cast-fault : goal.overflow_cast-fault
+overflow_cast-fault c = omega (arith, (area_refused c.args.port.basic.on _ c.in-Err.fault.number c.in-Err.fault.at (sym c.walk_area.ensures ∙ c.in-Err.is)).2, area_short c.args.area.now (sym c.bad_area.ensures ∙ c.if-bad_area.false))
 
 -- past check 1
 small-After-arrive_at-arg-1 : (c : goal.After-arrive_at-arg-1) → bad_area c.args.area.now ≡ false
@@ -57,8 +47,8 @@ small-After-arrive_at-arg-1 c = sym c.bad_area.ensures ∙ c.if-bad_area.false
 
 -- or found it sound
 found : (c : goal.After-arrive_at-arg-1) →
-    walk_at c.args.port c.args.area.now ≡ Sound c.in-Sound.label c.in-Sound.basic
-found c = sym c.walk_area.ensures ∙ c.in-Sound.is
+    walk_at c.args.port c.args.area.now ≡ Ok (places c.in-Ok.met.label c.in-Ok.met.basic)
+found c = sym c.walk_area.ensures ∙ c.in-Ok.is
 
 -- the port is sound
 ported : (c : goal.After-arrive_at-arg-1) → port_sound c.args.port ≡ true
@@ -80,12 +70,12 @@ ported-Then-not-on c = sym c.port_sound.ensures ∙ not-false _ c.if-not-port_so
 
 -- or found it sound
 found-Then-not-on : (c : goal.Then-not-on) →
-    walk_at c.args.port c.args.area.now ≡ Sound c.in-Sound.label c.in-Sound.basic
-found-Then-not-on c = sym c.walk_area.ensures ∙ c.in-Sound.is
+    walk_at c.args.port c.args.area.now ≡ Ok (places c.in-Ok.met.label c.in-Ok.met.basic)
+found-Then-not-on c = sym c.walk_area.ensures ∙ c.in-Ok.is
 
 pub returns-then-not-on : goal.returns-then-not-on
 returns-then-not-on c =
-    port_off c.args.port c.args.area.now c.args.keys.now c.args.code (sized-Then-not-on c) (ported-Then-not-on c) c.in-Sound.label c.in-Sound.basic _ _ (found-Then-not-on c) (not-true _ c.if-not-on.true-raw) c.arrive_at-arrived.ensures
+    port_off c.args.port c.args.area.now c.args.keys.now c.args.code (sized-Then-not-on c) (ported-Then-not-on c) c.in-Ok.met.label c.in-Ok.met.basic _ _ (found-Then-not-on c) (not-true _ c.if-not-on.true-raw) c.arrive_at-arrived.ensures
 
 -- past check 1
 small-After-check_basic-arg-1 : (c : goal.After-check_basic-arg-1) → bad_area c.args.area.now ≡ false
@@ -93,8 +83,8 @@ small-After-check_basic-arg-1 c = sym c.bad_area.ensures ∙ c.if-bad_area.false
 
 -- or found it sound
 found-After-check_basic-arg-1 : (c : goal.After-check_basic-arg-1) →
-    walk_at c.args.port c.args.area.now ≡ Sound c.in-Sound.label c.in-Sound.basic
-found-After-check_basic-arg-1 c = sym c.walk_area.ensures ∙ c.in-Sound.is
+    walk_at c.args.port c.args.area.now ≡ Ok (places c.in-Ok.met.label c.in-Ok.met.basic)
+found-After-check_basic-arg-1 c = sym c.walk_area.ensures ∙ c.in-Ok.is
 
 pub check_basic-requires : goal.check_basic-requires
 check_basic-requires c = record { area_len_bound = area_short c.args.area.now (small-After-check_basic-arg-1 c); placed_in = (sound_placed c.args.port.basic.on _ _ _ (found-After-check_basic-arg-1 c)).1 }
@@ -112,11 +102,11 @@ ported-After-faulty c = sym c.port_sound.ensures ∙ not-false _ c.if-not-port_s
 
 -- the walk refused the area
 walked-After-faulty : (c : goal.After-faulty) →
-    walk_at c.args.port c.args.area.now ≡ Refused c.in-Refused.number c.in-Refused.at
-walked-After-faulty c = sym c.walk_area.ensures ∙ c.in-Refused.is
+    walk_at c.args.port c.args.area.now ≡ Err (fault c.in-Err.fault.number c.in-Err.fault.at)
+walked-After-faulty c = sym c.walk_area.ensures ∙ c.in-Err.is
 
-pub returns-in-Refused : goal.returns-in-Refused
-returns-in-Refused c =
+pub returns-in-Err : goal.returns-in-Err
+returns-in-Err c =
     rw c.faulty.ensures (port_walked c.args.port c.args.area.now c.args.keys.now c.args.code (sized-After-faulty c) (ported-After-faulty c) _ _ (walked-After-faulty c))
 
 -- past check 1
@@ -132,9 +122,9 @@ ported-After-check_basic c = sym c.port_sound.ensures ∙ not-false _ c.if-not-p
 
 -- or found it sound
 found-After-check_basic : (c : goal.After-check_basic) →
-    walk_at c.args.port c.args.area.now ≡ Sound c.in-Sound.label c.in-Sound.basic
-found-After-check_basic c = sym c.walk_area.ensures ∙ c.in-Sound.is
+    walk_at c.args.port c.args.area.now ≡ Ok (places c.in-Ok.met.label c.in-Ok.met.basic)
+found-After-check_basic c = sym c.walk_area.ensures ∙ c.in-Ok.is
 
 pub returns-else-not-on : goal.returns-else-not-on
 returns-else-not-on c =
-    port_on c.args.port c.args.area.now c.args.keys.now c.args.code (sized-After-check_basic c) (ported-After-check_basic c) c.in-Sound.label c.in-Sound.basic _ c.arrive_at-arrived.result _ (found-After-check_basic c) (not-false _ c.if-not-on.false-raw) c.arrive_at-arrived.ensures c.check_basic.ensures
+    port_on c.args.port c.args.area.now c.args.keys.now c.args.code (sized-After-check_basic c) (ported-After-check_basic c) c.in-Ok.met.label c.in-Ok.met.basic _ c.arrive_at-arrived.result _ (found-After-check_basic c) (not-false _ c.if-not-on.false-raw) c.arrive_at-arrived.ensures c.check_basic.ensures

@@ -1,112 +1,52 @@
 -- `arrive::check_basic` meets its contract.
-use borrow.Author.Tests.{not-true, not-false}
 use native.Mathlib.Omega.{arith}
-use mathlib.Core.Path.{◌≡◌, sym, ◌∙◌, ap}
+use mathlib.Core.Path.{sym, ◌∙◌}
 use mathlib.Core.Bool.{true}
 use Rattle.area.specs.declared.Kind.TheVariants.{Basic}
-use Rattle.area.specs.Area.{WholeAt}
-use Rattle.area.specs.declared.Place.{Place}
 use Rattle.arrive.specs.Checks.{first_of}
-use Rattle.arrive.specs.Stages.{is_open, basic_checks, before_range}
+use Rattle.arrive.specs.Stages.{basic_checks}
 use Rattle.area.proofs.Laws.{whole_inside}
-use Rattle.arrive.proofs.Arrival.{open_closed, basic_missing, basic_bad_lem, basic_outside, basic_passes_lem}
+use Rattle.arrive.proofs.Arrival.{open_closed, basic_missing, basic_bad_lem, basic_outside, basic_passes_lem, checks_at}
 use Rattle.arrive.proofs.check_basic.Goals as goal
 
 pub returns-then-not-is_open : goal.returns-then-not-is_open
 returns-then-not-is_open c =
-    open_closed c.args.arrived (first_of (basic_checks c.args.place true c.args.way c.args.area.now c.args.code))
-    (sym c.is_open.ensures ∙ not-true _ c.if-not-is_open.true-raw)
+    open_closed c.args.arrived (first_of (basic_checks c.args.place true c.args.way c.args.area.now c.args.code)) (sym c.is_open.ensures ∙ c.if-not-is_open.true)
 
--- the option there
-placed : (c : goal.In-At) →
-    WholeAt Basic c.args.area.now c.in-At.at
-placed c =
-    rw c.in-At.is at c.requires.placed_in
-
-pub read_basic_at-read-requires : goal.read_basic_at-read-requires
-read_basic_at-read-requires c = placed c
-
--- the option there
-placed-Then-read-ne0 : (c : goal.Then-read-ne0) →
-    WholeAt Basic c.args.area.now c.in-At.at
-placed-Then-read-ne0 c =
-    rw c.in-At.is at c.requires.placed_in
+pub read_basic_at-requires : goal.read_basic_at-requires
+read_basic_at-requires c = rw c.in-Some.is at c.requires.placed_in
 
 pub overflow_add-at : goal.overflow_add-at
 overflow_add-at c =
-    let i = whole_inside Basic c.args.area.now c.in-At.at (placed-Then-read-ne0 c) in
+    let i = whole_inside Basic c.args.area.now c.in-Some.at (rw c.in-Some.is at c.requires.placed_in) in
     omega (arith, i.inside, c.requires.area_len_bound)
 
 pub overflow_cast-at : goal.overflow_cast-at
 overflow_cast-at c =
-    let i = whole_inside Basic c.args.area.now c.in-At.at (placed-Then-read-ne0 c) in
+    let i = whole_inside Basic c.args.area.now c.in-Some.at (rw c.in-Some.is at c.requires.placed_in) in
     omega (arith, i.inside, c.requires.area_len_bound)
 
--- where 19 to 21 are asked
-asked : (c : goal.After-faulty) → is_open c.args.arrived.number ≡ true
-asked c = sym c.is_open.ensures ∙ not-false _ c.if-not-is_open.false-raw
-
--- what is answered, with the option at its place
-at_place : (c : goal.After-faulty) (q : Place) → c.args.place ≡ q
-    → before_range c.args.arrived (first_of (basic_checks q true c.args.way c.args.area.now c.args.code))
-    ≡ before_range c.args.arrived (first_of (basic_checks c.args.place true c.args.way c.args.area.now c.args.code))
-at_place c q e =
-    sym (ap (λ (x : Place). before_range c.args.arrived (first_of (basic_checks x true c.args.way c.args.area.now c.args.code))) e)
-
-pub returns-then-read-ne0 : goal.returns-then-read-ne0
-returns-then-read-ne0 c =
+pub returns-in_default : goal.returns-in_default
+returns-in_default c =
     c.faulty.ensures
-    ∙ basic_bad_lem c.args.arrived c.args.way c.args.area.now c.args.code (asked c) c.in-At.at c.read_basic_at-read.result c.read_basic_at-read.ensures c.if-read-ne0.true
-    ∙ at_place c _ c.in-At.is
-
--- where 19 to 21 are asked
-asked-After-barred : (c : goal.After-barred) → is_open c.args.arrived.number ≡ true
-asked-After-barred c = sym c.is_open.ensures ∙ not-false _ c.if-not-is_open.false-raw
-
--- what is answered, with the option at its place
-at_place-After-barred : (c : goal.After-barred) (q : Place) → c.args.place ≡ q
-    → before_range c.args.arrived (first_of (basic_checks q true c.args.way c.args.area.now c.args.code))
-    ≡ before_range c.args.arrived (first_of (basic_checks c.args.place true c.args.way c.args.area.now c.args.code))
-at_place-After-barred c q e =
-    sym (ap (λ (x : Place). before_range c.args.arrived (first_of (basic_checks x true c.args.way c.args.area.now c.args.code))) e)
+    ∙ basic_bad_lem c.args.arrived c.args.way c.args.area.now c.args.code (sym c.is_open.ensures ∙ c.if-not-is_open.false) c.in-Some.at (sym c.read_basic_at.ensures ∙ c.in_default.is)
+    ∙ checks_at c.args.arrived c.args.way c.args.area.now c.args.code c.args.place _ c.in-Some.is
 
 pub returns-then-not-passes_way : goal.returns-then-not-passes_way
 returns-then-not-passes_way c =
     c.barred.ensures
-    ∙ basic_outside c.args.arrived c.args.way c.args.area.now c.args.code (asked-After-barred c) c.in-At.at c.read_basic_at-read.result c.read_basic_at-read.ensures c.if-read-ne0.false
-    (sym c.passes_way.ensures ∙ not-true _ c.if-not-passes_way.true-raw)
-    ∙ at_place-After-barred c _ c.in-At.is
+    ∙ basic_outside c.args.arrived c.args.way c.args.area.now c.args.code (sym c.is_open.ensures ∙ c.if-not-is_open.false) c.in-Some.at
+    c.in-Some-read_basic_at.read (sym c.read_basic_at.ensures ∙ c.in-Some-read_basic_at.is) (sym c.passes_way.ensures ∙ c.if-not-passes_way.true)
+    ∙ checks_at c.args.arrived c.args.way c.args.area.now c.args.code c.args.place _ c.in-Some.is
 
--- where 19 to 21 are asked
-asked-After-missing : (c : goal.After-missing) → is_open c.args.arrived.number ≡ true
-asked-After-missing c = sym c.is_open.ensures ∙ not-false _ c.if-not-is_open.false-raw
-
--- what is answered, with the option at its place
-at_place-After-missing : (c : goal.After-missing) (q : Place) → c.args.place ≡ q
-    → before_range c.args.arrived (first_of (basic_checks q true c.args.way c.args.area.now c.args.code))
-    ≡ before_range c.args.arrived (first_of (basic_checks c.args.place true c.args.way c.args.area.now c.args.code))
-at_place-After-missing c q e =
-    sym (ap (λ (x : Place). before_range c.args.arrived (first_of (basic_checks x true c.args.way c.args.area.now c.args.code))) e)
-
-pub returns-in-Nowhere : goal.returns-in-Nowhere
-returns-in-Nowhere c =
+pub returns-in-None : goal.returns-in-None
+returns-in-None c =
     c.missing.ensures
-    ∙ basic_missing c.args.arrived c.args.way c.args.area.now c.args.code (asked-After-missing c)
-    ∙ at_place-After-missing c _ c.in-Nowhere.is
-
--- where 19 to 21 are asked
-asked-Else-not-passes_way : (c : goal.Else-not-passes_way) → is_open c.args.arrived.number ≡ true
-asked-Else-not-passes_way c = sym c.is_open.ensures ∙ not-false _ c.if-not-is_open.false-raw
-
--- what is answered, with the option at its place
-at_place-Else-not-passes_way : (c : goal.Else-not-passes_way) (q : Place) → c.args.place ≡ q
-    → before_range c.args.arrived (first_of (basic_checks q true c.args.way c.args.area.now c.args.code))
-    ≡ before_range c.args.arrived (first_of (basic_checks c.args.place true c.args.way c.args.area.now c.args.code))
-at_place-Else-not-passes_way c q e =
-    sym (ap (λ (x : Place). before_range c.args.arrived (first_of (basic_checks x true c.args.way c.args.area.now c.args.code))) e)
+    ∙ basic_missing c.args.arrived c.args.way c.args.area.now c.args.code (sym c.is_open.ensures ∙ c.if-not-is_open.false)
+    ∙ checks_at c.args.arrived c.args.way c.args.area.now c.args.code c.args.place _ c.in-None.is
 
 pub returns-else-not-passes_way : goal.returns-else-not-passes_way
 returns-else-not-passes_way c =
-    basic_passes_lem c.args.arrived c.args.way c.args.area.now c.args.code (asked-Else-not-passes_way c) c.in-At.at c.read_basic_at-read.result c.read_basic_at-read.ensures c.if-read-ne0.false
-    (sym c.passes_way.ensures ∙ not-false _ c.if-not-passes_way.false-raw)
-    ∙ at_place-Else-not-passes_way c _ c.in-At.is
+    basic_passes_lem c.args.arrived c.args.way c.args.area.now c.args.code (sym c.is_open.ensures ∙ c.if-not-is_open.false) c.in-Some.at
+    c.in-Some-read_basic_at.read (sym c.read_basic_at.ensures ∙ c.in-Some-read_basic_at.is) (sym c.passes_way.ensures ∙ c.if-not-passes_way.false)
+    ∙ checks_at c.args.arrived c.args.way c.args.area.now c.args.code c.args.place _ c.in-Some.is

@@ -1,13 +1,8 @@
--- `basic::permits` meets its contract. The loop's invariant: the flag field is among those in use exactly when it was found or is among what is left of them.
-use Prim.Native.Nat.{◌≤◌, ◌-◌}
+-- `basic::permits` meets its contract. The loop's invariant: it was found exactly when it is among what was gone through.
 use mathlib.Core.Path.{◌≡◌}
-use mathlib.Core.Bool.{◌||◌}
-use lib.ListN.{take, drop}
+use lib.ListN.{take}
 use Rattle.basic.specs.Settings.{among}
 use Rattle.basic.proofs.permits.Given as goal
 
-abbrev pub invariant-loop-i : goal.invariant-loop-i
-invariant-loop-i l = (l.i ≤ l.n) × (among (take l.way.count l.way.flags) l.flags ≡ (l.found || among (drop l.i (take l.way.count l.way.flags)) l.flags))
-
-abbrev pub decreases-loop-i : goal.decreases-loop-i
-decreases-loop-i l = l.n - l.i
+abbrev pub invariant-loop-field : goal.invariant-loop-field
+invariant-loop-field l = l.found ≡ among (take l.field-index l.field-items) l.flags

@@ -1,5 +1,5 @@
 -- `file_port::read_flags` meets its contract.
-use Prim.Native.Nat.{ℕ, ◌-◌, ◌≤◌}
+use Prim.Native.Nat.{ℕ}
 use mathlib.Core.Path.{◌≡◌}
 use mathlib.Core.List.{List}
 use Rattle.file_format.specs.Format.{Found, read_at, alike, same, number, two}
@@ -11,8 +11,4 @@ abbrev pub elements : List ℕ → ℕ → ℕ → Found ℕ
 elements s st at = read_at (alike (number two 0 65535) st) s at
 
 abbrev pub invariant-loop-i : goal.invariant-loop-i
-invariant-loop-i l =
-    (l.i ≤ l.count) × (done : List ℕ) × (l.way ≡ way_of l.lowest l.highest done) × Passed (elements l.octets) same l.count 0 l.at done l.i 0 l.place
-
-abbrev pub decreases-loop-i : goal.decreases-loop-i
-decreases-loop-i l = l.count - l.i
+invariant-loop-i l = (done : List ℕ) × (l.way ≡ way_of l.lowest l.highest done) × Passed (elements l.octets) same l.count 0 l.at done l.i 0 l.place

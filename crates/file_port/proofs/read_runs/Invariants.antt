@@ -1,5 +1,5 @@
 -- `file_port::read_runs` meets its contract.
-use Prim.Native.Nat.{ℕ, ◌-◌, ◌≤◌}
+use Prim.Native.Nat.{ℕ}
 use mathlib.Core.Path.{◌≡◌}
 use mathlib.Core.List.{List}
 use Rattle.label.specs.declared.Run.{Run}
@@ -13,8 +13,4 @@ abbrev pub elements : List ℕ → ℕ → ℕ → Found Run
 elements s floor at = read_at (run_format floor) s at
 
 abbrev pub invariant-loop-i : goal.invariant-loop-i
-invariant-loop-i l =
-    (l.i ≤ l.count) × (done : List Run) × (l.label ≡ label_of l.domain l.level done) × Passed (elements l.octets) next_floor l.count 0 l.at done l.i l.floor l.place
-
-abbrev pub decreases-loop-i : goal.decreases-loop-i
-decreases-loop-i l = l.count - l.i
+invariant-loop-i l = (done : List Run) × (l.label ≡ label_of l.domain l.level done) × Passed (elements l.octets) next_floor l.count 0 l.at done l.i l.floor l.place

@@ -1,51 +1,43 @@
 -- `file_read::read_each_port` meets its contract.
 use native.Mathlib.Omega.{arith}
-use borrow.Author.Tests.{not-false}
-use mathlib.Core.Path.{refl}
-use mathlib.Core.List.{[], ◌∷◌, ◌++◌}
-use Rattle.file_format.specs.Format.{same}
+use mathlib.Core.Path.{◌≡◌, refl, sym, ap, ◌∙◌}
+use mathlib.Core.List.{List, [], ◌∷◌, ◌++◌}
+use lib.ListN.{take}
+use Rattle.std.proofs.lemmas.Result.{err_from_is_err_and}
+use Rattle.port.specs.declared.Port.{Port}
+use Rattle.file_format.specs.Format.{got, read_at, same}
 use Rattle.file_format.proofs.Places.{held_none, held_more, held_used, held_fills}
 use Rattle.file_format.proofs.Loops.{begins, turns, refuses, ends}
-use Rattle.file_format.proofs.Told.{stopped, went, passed_same, many_refuses, many_reads}
 use Rattle.file_port.specs.PortFormat.{no_port}
 use Rattle.file_read.proofs.read_each_port.Invariants.{elements}
 use Rattle.file_read.proofs.read_each_port.Goals as goal
 
-pub returns-then-not-ok : goal.returns-then-not-ok
-returns-then-not-ok c = (passed_same c.if-not-ok.true-raw, rw c.empty_port-none.ensures (held_fills (held_none 16 no_port)))
-
 pub loop-i-init : goal.loop-i-init
-loop-i-init c =
-    let a = c.args in
-    (omega arith, not-false a.ok c.if-not-ok.false-raw, refl, [], rw c.empty_port-none.ensures (held_none 16 no_port), begins (elements a.version a.octets.now) same a.count 0 a.at)
+loop-i-init c = let a = c.args in ([], rw c.requires.1 (held_none 16 no_port), begins (elements a.version a.octets.now) same a.count 0 a.at)
 
-pub returns-then-not-next : goal.returns-then-not-next
-returns-then-not-next c =
-    let a = c.args in
-    let l = c.loop-i in
-    rw l.invariant.2 (
-      many_refuses c.if-not-ok.false-raw (refuses (elements a.version a.octets.now) same l.invariant.5 _ (omega arith) (stopped c.read_port-next.ensures.0 c.if-not-next.true)),
-      held_fills l.invariant.4,
-    )
+pub returns-in_err-port-clause-read : goal.returns-in_err-port-clause-read
+unfolding read_at
+returns-in_err-port-clause-read c =
+    let p = err_from_is_err_and c.from_residual.result c.from_residual.ensures.1 in
+    rw (p.1, p.2) (refuses (elements c.args.version c.args.octets.now) same c.loop-i.invariant.2 _ (omega arith) c.in_err-port.ensures)
 
 pub loop-i-preserved : goal.loop-i-preserved
 loop-i-preserved c =
-    let a = c.args in
     let l = c.loop-i in
-    let r = c.read_port-next.result in (
-      omega arith,
-      l.invariant.1,
-      refl,
-      l.invariant.3 ++ (r.port ∷ []),
-      held_more r.port l.invariant.4 (omega arith),
-      turns (elements a.version a.octets.now) same l.invariant.5 r.port r.at (omega arith) (went c.read_port-next.ensures.0 c.if-not-next.false),
+    let r : Port = c.in_ok-port.port in (
+      l.invariant.0 ++ (r ∷ []),
+      held_more r l.invariant.1 (omega arith),
+      turns (elements c.args.version c.args.octets.now) same l.invariant.2 r c.in_ok-port.next (omega arith) c.in_ok-port.ensures,
     )
 
 pub returns : goal.returns
+unfolding read_at
 returns c =
     let a = c.args in
     let l = c.loop-i in
-    rw (l.invariant.1, l.invariant.2, held_used l.invariant.4) (
-      many_reads c.if-not-ok.false-raw (ends (elements a.version a.octets.now) same l.invariant.5 (omega arith)),
-      held_fills l.invariant.4,
-    )
+    let e : l.i ≡ a.count = omega arith in
+    let u : take a.count l.ports ≡ l.invariant.0 = rw e at (held_used l.invariant.1) in
+    record {
+      read = ends (elements a.version a.octets.now) same l.invariant.2 (omega arith) ∙ ap (λ (xs : List Port). got xs l.place) (sym u);
+      filled = rw e at (held_fills l.invariant.1);
+    }

@@ -18,4 +18,4 @@ unfolding file_answer
 returns c =
     let a = c.args in
     let e : (eqb a.at 2 && ltb 2 a.total) ≡ true = not-false _ c.if-not-named.false-raw in
-    rw (c.empty_set-none.ensures, e) refl
+    rw (c.empty_set.ensures, e) refl

@@ -1,7 +1,5 @@
 -- `file_table::read_pairs` meets its contract.
-use Prim.Native.Nat.{ℕ, ◌-◌, ◌≤◌}
-use mathlib.Core.Bool.{true}
-use mathlib.Core.Path.{◌≡◌}
+use Prim.Native.Nat.{ℕ}
 use mathlib.Core.List.{List}
 use Rattle.file_format.specs.Format.{Found, read_at}
 use Rattle.file_format.proofs.Places.{Held}
@@ -15,9 +13,4 @@ abbrev pub elements : List ℕ → ℕ × ℕ → ℕ → Found LevelPair
 elements s least at = read_at (pair_format least) s at
 
 abbrev pub invariant-loop-i : goal.invariant-loop-i
-invariant-loop-i l =
-    (l.i ≤ l.count) × (l.read.ok ≡ true) × (l.read.count ≡ l.i) × (done : List LevelPair) × Held 256 no_pair l.i l.read.levels done
-    × Passed (elements l.octets) next_least l.count (0, 0) l.at done l.i (l.first, l.second) l.read.at
-
-abbrev pub decreases-loop-i : goal.decreases-loop-i
-decreases-loop-i l = l.count - l.i
+invariant-loop-i l = (done : List LevelPair) × Held 256 no_pair l.i l.levels done × Passed (elements l.octets) next_least l.count (0, 0) l.at done l.i (l.first, l.second) l.place

@@ -1,75 +1,52 @@
 -- `file_table::read_rows` meets its contract.
 use borrow.Author.Rules.{rules}
-use Rattle.file_table.proofs.Rows.{rows_there, meets_answer}
 use native.Mathlib.Omega.{arith}
-use Prim.Native.Nat.{◌+◌, ◌*◌, ◌≤◌, ◌<◌}
-use mathlib.Core.Path.{◌≡◌, sym, ◌∙◌}
+use Prim.Native.Nat.{ℕ, ◌+◌, ◌*◌, ◌≤◌, ◌<◌}
+use mathlib.Core.Path.{◌≡◌, sym, ap, ◌∙◌}
+use mathlib.Core.Bool.{true, false}
 use lib.ListN.{length, take}
-use Rattle.table.specs.Table.{rows_from}
+use lib.Seq.{take-take, length-take-le}
+use Rattle.table.specs.Table.{rows_from, rising, targets_apart}
+use Rattle.file_table.proofs.Rows.{rows_take, rows_there, meets_answer, apart_answer, apart_list}
 use Rattle.file_table.proofs.read_rows.Goals as goal
 
--- the rows that were read are in the list
-there : (c : goal.After-slice_known-2-1) → c.read_each_row-read.result.count * 3 ≤ length c.read_each_row-read.new.rows
-there c =
-    let n : length c.read_each_row-read.new.rows ≡ length c.args.rows.now = search rules in
-    omega (arith, c.read_each_row-read.ensures.1, c.requires.1, n)
-
-pub targets_apart-requires : goal.targets_apart-requires
-targets_apart-requires c =
-    let e = c.read_each_row-read.ensures in
-    (omega (arith, e.1, c.requires.0), there c, e.0.rises)
-
-pub returns-then-targets_apart : goal.returns-then-targets_apart
-returns-then-targets_apart c =
-    let e = c.read_each_row-read.ensures in
-    (e.0.apart (sym c.targets_apart.ensures ∙ c.if-targets_apart.true), e.1)
-
--- the rows that were read are in the list
-there-Else-targets_apart : (c : goal.Else-targets_apart) → c.read_each_row-read.result.count * 3 ≤ length c.read_each_row-read.new.rows
-there-Else-targets_apart c =
-    let n : length c.read_each_row-read.new.rows ≡ length c.args.rows.now = search rules in
-    omega (arith, c.read_each_row-read.ensures.1, c.requires.1, n)
+pub returns-then-rows_sound : goal.returns-then-rows_sound
+returns-then-rows_sound c =
+    let r = c.read_each_row-seen in
+    let n : length r.new.rows ≡ length c.args.rows.now = search rules in
+    let e = apart_list r.result.0 r.new.rows (omega (arith, r.ensures.count, c.requires.0)) (omega (arith, r.ensures.count, c.requires.1, n)) r.ensures.rows.rises in
+    apart_answer c.args.octets.now c.args.at c.args.count r.result.0 r.result.1 (rows_from r.new.rows) (r.ensures.rows.apart (sym (c.rows_sound.ensures ∙ e) ∙ c.if-rows_sound.true)) r.ensures.whole
 
 pub first_meeting-requires : goal.first_meeting-requires
 first_meeting-requires c =
-    let e = c.read_each_row-read.ensures in
-    (omega (arith, e.1, c.requires.0), there-Else-targets_apart c, e.0.rises, sym c.targets_apart.ensures ∙ c.if-targets_apart.false)
+    let r = c.read_each_row-seen in
+    let n : length r.new.rows ≡ length c.args.rows.now = search rules in
+    let k : r.result.0 * 3 ≤ length r.new.rows = omega (arith, r.ensures.count, c.requires.1, n) in
+    let e = apart_list r.result.0 r.new.rows (omega (arith, r.ensures.count, c.requires.0)) k r.ensures.rows.rises in
+    let t = rows_take r.result.0 r.new.rows in (
+      omega (arith, length-take-le (r.result.0 * 3) r.new.rows k, r.ensures.count, c.requires.0),
+      ap (rising 0) t ∙ r.ensures.rows.rises,
+      ap targets_apart t ∙ sym (c.rows_sound.ensures ∙ e) ∙ c.if-rows_sound.false,
+    )
 
-pub overflow_mul-place : goal.overflow_mul-place
-overflow_mul-place c = omega (arith, c.first_meeting.ensures.0, c.read_each_row-read.ensures.1, c.requires.0)
-
--- the rows that were read are in the list
-there-After-first_meeting : (c : goal.After-first_meeting) → c.read_each_row-read.result.count * 3 ≤ length c.read_each_row-read.new.rows
-there-After-first_meeting c =
-    let n : length c.read_each_row-read.new.rows ≡ length c.args.rows.now = search rules in
-    omega (arith, c.read_each_row-read.ensures.1, c.requires.1, n)
-
--- and in the file
-rowed : (c : goal.After-first_meeting) → c.args.at + c.read_each_row-read.result.count * 6 ≤ length c.args.octets.now
-rowed c =
-    let e = c.read_each_row-read.ensures in
-    let n : length (take c.read_each_row-read.result.count (rows_from c.read_each_row-read.new.rows)) ≡ c.read_each_row-read.result.count = rows_there c.read_each_row-read.result.count c.read_each_row-read.new.rows (there-After-first_meeting c) in
-    let b : c.first_meeting.result < c.read_each_row-read.result.count = c.first_meeting.ensures.0 in
-    let h : 0 < length (take c.read_each_row-read.result.count (rows_from c.read_each_row-read.new.rows)) = omega (arith, n) in
-    let g : c.args.at + length (take c.read_each_row-read.result.count (rows_from c.read_each_row-read.new.rows)) * 6 ≤ length c.args.octets.now = e.0.room h in
-    omega (arith, n, g)
-
-pub overflow_add-place : goal.overflow_add-place
-overflow_add-place c = omega (arith, c.first_meeting.ensures.0, rowed (c))
-
-pub overflow_add-place-2 : goal.overflow_add-place-2
-overflow_add-place-2 c = omega (arith, c.first_meeting.ensures.0, rowed (c))
-
--- the rows that were read are in the list
-there-After-to_rows : (c : goal.After-to_rows) → c.read_each_row-read.result.count * 3 ≤ length c.read_each_row-read.new.rows
-there-After-to_rows c =
-    let n : length c.read_each_row-read.new.rows ≡ length c.args.rows.now = search rules in
-    omega (arith, c.read_each_row-read.ensures.1, c.requires.1, n)
+pub overflow_mul-result : goal.overflow_mul-result
+overflow_mul-result c =
+    let r = c.read_each_row-seen in
+    let n : length r.new.rows ≡ length c.args.rows.now = search rules in
+    omega (arith, c.first_meeting.ensures.0, length-take-le (r.result.0 * 3) r.new.rows (omega (arith, r.ensures.count, c.requires.1, n)), r.ensures.count, c.requires.0)
 
 pub returns : goal.returns
 returns c =
-    let e = c.read_each_row-read.ensures in
+    let r = c.read_each_row-seen in
     let m = c.first_meeting.ensures in
-    let t = c.to_rows.ensures in
-    meets_answer c.read_each_row-read.result.count c.first_meeting.result (rows_from c.read_each_row-read.new.rows) e.0 e.1
-    (rows_there c.read_each_row-read.result.count c.read_each_row-read.new.rows (there-After-to_rows c)) m.0 m.1 m.2 t.0 t.1 t.2
+    let j : ℕ = c.first_meeting.result in
+    let xs = rows_from r.new.rows in
+    let n : length r.new.rows ≡ length c.args.rows.now = search rules in
+    let k : r.result.0 * 3 ≤ length r.new.rows = omega (arith, r.ensures.count, c.requires.1, n) in
+    let l : c.first_meeting.result < r.result.0 = omega (arith, m.0, length-take-le (r.result.0 * 3) r.new.rows k) in
+    let t = rows_take r.result.0 r.new.rows in
+    let t0 : targets_apart (take c.first_meeting.result (rows_from r.new.rows)) ≡ true =
+    sym (ap (λ z. targets_apart (take c.first_meeting.result z)) t ∙ ap targets_apart (take-take c.first_meeting.result r.result.0 xs (omega arith))) ∙ m.1 in
+    let t1 : targets_apart (take (c.first_meeting.result + 1) (rows_from r.new.rows)) ≡ false =
+    sym (ap (λ z. targets_apart (take (c.first_meeting.result + 1) z)) t ∙ ap targets_apart (take-take (c.first_meeting.result + 1) r.result.0 xs (omega arith))) ∙ m.2 in
+    meets_answer r.result.0 c.first_meeting.result xs r.ensures.rows (rows_there r.result.0 r.new.rows k) l t0 t1

@@ -1,55 +1,24 @@
 -- `file_table::read_table` meets its contract.
 use borrow.Author.Rules.{rules}
 use native.Mathlib.Omega.{arith}
-use Prim.Native.Nat.{◌*◌, ◌≤◌}
-use mathlib.Core.Path.{◌≡◌, refl, sym}
+use mathlib.Core.Path.{◌≡◌}
 use lib.ListN.{length}
-use lib.Seq.{length-take-le}
-use Rattle.file_format.proofs.Told.{then_told, fields_told, counted_told}
-use Rattle.file_table.specs.TableFormat.{table_format}
+use Rattle.std.proofs.lemmas.Result.{err_from_is_err_and}
 use Rattle.file_table.proofs.Rows.{table_refused, table_read}
 use Rattle.file_table.proofs.read_table.Goals as goal
 
-pub returns-then-not-read : goal.returns-then-not-read
-unfolding table_format
-returns-then-not-read c =
-    table_refused c.args.version c.args.rows.now c.args.from
-    (fields_told
-    (then_told c.read_four-source.ensures.0
-    (then_told c.read_four-target.ensures.0
-    (then_told (counted_told (rw c.most_pairs.ensures.0 at c.read_two-pairs.ensures.0) c.read_pairs-levels.ensures.0)
-    (counted_told (rw c.most_rows.ensures.0 at c.read_two-count.ensures.0) c.read_rows-read.ensures.0))))
-    refl)
-    c.if-not-read.true
-    c.empty_table.ensures
-
--- the rows that were read are in the list
-there : (c : goal.After-kept-3-1) → c.read_rows-read.result.count * 3 ≤ length c.read_rows-read.new.rows
-there c =
-    let n : length c.read_rows-read.new.rows ≡ 3072 = search rules in
-    omega (arith, c.read_rows-read.ensures.1, c.read_two-count.ensures.1, c.most_rows.ensures.1, n)
-
-pub slice_bounds-write_numbers-end : goal.slice_bounds-write_numbers-end
-slice_bounds-write_numbers-end c = sym (length-take-le _ _ (there c))
-
--- the rows that were read are in the list
-there-After-two-1 : (c : goal.After-two-1) → c.read_rows-read.result.count * 3 ≤ length c.read_rows-read.new.rows
-there-After-two-1 c =
-    let n : length c.read_rows-read.new.rows ≡ 3072 = search rules in
-    omega (arith, c.read_rows-read.ensures.1, c.read_two-count.ensures.1, c.most_rows.ensures.1, n)
+pub returns-in_err-renumbering : goal.returns-in_err-renumbering
+returns-in_err-renumbering c =
+    let a = c.args in
+    let p = err_from_is_err_and c.from_residual.result c.from_residual.ensures.1 in
+    let e = c.in_err-renumbering.ensures.read in
+    let t = table_refused a.version a.octets.now a.at a.rows.now a.from _ e in
+    rw (p.1, p.2) (record { read = e; table = tt; rows_after = t.0; few = t.1 })
 
 pub returns : goal.returns
-unfolding table_format
 returns c =
-    table_read c.args.version c.args.rows.now c.args.from c.read_rows-read.new.rows
-    (fields_told
-    (then_told c.read_four-source.ensures.0
-    (then_told c.read_four-target.ensures.0
-    (then_told (counted_told (rw c.most_pairs.ensures.0 at c.read_two-pairs.ensures.0) c.read_pairs-levels.ensures.0)
-    (counted_told (rw c.most_rows.ensures.0 at c.read_two-count.ensures.0) c.read_rows-read.ensures.0))))
-    refl)
-    c.if-not-read.false
-    c.read_pairs-levels.ensures.1
-    (omega (arith, c.read_rows-read.ensures.1, c.read_two-count.ensures.1, c.most_rows.ensures.1))
-    (there-After-two-1 c)
-    c.write_numbers.ensures
+    let a = c.args in
+    let e = c.in_ok-renumbering.ensures in
+    let n : length c.read_fields.new.kept ≡ 3072 = search rules in
+    let t = table_read a.version a.octets.now a.at a.rows.now a.from c.read_fields.new.kept e.read e.filled e.few (omega (arith, n, e.few)) c.write_numbers.ensures in
+    record { read = t.read; table = t.table; rows_after = t.rows_after; few = t.few }

@@ -1,14 +1,9 @@
 -- `file_table::write_pairs` meets its contract.
-use Prim.Native.Nat.{◌-◌, ◌≤◌}
-use mathlib.Core.Path.{◌≡◌}
-use lib.ListN.{length, take}
+use lib.ListN.{take}
 use Rattle.file_format.specs.Format.{Wrote}
 use Rattle.file_format.specs.Laws.{flat}
 use Rattle.file_table.specs.Stages.{pair_octets}
 use Rattle.file_table.proofs.write_pairs.Given as goal
 
-abbrev pub invariant-loop-i : goal.invariant-loop-i
-invariant-loop-i l = (l.i ≤ l.n) × (length l.out ≡ length l.initial.out) × Wrote l.at (flat pair_octets (take l.i l.renumbering.levels)) l.initial.out l.out l.place
-
-abbrev pub decreases-loop-i : goal.decreases-loop-i
-decreases-loop-i l = l.n - l.i
+abbrev pub invariant-loop-pair : goal.invariant-loop-pair
+invariant-loop-pair l = Wrote l.at (flat pair_octets (take l.pair-index l.pair-items)) l.initial.out l.out l.place

@@ -7,7 +7,7 @@ use lib.ListN.{length}
 use borrow.Author.Tests.{not-true, not-false, le-leb, lt-leb}
 use lib.Dec.{leb}
 use Rattle.file_set.specs.Set.{set_sound}
-use Rattle.file_write.specs.declared.Written.TheVariants.{Done}
+use Rattle.std.specs.Prelude.{Ok}
 use Rattle.file_read.specs.File.{total_of}
 use Rattle.file_write.specs.Written.{written_of, file_output}
 use Rattle.file_write.proofs.write_file.Goals as goal
@@ -50,4 +50,4 @@ returns c =
     let z = c.file_size-total.ensures.0 in
     let k : leb (total_of 3 c.args.set c.args.rows.now) 61440 ≡ true = le-leb t 61440 (omega (arith, z)) in
     let h : leb (total_of 3 c.args.set c.args.rows.now) (length c.args.out.now) ≡ true = le-leb t (length c.args.out.now) (omega (arith, z)) in
-    rw (e, k, h) (ap Done z, c.write_fields.ensures)
+    rw (e, k, h) (ap Ok z, c.write_fields.ensures)

@@ -1,14 +1,9 @@
 -- `file_write::write_ports` meets its contract.
-use Prim.Native.Nat.{◌-◌, ◌≤◌}
-use mathlib.Core.Path.{◌≡◌}
-use lib.ListN.{length, take}
+use lib.ListN.{take}
+use Rattle.file_format.specs.Format.{Wrote}
 use Rattle.file_format.specs.Laws.{flat}
 use Rattle.file_write.specs.Stages.{port_octets}
-use Rattle.file_format.specs.Format.{Wrote}
 use Rattle.file_write.proofs.write_ports.Given as goal
 
-abbrev pub invariant-loop-i : goal.invariant-loop-i
-invariant-loop-i l = (l.i ≤ l.n) × (length l.out ≡ length l.initial.out) × Wrote l.at (flat port_octets (take l.i l.ports)) l.initial.out l.out l.place
-
-abbrev pub decreases-loop-i : goal.decreases-loop-i
-decreases-loop-i l = l.n - l.i
+abbrev pub invariant-loop-port : goal.invariant-loop-port
+invariant-loop-port l = Wrote l.at (flat port_octets (take l.port-index l.port-items)) l.initial.out l.out l.place

@@ -11,7 +11,7 @@ returns-then-crossed-ne0 c = rw (ne_eqb _ _ c.if-crossed-ne0.true)
 pub returns-then-not-lies_usual : goal.returns-then-not-lies_usual
 unfolding held_by_range
 returns-then-not-lies_usual c =
-    rw (eq-eqb _ _ c.if-crossed-ne0.false, sym c.lies_usual.ensures ∙ not-true _ c.if-not-lies_usual.true-raw) c.stop.ensures
+    rw (eq-eqb _ _ c.if-crossed-ne0.false, sym c.lies_usual.ensures ∙ not-true _ c.if-not-lies_usual.true-raw) c.barred.ensures
 
 pub returns : goal.returns
 unfolding held_by_range

@@ -11,7 +11,7 @@ returns-then-arrived-le2 c = rw (le-leb _ 2 c.if-arrived-le2.true)
 pub returns-then-not-table_sound : goal.returns-then-not-table_sound
 unfolding tabled_by
 returns-then-not-table_sound c =
-    rw (lt-leb _ 2 c.if-arrived-le2.false, sym c.table_sound.ensures ∙ not-true _ c.if-not-table_sound.true-raw) c.stop.ensures
+    rw (lt-leb _ 2 c.if-arrived-le2.false, sym c.table_sound.ensures ∙ not-true _ c.if-not-table_sound.true-raw) c.silent.ensures
 
 pub returns : goal.returns
 unfolding tabled_by

@@ -4,8 +4,7 @@ use lib.Dec.{eqb}
 use lib.ListN.{take}
 use Rattle.label_keys.specs.Keys.{key_runs}
 use Rattle.table.specs.Table.{lent}
-use Rattle.renumber_keys.specs.declared.Carried.{Carried}
-use Rattle.renumber_keys.specs.Carry.{image_of, carried_keys}
+use Rattle.renumber_keys.specs.Carry.{CarryAnswer, image_of, carried_keys}
 use Rattle.forward_cross.specs.Crossed.{numbered_by}
 use Rattle.forward_cross.proofs.Laws.{crossed_same, crossed_refused, crossed_carried}
 use Rattle.forward_cross.proofs.cross.Goals as goal
@@ -13,7 +12,7 @@ use Rattle.forward_cross.proofs.cross.Goals as goal
 pub returns-then-domain-leaving : goal.returns-then-domain-leaving
 returns-then-domain-leaving c =
     let a = c.args in
-    let q = crossed_same a.arrived a.domain a.leaving (lent a.table a.rows.now) a.levels a.own.now a.far.now c.if-domain-leaving.true in record { value = sym q.0; far_after = c.copy_keys.ensures ∙ sym q.1 }
+    let q = crossed_same a.arrived a.domain a.leaving (lent a.table a.rows.now) a.levels a.own.now a.far.now c.if-domain-leaving.true in record { value = sym q.0; far_after = c.copy_list.ensures ∙ sym q.1 }
 
 pub returns-then-arrived-ne0 : goal.returns-then-arrived-ne0
 returns-then-arrived-ne0 c =
@@ -25,9 +24,9 @@ returns c =
     let a = c.args in
     let q = crossed_carried a.arrived a.domain a.leaving (lent a.table a.rows.now) a.levels a.own.now a.far.now c.if-domain-leaving.false c.if-arrived-ne0.false in record {
       value = c.number_over.ensures
-          ∙ ap (λ (g : Carried). numbered_by g (eqb a.table.from a.domain) (eqb a.table.to a.leaving)) c.carry-carried.ensures.0
+          ∙ ap (λ (g : CarryAnswer). numbered_by g (eqb a.table.from a.domain) (eqb a.table.to a.leaving)) c.carry-carried.ensures.0
           ∙ sym q.0;
       far_after = c.carry-carried.ensures.1
-          ∙ ap (λ (g : Carried). carried_keys g (image_of (lent a.table a.rows.now) (key_runs (take a.arrived.count a.own.now))) a.far.now) c.carry-carried.ensures.0
+          ∙ ap (λ (g : CarryAnswer). carried_keys g (image_of (lent a.table a.rows.now) (key_runs (take a.arrived.count a.own.now))) a.far.now) c.carry-carried.ensures.0
           ∙ sym q.1;
     }

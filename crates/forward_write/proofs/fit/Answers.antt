@@ -30,14 +30,14 @@ returns-then-unlabelled c =
 
 pub slice_bounds-keys_length-end : goal.slice_bounds-keys_length-end
 slice_bounds-keys_length-end c =
-    sym (length-take-le c.lesser-m.result c.args.keys.now (omega (arith, c.lesser-m.ensures)))
+    sym (length-take-le c.min-m.result c.args.keys.now (omega (arith, c.min-m.ensures)))
 
 -- the room is tested as the definition does
 roomed : (c : goal.After-barred-then-not-has_room) (d : ℕ) →
     (c.args.unlabelled || has_room_for (length_of (keys_spelled c.args.permitted d c.args.held.level (take c.args.held.count c.args.keys.now))) c.args.kept) ≡ c.has_room.result
 roomed c d =
-    let n : take c.lesser-m.result c.args.keys.now ≡ take c.args.held.count c.args.keys.now =
-    ap (λ (i : ℕ). take i c.args.keys.now) c.lesser-m.ensures ∙ take_min c.args.held.count c.args.keys.now in
+    let n : take c.min-m.result c.args.keys.now ≡ take c.args.held.count c.args.keys.now =
+    ap (λ (i : ℕ). take i c.args.keys.now) c.min-m.ensures ∙ take_min c.args.held.count c.args.keys.now in
     rw c.if-unlabelled.false
     (ap (λ (ks : List ℕ). has_room_for (length_of (keys_spelled c.args.permitted d c.args.held.level ks)) c.args.kept) (sym n)
     ∙ ap (λ (i : ℕ). has_room_for i c.args.kept) (sym (c.keys_length-size.ensures d c.args.held.level))
@@ -52,8 +52,8 @@ returns-then-not-has_room c =
 roomed-Else-not-has_room : (c : goal.Else-not-has_room) (d : ℕ) →
     (c.args.unlabelled || has_room_for (length_of (keys_spelled c.args.permitted d c.args.held.level (take c.args.held.count c.args.keys.now))) c.args.kept) ≡ c.has_room.result
 roomed-Else-not-has_room c d =
-    let n : take c.lesser-m.result c.args.keys.now ≡ take c.args.held.count c.args.keys.now =
-    ap (λ (i : ℕ). take i c.args.keys.now) c.lesser-m.ensures ∙ take_min c.args.held.count c.args.keys.now in
+    let n : take c.min-m.result c.args.keys.now ≡ take c.args.held.count c.args.keys.now =
+    ap (λ (i : ℕ). take i c.args.keys.now) c.min-m.ensures ∙ take_min c.args.held.count c.args.keys.now in
     rw c.if-unlabelled.false
     (ap (λ (ks : List ℕ). has_room_for (length_of (keys_spelled c.args.permitted d c.args.held.level ks)) c.args.kept) (sym n)
     ∙ ap (λ (i : ℕ). has_room_for i c.args.kept) (sym (c.keys_length-size.ensures d c.args.held.level))

@@ -15,7 +15,7 @@ port c only receives sends = port_in c.args.gate c.args.lows.now c.args.highs.no
 pub returns-then-gate : goal.returns-then-gate
 returns-then-gate c =
     λ only receives sends.
-    rw (c.in-Nowhere.is, c.missing.ensures)
+    rw (c.in-None.is, c.missing.ensures)
     (acts_required (port c only receives sends) c.args.area.now c.args.keys.now c.args.code c.if-gate.true)
 
 -- a port of the gate
@@ -25,24 +25,24 @@ port-After-go_on c only receives sends = port_in c.args.gate c.args.lows.now c.a
 pub returns-then-given-gt-MAX_RUNS : goal.returns-then-given-gt-MAX_RUNS
 returns-then-given-gt-MAX_RUNS c =
     λ only receives sends.
-    rw (c.in-Nowhere.is, c.go_on.ensures)
+    rw (c.in-None.is, c.go_on.ensures)
     (acts_over (port-After-go_on c only receives sends) c.args.area.now c.args.keys.now c.args.code (cond c.args.gate.required 0 c.args.gate.domain) c.args.gate.given c.args.given.now refl
     c.if-gate.false c.requires.in_bounds c.if-given-gt-MAX_RUNS.true)
 
 pub read_at-requires : goal.read_at-requires
-read_at-requires c = record { area_len_bound = c.requires.area_len_bound; whole_at = rw c.in-At.is at c.requires.placed_in; in_bounds = c.requires.in_bounds }
+read_at-requires c = record { area_len_bound = c.requires.area_len_bound; whole_at = rw c.in-Some.is at c.requires.placed_in; in_bounds = c.requires.in_bounds }
 
 -- a port of the gate
-abbrev port-After-go_on-in-Nowhere : (c : goal.After-go_on-in-Nowhere) → List ℕ → List ℕ → List ℕ → Port
-port-After-go_on-in-Nowhere c only receives sends = port_in c.args.gate c.args.lows.now c.args.highs.now c.args.given.now only receives sends
+abbrev port-After-go_on-in-None : (c : goal.After-go_on-in-None) → List ℕ → List ℕ → List ℕ → Port
+port-After-go_on-in-None c only receives sends = port_in c.args.gate c.args.lows.now c.args.highs.now c.args.given.now only receives sends
 
 pub returns-else-given-gt-MAX_RUNS : goal.returns-else-given-gt-MAX_RUNS
 returns-else-given-gt-MAX_RUNS c =
     λ only receives sends.
-    rw (c.in-Nowhere.is, c.go_on-in-Nowhere.ensures)
-    (acts_assigned (port-After-go_on-in-Nowhere c only receives sends) c.args.area.now c.args.keys.now c.args.code (cond c.args.gate.required 0 c.args.gate.domain) c.args.gate.given c.args.given.now refl
-    c.if-gate.false c.requires.in_bounds _ c.if-given-gt-MAX_RUNS.false c.copy_keys.ensures)
+    rw (c.in-None.is, c.go_on-in-None.ensures)
+    (acts_assigned (port-After-go_on-in-None c only receives sends) c.args.area.now c.args.keys.now c.args.code (cond c.args.gate.required 0 c.args.gate.domain) c.args.gate.given c.args.given.now refl
+    c.if-gate.false c.requires.in_bounds _ c.if-given-gt-MAX_RUNS.false c.copy_list.ensures)
 
-pub returns-in-At : goal.returns-in-At
-returns-in-At c =
-    λ only receives sends. rw c.in-At.is (c.read_at.ensures c.args.given.now only receives sends)
+pub returns-in-Some : goal.returns-in-Some
+returns-in-Some c =
+    λ only receives sends. rw c.in-Some.is (c.read_at.ensures c.args.given.now only receives sends)

@@ -7,7 +7,8 @@ use mathlib.Core.List.{List}
 use Prim.Native.Nat.{ℕ}
 use lib.Dec.{ltb}
 use lib.ListN.{length}
-use Rattle.area.specs.declared.Walk.TheVariants.{Sound, Refused}
+use Rattle.std.specs.Prelude.{Ok, Err}
+use Rattle.area.specs.Kinds.{places, fault}
 use Rattle.area.specs.Area.{bad_area, walk_of}
 use Rattle.area.proofs.Laws.{area_refused, sound_placed}
 use Rattle.port.specs.declared.Port.{Port}
@@ -34,22 +35,11 @@ returns-then-keys-lt-MAX_RUNS c =
     rw c.silent-then-keys-lt-MAX_RUNS.ensures
     (acts_sized (port-After-silent-then-keys-lt-MAX_RUNS c only sends) c.args.area.now c.args.keys.now c.args.code (rw (sym c.bad_area.ensures ∙ c.if-bad_area.false, lt-ltb (length c.args.keys.now) 120 c.if-keys-lt-MAX_RUNS.true)))
 
--- the walk refused the area
-walked : (c : goal.In-Refused) →
-    walk_of c.args.gate.on c.args.area.now ≡ Refused c.in-Refused.number c.in-Refused.at
-walked c = sym c.walk_area.ensures ∙ c.in-Refused.is
+pub overflow_add-fault : goal.overflow_add-fault
+overflow_add-fault c = omega (arith, (area_refused c.args.gate.on _ c.in-Err.fault.number c.in-Err.fault.at (sym c.walk_area.ensures ∙ c.in-Err.is)).2, area_short c.args.area.now (sym c.bad_area.ensures ∙ c.if-bad_area.false))
 
--- past check 1
-small : (c : goal.In-Refused) → bad_area c.args.area.now ≡ false
-small c = sym c.bad_area.ensures ∙ c.if-bad_area.false
-
-pub overflow_add-at : goal.overflow_add-at
-overflow_add-at c =
-    omega (arith, (area_refused c.args.gate.on _ _ _ (walked c)).2, area_short c.args.area.now (small c))
-
-pub overflow_cast-at : goal.overflow_cast-at
-overflow_cast-at c =
-    omega (arith, (area_refused c.args.gate.on _ _ _ (walked c)).2, area_short c.args.area.now (small c))
+pub overflow_cast-fault : goal.overflow_cast-fault
+overflow_cast-fault c = omega (arith, (area_refused c.args.gate.on _ c.in-Err.fault.number c.in-Err.fault.at (sym c.walk_area.ensures ∙ c.in-Err.is)).2, area_short c.args.area.now (sym c.bad_area.ensures ∙ c.if-bad_area.false))
 
 -- past check 1
 small-After-arrive_at-arg-1 : (c : goal.After-arrive_at-arg-1) → bad_area c.args.area.now ≡ false
@@ -57,8 +47,8 @@ small-After-arrive_at-arg-1 c = sym c.bad_area.ensures ∙ c.if-bad_area.false
 
 -- or found it sound
 found : (c : goal.After-arrive_at-arg-1) →
-    walk_of c.args.gate.on c.args.area.now ≡ Sound c.in-Sound.label c.in-Sound.basic
-found c = sym c.walk_area.ensures ∙ c.in-Sound.is
+    walk_of c.args.gate.on c.args.area.now ≡ Ok (places c.in-Ok.met.label c.in-Ok.met.basic)
+found c = sym c.walk_area.ensures ∙ c.in-Ok.is
 
 pub arrive_at-arrived-requires : goal.arrive_at-arrived-requires
 arrive_at-arrived-requires c = record { area_len_bound = area_short c.args.area.now (small-After-arrive_at-arg-1 c); placed_in = (sound_placed c.args.gate.on _ _ _ (found c)).0; in_bounds = c.if-keys-lt-MAX_RUNS.false }
@@ -78,13 +68,13 @@ sized c =
 
 -- or found it sound
 found-Then-not-on : (c : goal.Then-not-on) →
-    walk_of c.args.gate.on c.args.area.now ≡ Sound c.in-Sound.label c.in-Sound.basic
-found-Then-not-on c = sym c.walk_area.ensures ∙ c.in-Sound.is
+    walk_of c.args.gate.on c.args.area.now ≡ Ok (places c.in-Ok.met.label c.in-Ok.met.basic)
+found-Then-not-on c = sym c.walk_area.ensures ∙ c.in-Ok.is
 
 pub returns-then-not-on : goal.returns-then-not-on
 returns-then-not-on c =
     λ only sends.
-    acts_off (port-Then-not-on c only sends) c.args.area.now c.args.keys.now c.args.code (sized c) c.in-Sound.label c.in-Sound.basic _ _ (found-Then-not-on c) (not-true _ c.if-not-on.true-raw)
+    acts_off (port-Then-not-on c only sends) c.args.area.now c.args.keys.now c.args.code (sized c) c.in-Ok.met.label c.in-Ok.met.basic _ _ (found-Then-not-on c) (not-true _ c.if-not-on.true-raw)
     (c.arrive_at-arrived.ensures only c.args.fields.now sends)
 
 -- past check 1
@@ -93,8 +83,8 @@ small-Else-not-on c = sym c.bad_area.ensures ∙ c.if-bad_area.false
 
 -- or found it sound
 found-Else-not-on : (c : goal.Else-not-on) →
-    walk_of c.args.gate.on c.args.area.now ≡ Sound c.in-Sound.label c.in-Sound.basic
-found-Else-not-on c = sym c.walk_area.ensures ∙ c.in-Sound.is
+    walk_of c.args.gate.on c.args.area.now ≡ Ok (places c.in-Ok.met.label c.in-Ok.met.basic)
+found-Else-not-on c = sym c.walk_area.ensures ∙ c.in-Ok.is
 
 pub check_basic-requires : goal.check_basic-requires
 check_basic-requires c = record { area_len_bound = area_short c.args.area.now (small-Else-not-on c); placed_in = (sound_placed c.args.gate.on _ _ _ (found-Else-not-on c)).1 }
@@ -114,11 +104,11 @@ sized-After-faulty c =
 
 -- the walk refused the area
 walked-After-faulty : (c : goal.After-faulty) →
-    walk_of c.args.gate.on c.args.area.now ≡ Refused c.in-Refused.number c.in-Refused.at
-walked-After-faulty c = sym c.walk_area.ensures ∙ c.in-Refused.is
+    walk_of c.args.gate.on c.args.area.now ≡ Err (fault c.in-Err.fault.number c.in-Err.fault.at)
+walked-After-faulty c = sym c.walk_area.ensures ∙ c.in-Err.is
 
-pub returns-in-Refused : goal.returns-in-Refused
-returns-in-Refused c =
+pub returns-in-Err : goal.returns-in-Err
+returns-in-Err c =
     λ only sends. rw c.faulty.ensures (acts_walked (port-After-faulty c only sends) c.args.area.now c.args.keys.now c.args.code (sized-After-faulty c) _ _ (walked-After-faulty c))
 
 -- a port of the gate
@@ -136,11 +126,11 @@ sized-After-check_basic c =
 
 -- or found it sound
 found-After-check_basic : (c : goal.After-check_basic) →
-    walk_of c.args.gate.on c.args.area.now ≡ Sound c.in-Sound.label c.in-Sound.basic
-found-After-check_basic c = sym c.walk_area.ensures ∙ c.in-Sound.is
+    walk_of c.args.gate.on c.args.area.now ≡ Ok (places c.in-Ok.met.label c.in-Ok.met.basic)
+found-After-check_basic c = sym c.walk_area.ensures ∙ c.in-Ok.is
 
 pub returns-else-not-on : goal.returns-else-not-on
 returns-else-not-on c =
     λ only sends.
-    acts_on (port-After-check_basic c only sends) c.args.area.now c.args.keys.now c.args.code (sized-After-check_basic c) c.in-Sound.label c.in-Sound.basic _ c.arrive_at-arrived.result _ (found-After-check_basic c) (not-false _ c.if-not-on.false-raw)
+    acts_on (port-After-check_basic c only sends) c.args.area.now c.args.keys.now c.args.code (sized-After-check_basic c) c.in-Ok.met.label c.in-Ok.met.basic _ c.arrive_at-arrived.result _ (found-After-check_basic c) (not-false _ c.if-not-on.false-raw)
     (c.arrive_at-arrived.ensures only c.args.fields.now sends) c.check_basic.ensures

@@ -1,9 +1,16 @@
 -- `gate::bar_gate` meets its contract.
 use borrow.Author.Tests.{not-true, not-false}
-use mathlib.Core.Path.{sym, ◌∙◌}
+use mathlib.Core.Path.{◌≡◌, sym, ap, ◌∙◌}
+use mathlib.Core.Bool.{true, false}
+use Rattle.area.specs.Area.{walk_of, octets_at}
+use Rattle.basic.specs.Settings.{passes_read}
+use Rattle.arrive.specs.Checks.{basic_in}
+use Rattle.arrive.specs.Stages.{basic_read}
 use Rattle.arrive.proofs.First.{before_none}
 use Rattle.forward_leave.specs.Departure.{sent_by}
+use Rattle.gate.specs.Gate.{way_of}
 use Rattle.gate.proofs.bar_gate.Goals as goal
+use Rattle.gate.proofs.bar_gate.Goals.{in_default-via-in-Some+else-passes_fields, in_default-via-in_default}
 
 -- the stage's answer, by its tests
 pub returns-then-not-on : goal.returns-then-not-on
@@ -21,14 +28,17 @@ unfolding sent_by
 returns-then-not-on-2 c =
     rw (not-false c.args.from c.if-not-from.false-raw, not-true c.args.on c.if-not-on-2.true-raw) c.bar_basic-then-not-on-2.ensures
 
-pub returns-then-passes_fields : goal.returns-then-passes_fields
+pub returns-in-Some : goal.returns-in-Some
 unfolding sent_by
-returns-then-passes_fields c =
-    rw (not-false c.args.from c.if-not-from.false-raw, not-false c.args.on c.if-not-on-2.false-raw, sym c.find_basic-read.ensures, sym c.passes_fields.ensures ∙ c.if-passes_fields.true)
+returns-in-Some c =
+    rw (not-false c.args.from c.if-not-from.false-raw, not-false c.args.on c.if-not-on-2.false-raw, sym c.find_basic.ensures ∙ c.in-Some.is, sym c.passes_fields.ensures ∙ c.if-passes_fields.true)
     (sym (before_none c.args.ready))
 
-pub returns : goal.returns
+pub returns-in_default : goal.returns-in_default
 unfolding sent_by
-returns c =
-    rw (not-false c.args.from c.if-not-from.false-raw, not-false c.args.on c.if-not-on-2.false-raw, sym c.find_basic-read.ensures, sym c.passes_fields.ensures ∙ c.if-passes_fields.false)
-    c.bar_basic-2.ensures
+returns-in_default c =
+    let barred : passes_read (way_of c.args.low c.args.high c.args.fields.now) (basic_read (octets_at (basic_in (walk_of true c.args.area.now)) c.args.area.now)) ≡ false = elim c.in_default.branch [
+      | in_default-via-in-Some+else-passes_fields w ↦ ap (passes_read (way_of c.args.low c.args.high c.args.fields.now)) (sym c.find_basic.ensures ∙ w.in-Some.is) ∙ sym w.passes_fields.ensures ∙ w.if-passes_fields.false
+      | in_default-via-in_default w ↦ ap (passes_read (way_of c.args.low c.args.high c.args.fields.now)) (sym c.find_basic.ensures ∙ w.in_default.is)
+    ] in
+    rw (not-false c.args.from c.if-not-from.false-raw, not-false c.args.on c.if-not-on-2.false-raw, barred) c.bar_basic-in_default.ensures

@@ -1,21 +1,26 @@
 -- `gate::read_at` meets its contract.
 use borrow.Author.Tests.{not-true, not-false}
 use native.Mathlib.Omega.{arith}
-use mathlib.Core.Path.{◌≡◌, sym, ◌∙◌}
+use mathlib.Core.Path.{◌≡◌, refl, sym, ◌∙◌}
 use mathlib.Core.Bool.{true, false}
 use mathlib.Core.List.{List, []}
-use Prim.Native.Nat.{ℕ, ◌+◌, ◌≤◌}
-use lib.ListN.{take}
-use Rattle.label.specs.Label.{label_of}
+use Prim.Native.Nat.{ℕ, ◌+◌, ◌-◌, ◌≤◌}
+use lib.ListN.{get_or, take, drop}
+use Rattle.std.specs.Prelude.{Ok, Err}
+use Rattle.option_read.specs.Keys.{KeyReading, row_of, ReadsKeys}
+use Rattle.option_slack.specs.Strict.{stops_slack}
+use Rattle.option_slack.proofs.Strict.{stops_row}
 use Rattle.label_keys.specs.Keys.{key_runs}
-use Rattle.decision.specs.Verdict.{going}
-use Rattle.port.specs.declared.Port.{Port}
-use Rattle.arrive.specs.Stages.{held_between}
 use Rattle.arrive.proofs.Arrival.{Framed, placed_framed, keys_point}
 use Rattle.label_between.proofs.Bounds.{lies_any}
 use Rattle.gate.specs.Gate.{port_in}
 use Rattle.gate.proofs.Acts.{acts_slack, acts_refused, acts_held}
 use Rattle.gate.proofs.read_at.Goals as goal
+use Rattle.gate.proofs.read_at.Goals.{In-Err, In-Ok}
+
+-- the octets of the option at a place
+abbrev slice : List ℕ → ℕ → List ℕ
+slice area at = take (at + get_or area (at + 1) 0 - at) (drop at area)
 
 -- the option lies in the area
 framed_at : (c : goal.After-slice_known-1) → Framed c.args.area.now c.args.at
@@ -74,103 +79,77 @@ overflow_add-at-then-stops_slack c = omega (arith, few c)
 pub overflow_cast-at : goal.overflow_cast-at
 overflow_cast-at c = omega (arith, few c)
 
--- a port of the gate
-abbrev port : (c : goal.After-faulty) → List ℕ → List ℕ → List ℕ → List ℕ → Port
-port c given only receives sends = port_in c.args.gate c.args.lows.now c.args.highs.now given only receives sends
-
 pub returns-then-stops_slack : goal.returns-then-stops_slack
 returns-then-stops_slack c =
     λ given only receives sends.
     rw c.faulty.ensures
-    (acts_slack (port c given only receives sends) c.args.area.now c.args.keys.now _ c.args.at c.args.code c.read_keys-read.result c.read_keys-read.ensures c.requires.in_bounds
-    (sym c.stops_slack.ensures ∙ c.if-stops_slack.true))
+    (acts_slack (port_in c.args.gate c.args.lows.now c.args.highs.now given only receives sends) c.args.area.now c.args.keys.now _ c.args.at c.args.code (row_of c.read_keys-read.result) c.read_keys-read.ensures.read c.requires.in_bounds
+    (stops_row _ _ _ c.read_keys-read.ensures.refused ∙ sym c.stops_slack.ensures ∙ c.if-stops_slack.true))
 
--- a port of the gate
-abbrev port-After-struct_known-then-read-ne0-1 : (c : goal.After-struct_known-then-read-ne0-1) → List ℕ → List ℕ → List ℕ → List ℕ → Port
-port-After-struct_known-then-read-ne0-1 c given only receives sends = port_in c.args.gate c.args.lows.now c.args.highs.now given only receives sends
+-- the option is refused
+module _ (c : In-Err) where
+  abbrev row : KeyReading
+  row = row_of (Err c.in-Err.fault)
 
--- where the option points
-points : (c : goal.After-struct_known-then-read-ne0-1) → c.read_keys-read.result.pointer ≤ 50
-points c =
-    keys_point (port-After-struct_known-then-read-ne0-1 c [] [] [] []) c.args.area.now c.args.keys.now _ c.args.at c.args.code c.read_keys-read.result c.read_keys-read.ensures c.requires.in_bounds c.requires.whole_at c.requires.area_len_bound
+  read-row : ReadsKeys c.args.gate.domain (slice c.args.area.now c.args.at) c.args.keys.now c.read_keys-read.new.keys row
+  read-row = rw c.in-Err.is at c.read_keys-read.ensures.read
 
--- the option lies in the area
-framed_at-After-struct_known-then-read-ne0-1 : (c : goal.After-struct_known-then-read-ne0-1) → Framed c.args.area.now c.args.at
-framed_at-After-struct_known-then-read-ne0-1 c = placed_framed c.args.area.now c.args.at c.requires.whole_at
+  has-number : c.in-Err.fault.number ≡ 0 → ⊥
+  has-number = rw c.in-Err.is at c.read_keys-read.ensures.refused
 
--- the octets of the area
-few-After-struct_known-then-read-ne0-1 : (c : goal.After-struct_known-then-read-ne0-1) → (c.args.at + 2 ≤ 40)
-few-After-struct_known-then-read-ne0-1 c = omega (arith, (framed_at-After-struct_known-then-read-ne0-1 c).inside, (framed_at-After-struct_known-then-read-ne0-1 c).least, c.requires.area_len_bound)
+  passed : stops_slack c.args.gate.strict row.number (slice c.args.area.now c.args.at) ≡ false
+  passed = rw c.in-Err.is at (stops_row c.args.gate.strict c.read_keys-read.result (slice c.args.area.now c.args.at) c.read_keys-read.ensures.refused ∙ sym c.stops_slack.ensures ∙ c.if-stops_slack.false)
 
-pub overflow_add-at-then-read-ne0 : goal.overflow_add-at-then-read-ne0
-overflow_add-at-then-read-ne0 c =
-    omega (arith, points c, few-After-struct_known-then-read-ne0-1 c)
+  -- where the option points
+  points : c.in-Err.fault.at ≤ 50
+  points =
+      keys_point (port_in c.args.gate c.args.lows.now c.args.highs.now [] [] [] []) c.args.area.now c.args.keys.now _ c.args.at c.args.code row read-row c.requires.in_bounds c.requires.whole_at c.requires.area_len_bound
 
-pub overflow_add-at-then-read-ne0-2 : goal.overflow_add-at-then-read-ne0-2
-overflow_add-at-then-read-ne0-2 c =
-    omega (arith, points c, few-After-struct_known-then-read-ne0-1 c)
+  -- the octets of the area
+  few-left : (c.args.at + 2 ≤ 40)
+  few-left =
+      let f = placed_framed c.args.area.now c.args.at c.requires.whole_at in
+      omega (arith, f.inside, f.least, c.requires.area_len_bound)
 
-pub overflow_cast-at-then-read-ne0 : goal.overflow_cast-at-then-read-ne0
-overflow_cast-at-then-read-ne0 c =
-    omega (arith, points c, few-After-struct_known-then-read-ne0-1 c)
+pub overflow_add-at-in-Err : goal.overflow_add-at-in-Err
+overflow_add-at-in-Err c = let d = (goal.at.overflow_add-at-in-Err c).In-Err in omega (arith, points d, few-left d)
 
--- a port of the gate
-abbrev port-After-faulty-then-read-ne0 : (c : goal.After-faulty-then-read-ne0) → List ℕ → List ℕ → List ℕ → List ℕ → Port
-port-After-faulty-then-read-ne0 c given only receives sends = port_in c.args.gate c.args.lows.now c.args.highs.now given only receives sends
+pub overflow_add-at-in-Err-2 : goal.overflow_add-at-in-Err-2
+overflow_add-at-in-Err-2 c = let d = (goal.at.overflow_add-at-in-Err-2 c).In-Err in omega (arith, points d, few-left d)
 
-pub returns-then-read-ne0 : goal.returns-then-read-ne0
-returns-then-read-ne0 c =
+pub overflow_cast-at-in-Err : goal.overflow_cast-at-in-Err
+overflow_cast-at-in-Err c = let d = (goal.at.overflow_cast-at-in-Err c).In-Err in omega (arith, points d, few-left d)
+
+pub returns-in-Err : goal.returns-in-Err
+returns-in-Err c =
+    let d = (goal.at.returns-in-Err c).In-Err in
     λ given only receives sends.
-    rw c.faulty-then-read-ne0.ensures
-    (acts_refused (port-After-faulty-then-read-ne0 c given only receives sends) c.args.area.now c.args.keys.now _ c.args.at c.args.code c.read_keys-read.result c.read_keys-read.ensures c.requires.in_bounds
-    (sym c.stops_slack.ensures ∙ c.if-stops_slack.false) c.if-read-ne0.true)
+    rw c.faulty-in-Err.ensures
+    (acts_refused (port_in c.args.gate c.args.lows.now c.args.highs.now given only receives sends) c.args.area.now c.args.keys.now _ c.args.at c.args.code (row d) (read-row d) c.requires.in_bounds (passed d) (has-number d))
 
--- a port of the gate
-abbrev port-After-barred : (c : goal.After-barred) → List ℕ → List ℕ → List ℕ → List ℕ → Port
-port-After-barred c given only receives sends = port_in c.args.gate c.args.lows.now c.args.highs.now given only receives sends
+-- the option is read
+module _ (c : In-Ok) where
+  abbrev read : KeyReading
+  read = row_of (Ok c.in-Ok.held)
 
--- what was read, held against the range
-abbrev keys_of : (c : goal.After-barred) → List ℕ
-keys_of c = c.read_keys-read.new.keys
+  read-is : ReadsKeys c.args.gate.domain (slice c.args.area.now c.args.at) c.args.keys.now c.read_keys-read.new.keys read
+  read-is = rw c.in-Ok.is at c.read_keys-read.ensures.read
 
-lies : (c : goal.After-barred) →
-    let a = c.args in
-    c.lies_between.result
-    ≡ held_between (label_of a.gate.domain a.gate.low (key_runs a.lows.now)) (label_of a.gate.domain a.gate.high (key_runs a.highs.now))
-    (going c.read_keys-read.result.level c.read_keys-read.result.count) (keys_of c)
-lies c =
-    let a = c.args in
-    c.lies_between.ensures
-    ∙ lies_any a.gate.domain a.gate.domain a.gate.low a.gate.high c.read_keys-read.result.level a.lows.now a.highs.now (key_runs (take c.read_keys-read.result.count (keys_of c)))
+  passed-read : stops_slack c.args.gate.strict 0 (slice c.args.area.now c.args.at) ≡ false
+  passed-read = rw c.in-Ok.is at (stops_row c.args.gate.strict c.read_keys-read.result (slice c.args.area.now c.args.at) c.read_keys-read.ensures.refused ∙ sym c.stops_slack.ensures ∙ c.if-stops_slack.false)
 
 pub returns-then-not-lies_between : goal.returns-then-not-lies_between
 returns-then-not-lies_between c =
+    let d = (goal.at.returns-then-not-lies_between c).In-Ok in
     λ given only receives sends.
     rw c.barred.ensures
-    (acts_held (port-After-barred c given only receives sends) c.args.area.now c.args.keys.now _ c.args.at c.args.code c.read_keys-read.result c.read_keys-read.ensures c.requires.in_bounds (sym c.stops_slack.ensures ∙ c.if-stops_slack.false) c.if-read-ne0.false
-    false (sym (not-true _ c.if-not-lies_between.true-raw) ∙ lies c))
+    (acts_held (port_in c.args.gate c.args.lows.now c.args.highs.now given only receives sends) c.args.area.now c.args.keys.now _ c.args.at c.args.code (read d) (read-is d) c.requires.in_bounds (passed-read d) refl
+    false (sym (not-true _ c.if-not-lies_between.true-raw) ∙ c.lies_between.ensures ∙ lies_any c.args.gate.domain c.args.gate.domain c.args.gate.low c.args.gate.high c.in-Ok.held.level c.args.lows.now c.args.highs.now (key_runs (take c.in-Ok.held.count c.read_keys-read.new.keys))))
 
--- a port of the gate
-abbrev port-After-go_on : (c : goal.After-go_on) → List ℕ → List ℕ → List ℕ → List ℕ → Port
-port-After-go_on c given only receives sends = port_in c.args.gate c.args.lows.now c.args.highs.now given only receives sends
-
--- what was read, held against the range
-abbrev keys_of-After-go_on : (c : goal.After-go_on) → List ℕ
-keys_of-After-go_on c = c.read_keys-read.new.keys
-
-lies-After-go_on : (c : goal.After-go_on) →
-    let a = c.args in
-    c.lies_between.result
-    ≡ held_between (label_of a.gate.domain a.gate.low (key_runs a.lows.now)) (label_of a.gate.domain a.gate.high (key_runs a.highs.now))
-    (going c.read_keys-read.result.level c.read_keys-read.result.count) (keys_of-After-go_on c)
-lies-After-go_on c =
-    let a = c.args in
-    c.lies_between.ensures
-    ∙ lies_any a.gate.domain a.gate.domain a.gate.low a.gate.high c.read_keys-read.result.level a.lows.now a.highs.now (key_runs (take c.read_keys-read.result.count (keys_of-After-go_on c)))
-
-pub returns : goal.returns
-returns c =
+pub returns-else-not-lies_between : goal.returns-else-not-lies_between
+returns-else-not-lies_between c =
+    let d = (goal.at.returns-else-not-lies_between c).In-Ok in
     λ given only receives sends.
     rw c.go_on.ensures
-    (acts_held (port-After-go_on c given only receives sends) c.args.area.now c.args.keys.now _ c.args.at c.args.code c.read_keys-read.result c.read_keys-read.ensures c.requires.in_bounds (sym c.stops_slack.ensures ∙ c.if-stops_slack.false) c.if-read-ne0.false
-    true (sym (not-false _ c.if-not-lies_between.false-raw) ∙ lies-After-go_on c))
+    (acts_held (port_in c.args.gate c.args.lows.now c.args.highs.now given only receives sends) c.args.area.now c.args.keys.now _ c.args.at c.args.code (read d) (read-is d) c.requires.in_bounds (passed-read d) refl
+    true (sym (not-false _ c.if-not-lies_between.false-raw) ∙ c.lies_between.ensures ∙ lies_any c.args.gate.domain c.args.gate.domain c.args.gate.low c.args.gate.high c.in-Ok.held.level c.args.lows.now c.args.highs.now (key_runs (take c.in-Ok.held.count c.read_keys-read.new.keys))))

@@ -1,13 +1,11 @@
 -- `inspect_line::put_finding` meets its contract.
-use Rattle.inspect_line.proofs.Laws.{agrees_line_lem, differs_line_lem}
+use Rattle.inspect_line.specs.Lines.{finding_line}
 use Rattle.inspect_line.proofs.put_finding.Goals as goal
 
--- src/lib.rt:81:9
-pub returns-then-finding : goal.returns-then-finding
-returns-then-finding c =
-    rw (agrees_line_lem c.args.finding c.if-finding.true) c.put_word.ensures
+pub returns-in-None : goal.returns-in-None
+unfolding finding_line
+returns-in-None c = rw c.in-None.is c.word.ensures
 
--- src/lib.rt:77:1
-pub returns : goal.returns
-returns c =
-    rw (differs_line_lem c.args.finding c.if-finding.false) c.put_differs.ensures
+pub returns-in-Some : goal.returns-in-Some
+unfolding finding_line
+returns-in-Some c = rw c.in-Some.is c.put_differs.ensures

@@ -6,6 +6,7 @@ use mathlib.Core.Bool.{true}
 use borrow.Author.Tests.{not-true, not-false}
 use lib.ListN.{length, drop, length-drop}
 use lib.Seq.{get_or-drop}
+use Rattle.std.specs.Prelude.{Some}
 use Rattle.message.specs.Message.{header_length, is_message, kind_in, code_in, pointer_in}
 use Rattle.message.proofs.Laws.{Quote, quote, accepted, parts_none, parts_some}
 use Rattle.message.proofs.read_message.Goals as goal
@@ -82,4 +83,4 @@ overflow_sub-result-2 c =
 pub returns : goal.returns
 returns c =
     let o = c.args.octets.now in
-    (λ i. record { number = 0; kind = kind_in o; code = code_in o; pointer = pointer_in o; header = counted c i; payload = length o - 8 - counted c i }) ∙ sym (parts_some o (is_read-After-shared_slice_known-5-1 c))
+    (λ i. Some (record { kind = kind_in o; code = code_in o; pointer = pointer_in o; header = counted c i; payload = length o - 8 - counted c i })) ∙ sym (parts_some o (is_read-After-shared_slice_known-5-1 c))

@@ -5,4 +5,4 @@ use Rattle.message.proofs.write_blank.Goals as goal
 pub returns : goal.returns
 returns c =
     blank_written c.args.kind c.args.code c.args.pointer c.args.header.now c.args.payload.now c.args.out.now c.requires
-    c.copy_octets.new.dst c.copy_octets-2.new.dst c.copy_octets-3.new.dst c.copy_octets.ensures c.copy_octets-2.ensures c.copy_octets-3.ensures
+    c.copy_list.new.dst c.copy_list-2.new.dst c.copy_list-3.new.dst c.copy_list.ensures c.copy_list-2.ensures c.copy_list-3.ensures

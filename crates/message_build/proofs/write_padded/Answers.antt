@@ -4,4 +4,4 @@ use Rattle.message_build.proofs.write_padded.Goals as goal
 
 pub returns : goal.returns
 returns c =
-    padded_written c.args.option.now c.args.out.now c.copy_octets.new.dst c.zero_all.new.out c.args.size c.requires.0 c.requires.1 c.copy_octets.ensures c.zero_all.ensures
+    padded_written c.args.option.now c.args.out.now c.copy_list.new.dst c.fill.new.self c.args.size c.requires.0 c.requires.1 c.copy_list.ensures (c.fill.ensures.after (λ y e. e))

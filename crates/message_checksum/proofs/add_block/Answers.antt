@@ -1,34 +1,20 @@
 -- `message_checksum::add_block` meets its contract.
-use Prim.Native.Nat.{ℕ}
-use mathlib.Core.Path.{sym, ap, ◌∙◌}
+use Prim.Native.Nat.{ℕ, ◌+◌, ◌*◌, ◌/◌}
+use mathlib.Core.Path.{◌≡◌, ap, ◌∙◌}
 use native.Mathlib.Omega.{arith}
+use lib.ListN.{length, drop}
 use Rattle.message_checksum.specs.Checksum.{words_in, ones_from}
-use Rattle.message_checksum.proofs.Laws.{fold_word, sum_step, sum_last, sum_end}
+use Rattle.message_checksum.specs.Stages.{folded}
+use Rattle.message_checksum.proofs.Laws.{chunk_in, pair_word, sum_step}
 use Rattle.message_checksum.proofs.add_block.Goals as goal
 
-pub loop-i-init : goal.loop-i-init
-loop-i-init c =
-    let w = c.widen-s in
+pub loop-pair-preserved : goal.loop-pair-preserved
+loop-pair-preserved c =
     let o = c.args.octets.now in
-    (omega arith, (omega (arith, w.ensures.1), ap (λ (x : ℕ). ones_from x (words_in o)) (sym (fold_word w.result w.ensures.1 ∙ w.ensures.0))))
-
-pub overflow_add-s : goal.overflow_add-s
-overflow_add-s c = omega (arith, c.loop-i.invariant.1.0, c.word-s.ensures.1)
-
-pub loop-i-preserved : goal.loop-i-preserved
-loop-i-preserved c =
-    let o = c.args.octets.now in
-    (omega arith, (omega (arith, c.word-s.ensures.1, c.loop-i.invariant.1.0), sum_step o _ c.loop-i.s c.word-s.result c.loop-i.i (omega arith) c.word-s.ensures.0 c.word-s.ensures.1 c.loop-i.invariant.1.1))
-
-pub overflow_add-s-then-i-n : goal.overflow_add-s-then-i-n
-overflow_add-s-then-i-n c = omega (arith, c.word.ensures.1)
-
-pub returns-then-i-n : goal.returns-then-i-n
-returns-then-i-n c =
-    let o = c.args.octets.now in
-    c.fold.ensures ∙ sym (sum_last o _ c.loop-i.s c.word.result c.loop-i.i (omega arith) (omega arith) c.word.ensures.0 c.word.ensures.1 c.loop-i.invariant.1.1)
-
-pub returns : goal.returns
-returns c =
-    let o = c.args.octets.now in
-    c.fold-2.ensures ∙ sym (sum_end o _ c.loop-i.s c.loop-i.i (omega arith) c.loop-i.invariant.1.1)
+    let i = c.loop-pair.pair-index in
+    let b = chunk_in 2 (length o / 2) o c.as_chunks.result.0.now i _ c.as_chunks.ensures.front c.as_chunks.ensures.front_len c.loop-pair-test.true in
+    let n : i * 2 + 2 ≡ (i + 1) * 2 = omega arith in (
+      omega (arith, c.word-s.ensures.1, c.loop-pair.invariant.0),
+      sum_step o _ c.loop-pair.s c.word-s.result (i * 2) (omega arith) (pair_word o _ (i * 2) c.word-s.result b c.word-s.ensures.0) c.word-s.ensures.1 c.loop-pair.invariant.1
+          ∙ ap (λ (j : ℕ). ones_from (folded (c.loop-pair.s + c.word-s.result)) (words_in (drop j o))) n,
+    )

@@ -1,12 +1,11 @@
 -- `option_form::choose` meets its contract.
 use native.Mathlib.Omega.{arith}
-use Prim.Native.Nat.{ℕ, ◌*◌, ◌/◌, ◌%◌}
-use mathlib.Core.Path.{refl, ap, ◌∙◌}
-use lib.ListN.{length, get_or, length-map}
-use Rattle.label.specs.Runs.{count_of}
+use Prim.Native.Nat.{◌*◌}
+use mathlib.Core.Path.{refl, ◌∙◌}
+use lib.ListN.{length, length-map}
 use Rattle.label_keys.specs.Keys.{key_run, key_runs}
 use Rattle.option.specs.Spelling.{least_form}
-use Rattle.option_form.proofs.Sizes.{capped_most, pairs_even, choice_none}
+use Rattle.option_form.proofs.Sizes.{choice_none}
 use Rattle.option_form.proofs.Keys.{choice_keys, form_over, form_within}
 use Rattle.option_form.proofs.choose.Goals as goal
 
@@ -21,14 +20,6 @@ pub returns-then-n-gt-MAX_RUNS : goal.returns-then-n-gt-MAX_RUNS
 returns-then-n-gt-MAX_RUNS c =
     let a = c.args in
     form_over a.permitted a.keys.now c.if-n-gt-MAX_RUNS.true
-
-pub overflow_mul-two : goal.overflow_mul-two
-overflow_mul-two c = omega (arith, c.count_categories-two.ensures, capped_most (count_of (key_runs c.args.keys.now)))
-
-pub least-requires-2 : goal.least-requires-2
-least-requires-2 c =
-    let ks = c.args.keys.now in
-    ap (λ (n : ℕ). n % 2) c.pairs_size-five.ensures ∙ pairs_even (length ks) (get_or ks 0 0 / 65536)
 
 pub returns : goal.returns
 returns c =

@@ -1,16 +1,8 @@
 -- `option_form::least` meets its contract: the forms that may be taken, and the shorter of them.
 -- Assumes nothing.
-use mathlib.Core.Path.{sym, ap, ◌∙◌}
-use Rattle.option.specs.declared.Spellings.{Spellings}
+use mathlib.Core.Path.{◌∙◌}
 use Rattle.option.specs.Spelling.{shorter, least_form}
-use Rattle.option.proofs.Sets.{usual_is}
 use Rattle.option_form.proofs.least.Goals as goal
-
-pub returns-then-is_usual : goal.returns-then-is_usual
-returns-then-is_usual c =
-    let a = c.args in
-    let u = usual_is a.permitted (sym c.is_usual.ensures ∙ c.if-is_usual.true) in
-    c.least_usual.ensures ∙ ap (λ (p : Spellings). least_form p a.one a.two a.five) (sym u)
 
 pub returns : goal.returns
 unfolding least_form

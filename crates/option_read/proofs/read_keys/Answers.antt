@@ -5,4 +5,5 @@ use Rattle.option_read.proofs.read_keys.Goals as goal
 pub returns : goal.returns
 returns c =
     let a = c.args in
-    checked_for a.domain a.octets.now a.keys.now _ _ c.read_checked.ensures
+    let t = checked_for a.domain a.octets.now a.keys.now _ _ c.read_checked.ensures in
+    record { read = t.0; refused = t.1 }

@@ -1,15 +1,16 @@
 -- `option_read::read_tag` meets its contract: each return is the check that decides there.
 use native.Mathlib.Omega.{arith}
-use Prim.Native.Nat.{ℕ, ◌+◌, ◌-◌, ◌≤◌}
+use Prim.Native.Nat.{ℕ, ◌+◌, ◌-◌}
 use mathlib.Core.Path.{◌≡◌, refl, sym, ◌∙◌, ap}
 use mathlib.Core.Bool.{true, ◌&&◌}
 use mathlib.Core.List.{List}
 use lib.ListN.{length, take, drop}
 use lib.Dec.{leb}
 use Rattle.option.specs.Option.{tag_of, tag_length_of}
-use Rattle.option_read.specs.Reading.{not_read, known_tag, good_length, categories_in, bad_place}
-use Rattle.option_read.specs.Keys.{keyed}
+use Rattle.option_read.specs.Reading.{fault, known_tag, good_length, categories_in}
 use Rattle.option_read.specs.Stages.{PassOver}
+use Rattle.std.specs.Prelude.{Result, Err}
+use Rattle.option_read.proofs.Loops.{bad_of, good_of}
 use Rattle.option_read.proofs.Keys.{refused_tag, found_tag}
 use Rattle.option_read.proofs.Checks.{Lengths, lengths, Past, categories_length, part_is, stops9, stops10, stops11, stops12, stops13, passes}
 use Rattle.option_read.proofs.read_tag.Goals as goal
@@ -81,55 +82,29 @@ module _ (c : Else-octets-ne0) where
   part : take (size + 6 - 10) (drop 10 o) ≡ categories_in o
   part = part_is o size size-is
 
-  part-length : length (take (size + 6 - 10) (drop 10 o)) ≡ tag_length_of o - 4
-  part-length = ap length part ∙ categories_length o len
+  -- what the pass leaves, over the tag's own octets
+  over : {keys keys' : List ℕ} {r r' : Result ℕ ℕ} → PassOver (tag_of o) (take (size + 6 - 10) (drop 10 o)) keys keys' r → r ≡ r' → PassOver (tag_of o) (categories_in o) keys keys' r'
+  over p e = rw (part, e) at p
 
-pub overflow_add-end : goal.overflow_add-end
-overflow_add-end c = let k = (goal.at.overflow_add-end c).Else-octets-ne0 in omega (arith, size-is k, (len k).most)
-
-pub slice_bounds-categories-count : goal.slice_bounds-categories-count
-slice_bounds-categories-count c = let k = (goal.at.slice_bounds-categories-count c).Else-octets-ne0 in omega (arith, size-is k, (len k).least)
-
-pub slice_bounds-categories-start : goal.slice_bounds-categories-start
-slice_bounds-categories-start c = let k = (goal.at.slice_bounds-categories-start c).Else-octets-ne0 in omega (arith, size-is k, (len k).least)
-
-pub slice_bounds-categories-end : goal.slice_bounds-categories-end
-slice_bounds-categories-end c = let k = (goal.at.slice_bounds-categories-end c).Else-octets-ne0 in omega (arith, size-is k, (len k).inside)
-
-pub category_keys-pass-requires : goal.category_keys-pass-requires
-category_keys-pass-requires c =
-    let k = (goal.at.category_keys-pass-requires c).Else-octets-ne0 in
-    (omega (arith, part-length k, (len k).most), λ n. omega (arith, part-length k, (len k).least, (len k).even n), c.requires.1, (past k).known)
-
-pub overflow_add-place : goal.overflow_add-place
-overflow_add-place c =
-    let k = (goal.at.overflow_add-place c).Else-octets-ne0 in
-    omega (arith, c.if-place-categories.true, part-length k, (len k).most)
-
-pub returns-then-place-categories : goal.returns-then-place-categories
-returns-then-place-categories c =
-    let k = (goal.at.returns-then-place-categories c).Else-octets-ne0 in
-    let p = c.category_keys-pass in
-    let pass : PassOver (tag_of (o k)) (categories_in (o k)) c.args.keys.now p.new.keys p.result = rw (part k) at p.ensures in
-    refused_tag (o k) c.args.keys.now _ 12 (10 + p.result.bad) (λ z. omega arith)
-    (stops12 (o k) (past k) p.result.bad pass.bad_at (rw (part k) at c.if-place-categories.true))
-    _ c.refuse-then-place-categories.ensures pass.left
+pub returns-in-Err : goal.returns-in-Err
+returns-in-Err c =
+    let k = (goal.at.returns-in-Err c).Else-octets-ne0 in
+    let pass = over k c.category_keys.ensures c.in-Err.is in
+    refused_tag (o k) c.args.keys.now _ 12 (10 + c.in-Err.place) (λ z. omega arith)
+    (stops12 (o k) (past k) c.in-Err.place (bad_of c.in-Err.place pass).0 (bad_of c.in-Err.place pass).1)
+    _ c.refuse-in-Err.ensures pass.left
 
 pub returns-then-end-n : goal.returns-then-end-n
 returns-then-end-n c =
     let k = (goal.at.returns-then-end-n c).Else-octets-ne0 in
-    let p = c.category_keys-pass in
-    let pass : PassOver (tag_of (o k)) (categories_in (o k)) c.args.keys.now p.new.keys p.result = rw (part k) at p.ensures in
-    let none-bad : length (categories_in (o k)) ≤ bad_place (tag_of (o k)) (categories_in (o k)) = omega (arith, c.if-place-categories.false, ap length (part k), pass.bad_at) in
+    let pass = over k c.category_keys.ensures c.in-Ok.is in
     refused_tag (o k) c.args.keys.now _ 13 (tag_length_of (o k) + 6) (λ z. omega arith)
-    (stops13 (o k) (past k) none-bad (omega (arith, c.if-end-n.true, size-is k)))
-    _ (c.refuse-then-end-n.ensures ∙ ap (λ (n : ℕ). keyed (not_read 13 (n + 6))) (size-is k)) pass.left
+    (stops13 (o k) (past k) (good_of c.in-Ok.count pass).1 (omega (arith, c.if-end-n.true, size-is k)))
+    _ (c.refuse-then-end-n.ensures ∙ ap (λ (n : ℕ). Err (fault 13 (n + 6))) (size-is k)) pass.left
 
-pub returns : goal.returns
-returns c =
-    let k = (goal.at.returns c).Else-octets-ne0 in
-    let p = c.category_keys-pass in
-    let pass : PassOver (tag_of (o k)) (categories_in (o k)) c.args.keys.now p.new.keys p.result = rw (part k) at p.ensures in
-    let none-bad : length (categories_in (o k)) ≤ bad_place (tag_of (o k)) (categories_in (o k)) = omega (arith, c.if-place-categories.false, ap length (part k), pass.bad_at) in
-    found_tag (o k) c.args.keys.now _ p.result pass (λ n. omega (arith, categories_length (o k) (len k), (len k).least, (len k).even n)) none-bad
-    (passes (o k) (past k) none-bad (omega (arith, c.if-end-n.false, size-is k)))
+pub returns-else-end-n : goal.returns-else-end-n
+returns-else-end-n c =
+    let k = (goal.at.returns-else-end-n c).Else-octets-ne0 in
+    let pass = over k c.category_keys.ensures c.in-Ok.is in
+    found_tag (o k) c.args.keys.now _ c.in-Ok.count pass (λ n. omega (arith, categories_length (o k) (len k), (len k).least, (len k).even n))
+    (passes (o k) (past k) (good_of c.in-Ok.count pass).1 (omega (arith, c.if-end-n.false, size-is k)))

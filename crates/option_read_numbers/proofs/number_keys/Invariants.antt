@@ -1,5 +1,5 @@
 -- `option_read_numbers::number_keys` meets its contract.
-use Prim.Native.Nat.{ℕ, ◌-◌, ◌/◌, ◌≤◌, ◌<◌}
+use Prim.Native.Nat.{ℕ, ◌/◌, ◌<◌}
 use mathlib.Core.Bool.{false}
 use mathlib.Core.Path.{◌≡◌}
 use lib.ListN.{length}
@@ -10,7 +10,4 @@ use Rattle.option_read_numbers.proofs.number_keys.Given as goal
 
 abbrev pub invariant-loop-k : goal.invariant-loop-k
 invariant-loop-k l =
-    (l.k ≤ l.n) × (l.n ≡ length (whole l.octets) / 2) × (length l.keys ≡ length l.initial.keys) × ((j : ℕ) → j < l.k → bad_number (whole l.octets) j ≡ false) × Numbered l.initial.keys (range_runs (number_at (whole l.octets)) (number_at (whole l.octets)) l.k) l.keys l.count l.next
-
-abbrev pub decreases-loop-k : goal.decreases-loop-k
-decreases-loop-k l = l.n - l.k
+    (l.n ≡ length (whole l.octets) / 2) × (length l.keys ≡ length l.initial.keys) × ((j : ℕ) → j < l.k → bad_number (whole l.octets) j ≡ false) × Numbered l.initial.keys (range_runs (number_at (whole l.octets)) (number_at (whole l.octets)) l.k) l.keys l.count l.next

@@ -5,15 +5,17 @@ use mathlib.Core.List.{List}
 use mathlib.Core.Path.{◌≡◌, refl, sym, ◌∙◌, ap}
 use lib.ListN.{length, length-set}
 use lib.Dec.{ltb, eqb}
-use mathlib.Core.Bool.{◌||◌}
+use mathlib.Core.Bool.{true, ◌||◌}
+use Rattle.std.specs.Prelude.{Ok, Err}
+use Rattle.option_read_numbers.specs.declared.Last.{Last}
 use Rattle.label.specs.declared.Run.{Run}
 use Rattle.label.specs.Runs.{run, push_run}
 use Rattle.label_keys.specs.Keys.{run_key}
-use Rattle.option_read_numbers.specs.Numbers.{whole, first_bad_pair, pair_runs}
+use Rattle.option_read_numbers.specs.Numbers.{whole, first_bad_pair, pair_runs, Passes}
 use Rattle.option_read_numbers.specs.Stages.{after_piece, limit_at}
 use Rattle.option.specs.Index.{range_runs, pairs_of, low_pair, high_pair, bad_pair, top_at, bottom_at}
 use Rattle.option_read_numbers.proofs.Building.{Stands, stands_nil, stands_count, stands_push, piece_count, piece_some}
-use Rattle.option_read_numbers.proofs.Loops.{range_most, range_next, range_none, range_room, left_none, limit_is, bad_pair_is, FirstFrom, first_start, first_next, first_found, pass_made, whole_pairs}
+use Rattle.option_read_numbers.proofs.Loops.{range_most, range_next, range_none, range_room, left_none, limit_is, bad_pair_is, FirstFrom, first_start, first_next, first_found, pass_made, pass_bad, whole_pairs, whole_length}
 use Rattle.option_read_numbers.proofs.pair_keys.Goals as goal
 use Rattle.option_read_numbers.proofs.pair_keys.Goals.{After-add_piece-last}
 
@@ -35,7 +37,7 @@ module _ (c : After-add_piece-last) where
   rs = range_runs (low_pair b) (high_pair b) (n - j)
 
   stands : Stands c.args.keys.now rs c.loop-j.keys c.loop-j.last
-  stands = c.loop-j.invariant.4
+  stands = c.loop-j.invariant.3
 
   abbrev low : ℕ
   low = low_pair b (n - j)
@@ -44,13 +46,13 @@ module _ (c : After-add_piece-last) where
   high = high_pair b (n - j)
 
   at-pair : pairs_of b - 1 - (n - j) ≡ j - 1
-  at-pair = omega (arith, whole_pairs octets, c.loop-j.invariant.0)
+  at-pair = omega (arith, whole_pairs octets, c.loop-j.auto.j)
 
   some : 0 < j
-  some = c.loop-j-test.true
+  some = omega arith
 
   bottom-is : c.loop-j.bottom ≡ bottom_at b (j - 1)
-  bottom-is = c.loop-j.invariant.5 some
+  bottom-is = c.loop-j.invariant.4 some
 
   low-is : c.loop-j.bottom ≡ low
   low-is = bottom-is ∙ ap (bottom_at b) (sym at-pair)
@@ -80,14 +82,15 @@ pub loop-j-init : goal.loop-j-init
 loop-j-init c =
     let b' = c.args.octets.now in
     let z : (length b' + 2) / 4 - (length b' + 2) / 4 ≡ 0 = omega arith in
-    (omega arith, whole_pairs b', refl, first_start _ _, rw z (stands_nil _), c.last_bottom-bottom.ensures)
+    (whole_pairs b', refl, first_start _ _, rw z (stands_nil _), c.last_bottom-bottom.ensures)
 
 pub add_piece-last-requires : goal.add_piece-last-requires
 add_piece-last-requires c =
     let l = c.loop-j in
     let b' = whole c.args.octets.now in
     let n' : ℕ = (length c.args.octets.now + 2) / 4 in
-    (omega (arith, stands_count l.invariant.4, range_most (low_pair b') (high_pair b') (n' - l.j), c.requires.0), left_none l.j n' l.invariant.0 ∙ range_none (low_pair b') (high_pair b') (n' - l.j) ∙ ap (λ (z : ℕ). eqb z 0) (sym (stands_count l.invariant.4)))
+    let k : l.j - 1 + 1 ≡ l.j = omega arith in
+    (omega (arith, stands_count l.invariant.3, range_most (low_pair b') (high_pair b') (n' - l.j), c.requires.0), ap (λ (z : ℕ). eqb z n') k ∙ left_none l.j n' l.auto.j ∙ range_none (low_pair b') (high_pair b') (n' - l.j) ∙ ap (λ (z : ℕ). eqb z 0) (sym (stands_count l.invariant.3)))
 
 pub overflow_sub-at : goal.overflow_sub-at
 overflow_sub-at c = omega (arith, stored (goal.at.overflow_sub-at c).After-add_piece-last)
@@ -102,21 +105,45 @@ pub loop-j-preserved : goal.loop-j-preserved
 loop-j-preserved c =
     let d = (goal.at.loop-j-preserved c).After-add_piece-last in
     let l = c.loop-j in
-    let e : n d - j d + 1 ≡ n d - (j d - 1) = omega (arith, l.invariant.0) in (
-      omega arith,
-      l.invariant.1,
-      simp length-set l.invariant.2,
-      first_next l.invariant.3 (j d - 1) (omega (arith, some d)) c.bad_pair.result (bad-is d) c.either-bad.result c.either-bad.ensures,
+    let e : n d - j d + 1 ≡ n d - (j d - 1) = omega (arith, l.auto.j) in (
+      l.invariant.0,
+      simp length-set l.invariant.1,
+      first_next l.invariant.2 (j d - 1) (omega (arith, some d)) c.bad_pair.result (bad-is d) c.either-bad.result c.either-bad.ensures,
       rw (← e, ← range_next (low_pair (b d)) (high_pair (b d)) (n d - j d))
           (stands_push (stands d) (low d) (high d) _ (added d) (omega (arith, room d, c.requires.1)) (omega (arith, high-is d, c.number_at-top.ensures.1)) _ (c.key_of.ensures ∙ ap (λ (z : ℕ). run_key (run c.add_piece-last.result.low z)) (high-is d))),
       λ p. limit-is d ∙ limit_is (b d) (j d - 1) p,
     )
 
+-- all pairs are read, and the first bad one is known
+module _ (octets was keys : List ℕ) (j bad : ℕ) (last : Last) (z : j ≡ 0) (few : length octets ≤ 30)
+    (f : FirstFrom (bad_pair (whole octets)) ((length octets + 2) / 4) j bad)
+    (s : Stands was (range_runs (low_pair (whole octets)) (high_pair (whole octets)) ((length octets + 2) / 4 - j)) keys last) where
+  all : (length octets + 2) / 4 - j ≡ pairs_of (whole octets)
+  all = omega (arith, whole_pairs octets)
+
+  first : bad ≡ first_bad_pair (whole octets)
+  first =
+      let g : FirstFrom (bad_pair (whole octets)) (pairs_of (whole octets)) 0 bad = rw (z, whole_pairs octets) at f in
+      first_found g
+
+  few-runs : length (range_runs (low_pair (whole octets)) (high_pair (whole octets)) ((length octets + 2) / 4 - j)) ≤ 15
+  few-runs = omega (arith, range_most (low_pair (whole octets)) (high_pair (whole octets)) ((length octets + 2) / 4 - j))
+
+  runs : range_runs (low_pair (whole octets)) (high_pair (whole octets)) ((length octets + 2) / 4 - j) ≡ pair_runs (whole octets)
+  runs = ap (range_runs (low_pair (whole octets)) (high_pair (whole octets))) all
+
+  one-bad : bad < (length octets + 2) / 4 → Passes true (pair_runs (whole octets)) (4 * first_bad_pair (whole octets)) (length (whole octets)) was keys (Err (4 * bad))
+  one-bad h = pass_bad s (pair_runs (whole octets)) runs few-runs (4 * first_bad_pair (whole octets)) (length (whole octets)) (4 * bad) (ap (λ (x : ℕ). 4 * x) first) (omega (arith, first, whole_length octets))
+
+  none-bad : (length octets + 2) / 4 ≤ bad → Passes true (pair_runs (whole octets)) (4 * first_bad_pair (whole octets)) (length (whole octets)) was keys (Ok last.count)
+  none-bad h = pass_made s (pair_runs (whole octets)) runs few-runs (4 * first_bad_pair (whole octets)) (length (whole octets)) (omega (arith, first, whole_length octets))
+
+pub returns-then-bad-n : goal.returns-then-bad-n
+returns-then-bad-n c =
+    let l = c.loop-j in
+    one-bad c.args.octets.now c.args.keys.now l.keys l.j l.bad l.last (omega arith) c.requires.0 l.invariant.2 l.invariant.3 (omega arith)
+
 pub returns : goal.returns
 returns c =
     let l = c.loop-j in
-    let b' = whole c.args.octets.now in
-    let z : l.j ≡ 0 = omega arith in
-    let e : (length c.args.octets.now + 2) / 4 - l.j ≡ pairs_of b' = omega (arith, whole_pairs c.args.octets.now) in
-    let f : FirstFrom (bad_pair b') (pairs_of b') 0 l.bad = rw (z, whole_pairs c.args.octets.now) at l.invariant.3 in
-    pass_made l.invariant.4 (pair_runs b') (ap (range_runs (low_pair b') (high_pair b')) e) (omega (arith, range_most (low_pair b') (high_pair b') ((length c.args.octets.now + 2) / 4 - l.j), c.requires.0)) (4 * l.bad) (4 * first_bad_pair b') (ap (λ (x : ℕ). 4 * x) (first_found f))
+    none-bad c.args.octets.now c.args.keys.now l.keys l.j l.bad l.last (omega arith) c.requires.0 l.invariant.2 l.invariant.3 (omega arith)

@@ -1,5 +1,4 @@
 -- `option_slack::is_slack` meets its contract.
-use borrow.Author.Rules.{rules}
 use native.Mathlib.Omega.{arith}
 use Prim.Native.Nat.{ℕ, ◌-◌}
 use mathlib.Core.List.{List}
@@ -8,15 +7,11 @@ use lib.ListN.{take, drop}
 use Rattle.option.specs.Option.{numbers_in}
 use Rattle.option_read.specs.Reading.{categories_in}
 use Rattle.option_slack.specs.Slack.{slack_bitmap, slack_pairs}
-use Rattle.option_slack.proofs.Pairs.{short_fine, one_is, five_is, other_is, part_is, end_within}
+use Rattle.option_slack.proofs.Pairs.{short_fine, one_is, five_is, other_is, part_is}
 use Rattle.option_slack.proofs.is_slack.Goals as goal
 
 pub returns-then-n-lt-CATEGORIES_AT : goal.returns-then-n-lt-CATEGORIES_AT
 returns-then-n-lt-CATEGORIES_AT c = sym (short_fine c.args.octets.now (omega arith))
-
-pub slice_bounds-categories-end : goal.slice_bounds-categories-end
-slice_bounds-categories-end c =
-    omega (arith, (end_within _ _ _ c.if-n-lt-CATEGORIES_AT.false c.tag_end-end.ensures).1)
 
 -- the part is the tag's own categories
 categories : (c : goal.After-is_slack_bitmap) →

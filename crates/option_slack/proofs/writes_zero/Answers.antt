@@ -1,20 +1,14 @@
 -- `option_slack::writes_zero` meets its contract.
-use borrow.Author.Rules.{rules}
 use native.Mathlib.Omega.{arith}
-use Prim.Native.Nat.{ℕ, ◌-◌, ◌/◌, ◌%◌, ◌<◌}
+use Prim.Native.Nat.{ℕ, ◌-◌, ◌/◌}
 use mathlib.Core.Path.{◌≡◌, sym, ap, ◌∙◌}
 use mathlib.Core.List.{List}
 use lib.Dec.{eqb}
 use lib.ListN.{length, get_or}
 use Rattle.option.specs.Option.{numbers_in}
 use Rattle.option.proofs.Meaning.{numbers_length}
-use Rattle.option_slack.proofs.Pairs.{number_in, zero_none, zero_odd, zero_even}
+use Rattle.option_slack.proofs.Pairs.{number_in, zero_odd, zero_even}
 use Rattle.option_slack.proofs.writes_zero.Goals as goal
-
-pub returns-then-n-eq0 : goal.returns-then-n-eq0
-returns-then-n-eq0 c =
-    let b = c.args.octets.now in
-    sym (zero_none (numbers_in b) (omega (arith, numbers_length b)))
 
 pub returns-then-n-ne0 : goal.returns-then-n-ne0
 returns-then-n-ne0 c =

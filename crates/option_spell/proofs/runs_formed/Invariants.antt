@@ -1,7 +1,6 @@
 -- `option_spell::runs_formed` meets its contract. The first loop's invariant: the used runs are spaced exactly when all was good so far and what is left rises from the floor.
 -- The keys of the runs so far stand at the front of the list. The second's: the form is settled, and all past the count is zero exactly when the OR so far is and what is left of the array is.
 -- Assumes nothing.
-use Prim.Native.Nat.{◌≤◌, ◌-◌}
 use mathlib.Core.Path.{◌≡◌}
 use mathlib.Core.Bool.{◌&&◌}
 use mathlib.Core.List.{◌++◌, map}
@@ -15,19 +14,11 @@ use Rattle.option_spell.proofs.runs_formed.Given as goal
 
 abbrev pub invariant-loop-i : goal.invariant-loop-i
 invariant-loop-i l =
-    (l.i ≤ l.n)
-    × (spaced 0 (used l.label) ≡ (l.good && rises l.floor (drop l.i (used l.label))))
+    (spaced 0 (used l.label) ≡ (l.good && rises l.floor (drop l.i (used l.label))))
     × (length l.keys ≡ length l.initial.keys)
     × (l.keys ≡ map run_key (take l.i (used l.label)) ++ drop l.i l.initial.keys)
 
-abbrev pub decreases-loop-i : goal.decreases-loop-i
-decreases-loop-i l = l.n - l.i
-
-abbrev pub invariant-loop-i-2 : goal.invariant-loop-i-2
-invariant-loop-i-2 l =
-    (l.i ≤ 120)
-    × (spaced 0 (used l.label) ≡ (l.good && leb l.floor 65536))
-    × (unused (drop l.label.count l.label.runs) ≡ (eqb l.rest 0 && unused (drop l.i l.label.runs)))
-
-abbrev pub decreases-loop-i-2 : goal.decreases-loop-i-2
-decreases-loop-i-2 l = 120 - l.i
+abbrev pub invariant-loop-run : goal.invariant-loop-run
+invariant-loop-run l =
+    (spaced 0 (used l.fn.label) ≡ (l.good && leb l.floor 65536))
+    × (unused (drop l.n l.fn.label.runs) ≡ (eqb l.rest 0 && unused (drop l.run-index l.run-items)))

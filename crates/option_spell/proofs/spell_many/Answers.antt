@@ -1,13 +1,10 @@
 -- `option_spell::spell_many` meets its contract: ill-formed, or what spelling its keys says.
 -- Assumes nothing.
 use borrow.Author.Rules.{rules}
-use borrow.Author.Tests.{not-true, not-false}
 use native.Mathlib.Omega.{arith}
-use Prim.Native.Nat.{◌≤◌}
 use mathlib.Core.Path.{◌≡◌, sym, ◌∙◌}
 use mathlib.Core.Bool.{true}
 use lib.ListN.{length}
-use lib.Seq.{length-take-le}
 use Rattle.label.specs.Label.{label_typed, well_formed}
 use Rattle.label.proofs.Steps.{length_mapped}
 use Rattle.label.proofs.Labels.{typed_yes, well_formed_runs}
@@ -31,20 +28,6 @@ pub returns-then-not-runs_formed : goal.returns-then-not-runs_formed
 returns-then-not-runs_formed c =
     refused c.args.permitted c.args.label c.args.out.now 2 (λ z. omega arith)
     (number_ill _ _ _ c.requires.2 (sym (form c) ∙ c.if-not-runs_formed.true))
-
--- as many keys as the label counts
-held : (c : goal.Else-not-runs_formed) → c.args.label.count ≤ length c.runs_formed.new.keys
-held c = search rules
-
-pub slice_bounds-keys-end : goal.slice_bounds-keys-end
-slice_bounds-keys-end c = held c
-
--- as many keys as the label counts
-held-After-keys-3-1 : (c : goal.After-keys-3-1) → c.args.label.count ≤ length c.runs_formed.new.keys
-held-After-keys-3-1 c = search rules
-
-pub slice_bounds-spell_keys-end : goal.slice_bounds-spell_keys-end
-slice_bounds-spell_keys-end c = sym (length-take-le _ _ (held-After-keys-3-1 c))
 
 sized-After-answer : (c : goal.After-answer) → length c.args.label.runs ≡ 120
 sized-After-answer c = search (length_mapped, rules)

@@ -1,12 +1,10 @@
 -- `option_spell::spell_one` meets its contract: ill-formed, or what spelling its one key or none says.
 -- Assumes nothing.
 use borrow.Author.Rules.{rules}
-use borrow.Author.Tests.{not-true, not-false}
 use native.Mathlib.Omega.{arith}
 use mathlib.Core.Path.{◌≡◌, sym, ◌∙◌}
 use mathlib.Core.Bool.{true}
 use lib.ListN.{length}
-use lib.Seq.{length-take-le}
 use Rattle.label.specs.Label.{well_formed}
 use Rattle.label.proofs.Steps.{length_mapped}
 use Rattle.option_spell.proofs.Keys.{keys_one}
@@ -17,9 +15,6 @@ pub returns-then-not-well_formed : goal.returns-then-not-well_formed
 returns-then-not-well_formed c =
     refused c.args.permitted c.args.label c.args.out.now 2 (λ z. omega arith)
     (number_ill _ _ _ c.requires.1 (sym c.well_formed-2.ensures ∙ c.if-not-well_formed.true))
-
-pub slice_bounds-spell_keys-end : goal.slice_bounds-spell_keys-end
-slice_bounds-spell_keys-end c = sym (length-take-le _ _ c.requires.0)
 
 sized : (c : goal.After-answer) → length c.args.label.runs ≡ 120
 sized c = search (length_mapped, rules)

@@ -1,56 +1,32 @@
--- `option_spell::unused_after_few` meets its contract. The loop's invariant: all past the first 16 places is zero exactly when the OR so far is and what is left of the array is.
+-- `option_spell::unused_after_few` meets its contract. The loop's invariant: all past the first 16 places is zero exactly when the OR so far is and what is left of them is.
 -- Assumes nothing.
-use borrow.Author.Rules.{rules}
+use mathlib.Core.Path.{◌≡◌, ap, sym, ◌∙◌}
+use mathlib.Core.Bool.{and-true}
+use mathlib.Core.List.{[]}
 use native.Mathlib.Omega.{arith}
 use Prim.Native.Nat.{◌+◌}
-use mathlib.Core.Path.{◌≡◌, refl, sym, ◌∙◌}
-use mathlib.Core.Bool.{and-true}
-use mathlib.Core.List.{[], ◌∷◌}
-use lib.ListN.{drop, get_or, length, drop_of_length-le}
+use lib.ListN.{drop, get_or, drop_of_length-le}
 use Rattle.label.specs.Runs.{unused}
 use Rattle.label.specs.Label.{no_run}
-use Rattle.label.proofs.Steps.{next, length_mapped}
+use Rattle.label.proofs.Steps.{next}
 use Rattle.label.proofs.Places.{or_step}
+use Rattle.option_spell.proofs.Few.{behind, behind_is}
 use Rattle.option_spell.proofs.unused_after_few.Goals as goal
 
-pub loop-i-init : goal.loop-i-init
-loop-i-init c = (omega arith, refl)
+pub loop-run-init : goal.loop-run-init
+loop-run-init c = ap unused (behind_is 16 c.args.label.runs)
 
-pub offset_bounds-label-i : goal.offset_bounds-label-i
-offset_bounds-label-i c = omega arith
-
-pub bounds-label-i : goal.bounds-label-i
-bounds-label-i c = omega arith
-
-pub overflow_add-i : goal.overflow_add-i
-overflow_add-i c = omega arith
-
-pub loop-i-smaller : goal.loop-i-smaller
-loop-i-smaller c = omega arith
-
-sized : (c : goal.After-word-rest) → length c.args.label.runs ≡ 120
-sized c = search (length_mapped, rules)
-
--- the place that the turn reads
-seen : (c : goal.After-word-rest) →
-    let l = c.args.label in
-    let i = c.loop-i.i in
-    drop i l.runs ≡ get_or l.runs i no_run ∷ drop (i + 1) l.runs
-seen c = next no_run c.args.label.runs c.loop-i.i (omega (arith, sized c))
-
-pub loop-i-preserved : goal.loop-i-preserved
-loop-i-preserved c =
-    let rs = c.args.label.runs in
-    let i = c.loop-i.i in
-    let r = get_or rs i no_run in
-    (omega arith, c.loop-i.invariant.1 ∙ rw (seen c, c.word-rest.ensures) (or_step c.loop-i.rest r.low r.high (unused (drop (i + 1) rs))))
-
-sized-After-loop-i : (c : goal.After-loop-i) → length c.args.label.runs ≡ 120
-sized-After-loop-i c = search (length_mapped, rules)
+pub loop-run-preserved : goal.loop-run-preserved
+loop-run-preserved c =
+    let v = c.loop-run in
+    let rs = behind 16 c.args.label.runs in
+    let r = get_or rs v.run-index no_run in
+    v.invariant
+    ∙ rw (next no_run rs v.run-index c.loop-run-test.true, c.word-rest.ensures) (or_step v.rest r.low r.high (unused (drop (v.run-index + 1) rs)))
 
 pub returns : goal.returns
 returns c =
-    let l = c.args.label in
-    let i = c.loop-i.i in
-    let none : drop i l.runs ≡ [] = drop_of_length-le l.runs {i = i} (omega (arith, sized-After-loop-i c)) in
-    sym (c.loop-i.invariant.1 ∙ rw none (and-true _))
+    let v = c.loop-run in
+    let rs = behind 16 c.args.label.runs in
+    let none : drop v.run-index rs ≡ [] = drop_of_length-le rs {i = v.run-index} (omega arith) in
+    sym (v.invariant ∙ rw none (and-true _))

@@ -48,5 +48,5 @@ returns c =
     let s = spelled_by f a.domain a.level (key_runs a.keys.now) in
     let q = keys_some a.permitted a.domain a.level a.keys.now a.out.now long s (chosen_some a.permitted a.domain a.level a.keys.now f c.choose-form.ensures (pos-After-slice_known-3-1 c)) in (
       c.write_option.ensures.0 ∙ n ∙ q.0,
-      option_laid a.out.now _ long c.zero_all.ensures f.size (chosen_short a.permitted a.keys.now f c.choose-form.ensures (pos-After-slice_known-3-1 c)) s _ n c.write_option.ensures.1 ∙ q.2,
+      option_laid a.out.now _ long (c.fill.ensures.after (λ y e. e)) f.size (chosen_short a.permitted a.keys.now f c.choose-form.ensures (pos-After-slice_known-3-1 c)) s _ n c.write_option.ensures.1 ∙ q.2,
     )

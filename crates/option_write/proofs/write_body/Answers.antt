@@ -2,7 +2,7 @@
 -- Assumes nothing.
 use native.Mathlib.Omega.{arith}
 use Prim.Native.Nat.{ℕ, ◌≤◌}
-use mathlib.Core.Path.{ap, sym, ◌∙◌}
+use mathlib.Core.Path.{ap, ◌∙◌}
 use mathlib.Core.List.{List, ◌++◌}
 use lib.ListN.{length, drop, length-map}
 use lib.Seq.{length-take-le}
@@ -11,20 +11,6 @@ use Rattle.label_keys.specs.Keys.{key_run, key_runs}
 use Rattle.option.specs.Spelling.{octets_of}
 use Rattle.option_write.proofs.Bodies.{five, body_one, body_two, body_five}
 use Rattle.option_write.proofs.write_body.Goals as goal
-
--- the output has the size's octets
-room : (c : goal.Then-tag-eq-BITMAP) → c.args.size ≤ length c.args.out.now
-room c = omega (arith, c.requires.0.short, c.requires.1)
-
-pub slice_bounds-write_bitmap-end : goal.slice_bounds-write_bitmap-end
-slice_bounds-write_bitmap-end c = room c
-
--- the output has the size's octets
-room-After-write_bitmap-arg-1 : (c : goal.After-write_bitmap-arg-1) → c.args.size ≤ length c.args.out.now
-room-After-write_bitmap-arg-1 c = omega (arith, c.requires.0.short, c.requires.1)
-
-pub slice_bounds-write_bitmap-end-then-tag-eq-BITMAP : goal.slice_bounds-write_bitmap-end-then-tag-eq-BITMAP
-slice_bounds-write_bitmap-end-then-tag-eq-BITMAP c = sym (length-take-le _ _ (room-After-write_bitmap-arg-1 c))
 
 -- the output has the size's octets
 room-After-slice_known-then-tag-eq-BITMAP-1 : (c : goal.After-slice_known-then-tag-eq-BITMAP-1) → c.args.size ≤ length c.args.out.now

@@ -1,155 +1,96 @@
 -- `option_write::write_numbers` meets its contract.
 use native.Mathlib.Omega.{arith}
-use Prim.Native.Nat.{◌+◌, ◌*◌, ◌/◌, ◌%◌, ◌<◌}
-use mathlib.Core.Path.{◌≡◌, refl, ◌∙◌}
-use mathlib.Core.List.{[], ◌∷◌, ◌++◌}
-use lib.ListN.{get_or, drop, set, length-set}
+use Prim.Native.Nat.{ℕ, ◌+◌, ◌-◌, ◌*◌, ◌/◌, ◌%◌, ◌<◌, ◌≤◌}
+use mathlib.Core.Path.{◌≡◌, ap, ◌∙◌}
+use mathlib.Core.List.{List, [], ◌∷◌, ◌++◌}
+use lib.ListN.{length, get_or, drop, set}
+use Rattle.label.specs.declared.Run.{Run}
 use Rattle.label.specs.Runs.{count_of}
 use Rattle.label_keys.specs.Keys.{key_run, key_runs}
 use Rattle.option.specs.Spelling.{numbers_of}
-use Rattle.option.specs.Index.{numbers_out, rank_number}
+use Rattle.option.specs.Index.{rank_number}
 use Rattle.option.proofs.Spelled.{numbers_count}
 use Rattle.option.proofs.Bridge.{ranks_out}
 use Rattle.option_form.proofs.Keys.{next_key, keys_up}
-use Rattle.option_write.proofs.Numbers.{numbers_store, Written, fresh, passed, there, number, another, all_written}
+use Rattle.option_write.proofs.Numbers.{numbers_store, Written, passed, there, number, another, all_written}
 use Rattle.option_write.proofs.write_numbers.Goals as goal
 
-pub loop-i-init : goal.loop-i-init
-loop-i-init c = (omega arith, omega arith, omega arith, refl, record { rest = refl; within = fresh (key_runs c.args.keys.now) }, refl)
+pub loop-x-init : goal.loop-x-init
+loop-x-init c =
+    let s = c.loop-key.invariant in
+    let low = get_or c.args.keys.now c.loop-key.key-index 0 / 65536 in
+    let z : low - low ≡ 0 = omega arith in
+    (s.0, s.1, rw z s.2, s.3)
 
-pub overflow_cast-x : goal.overflow_cast-x
-overflow_cast-x c = omega (arith, c.shared_slice_known-1.given c.loop-i.i)
+-- the turn's category is one of the run
+module _ (ks : List ℕ) (i x k : ℕ) (inside : i < length ks) (from : get_or ks i 0 / 65536 ≤ x) where
+  abbrev rs : List Run
+  rs = key_runs ks
 
-pub overflow_add-x : goal.overflow_add-x
-overflow_add-x c = omega (arith, c.shared_slice_known-1.given c.loop-i.i)
+  abbrev j : ℕ
+  j = x - get_or ks i 0 / 65536
 
--- the invariant, with the run that the turn reads first
-standing : (c : goal.Then-high-x) →
-    let ks = c.args.keys.now in
-    let s = c.loop-i in
-    Written (numbers_of (key_runs ks)) (key_run (get_or ks s.i 0) ∷ drop (s.i + 1) (key_runs ks)) s.j s.k
-standing c = rw (next_key c.args.keys.now c.loop-i.i c.loop-i-test.true) at c.loop-i.invariant.4
+  module _ (w : Written (numbers_of rs) (drop i rs) j k) where
+    standing : Written (numbers_of rs) (key_run (get_or ks i 0) ∷ drop (i + 1) rs) j k
+    standing = rw (next_key ks i inside) at w
 
-pub loop-i-preserved-then-high-x : goal.loop-i-preserved-then-high-x
-loop-i-preserved-then-high-x c =
-    let s = c.loop-i in
-    (omega arith, omega arith, s.invariant.2, s.invariant.3, passed (standing c) c.if-high-x.true, s.invariant.5)
+    ended : get_or ks i 0 % 65536 < x → Written (numbers_of rs) (drop (i + 1) rs) 0 k
+    ended h = passed standing (omega arith)
 
--- the invariant, with the run that the turn reads first
-standing-Else-high-x : (c : goal.Else-high-x) →
-    let ks = c.args.keys.now in
-    let s = c.loop-i in
-    Written (numbers_of (key_runs ks)) (key_run (get_or ks s.i 0) ∷ drop (s.i + 1) (key_runs ks)) s.j s.k
-standing-Else-high-x c = rw (next_key c.args.keys.now c.loop-i.i c.loop-i-test.true) at c.loop-i.invariant.4
+    module _ (h : x ≤ get_or ks i 0 % 65536) where
+      within : get_or ks i 0 / 65536 + j ≤ get_or ks i 0 % 65536
+      within = omega arith
 
--- there is a category more
-room : (c : goal.Else-high-x) →
-    c.loop-i.k < count_of (key_runs c.args.keys.now)
-room c =
-    omega (arith, there (standing-Else-high-x c) c.if-high-x.false, numbers_count (key_runs c.args.keys.now))
+      room : k < count_of rs
+      room = omega (arith, there standing within, numbers_count rs)
 
-pub overflow_mul-out : goal.overflow_mul-out
-overflow_mul-out c = omega (arith, room c)
+      here : x ≡ rank_number rs k
+      here = let e : x ≡ get_or ks i 0 / 65536 + j = omega arith in e ∙ number standing within
 
-pub bounds-out-k : goal.bounds-out-k
-bounds-out-k c = omega (arith, room c)
+      more : Written (numbers_of rs) (drop i rs) (x + 1 - get_or ks i 0 / 65536) (k + 1)
+      more =
+          let e : x + 1 - get_or ks i 0 / 65536 ≡ j + 1 = omega arith in
+          rw (e, next_key ks i inside) (another standing within)
 
-pub overflow_mul-out-else-high-x : goal.overflow_mul-out-else-high-x
-overflow_mul-out-else-high-x c = omega (arith, room c)
-
-pub overflow_add-out : goal.overflow_add-out
-overflow_add-out c = omega (arith, room c)
-
-pub bounds-out-k-else-high-x : goal.bounds-out-k-else-high-x
-bounds-out-k-else-high-x c = simp length-set (omega (arith, room c))
+pub put_number-requires : goal.put_number-requires
+put_number-requires c =
+    let s = c.loop-x in
+    let r = room c.args.keys.now c.loop-key.key-index s.x s.k c.loop-key-test.true s.auto.x s.invariant.2 (omega arith) in
+    (omega (arith, r, s.invariant.1, c.requires), omega arith)
 
 pub overflow_add-k : goal.overflow_add-k
-overflow_add-k c = omega (arith, room c)
+overflow_add-k c =
+    let s = c.loop-x in
+    let r = room c.args.keys.now c.loop-key.key-index s.x s.k c.loop-key-test.true s.auto.x s.invariant.2 (omega arith) in
+    omega (arith, r, c.requires)
 
--- the invariant, with the run that the turn reads first
-standing-Then-high-x-2 : (c : goal.Then-high-x-2) →
+pub loop-x-preserved : goal.loop-x-preserved
+loop-x-preserved c =
+    let s = c.loop-x in
     let ks = c.args.keys.now in
-    let s = c.loop-i in
-    Written (numbers_of (key_runs ks)) (key_run (get_or ks s.i 0) ∷ drop (s.i + 1) (key_runs ks)) s.j s.k
-standing-Then-high-x-2 c = rw (next_key c.args.keys.now c.loop-i.i c.loop-i-test.true) at c.loop-i.invariant.4
-
--- there is a category more
-room-Then-high-x-2 : (c : goal.Then-high-x-2) →
-    c.loop-i.k < count_of (key_runs c.args.keys.now)
-room-Then-high-x-2 c =
-    omega (arith, there (standing-Then-high-x-2 c) c.if-high-x.false, numbers_count (key_runs c.args.keys.now))
-
-pub loop-i-smaller-then-high-x-2 : goal.loop-i-smaller-then-high-x-2
-loop-i-smaller-then-high-x-2 c = omega (arith, room-Then-high-x-2 c)
-
--- and it is written
-more : (c : goal.Then-high-x-2) →
-    let a = c.args in
-    let s = c.loop-i in
-    let ks = a.keys.now in
-    let x = get_or ks s.i 0 / 65536 + s.j in
-    set (set s.out (2 * s.k) (x / 256)) (2 * s.k + 1) (x % 256) ≡ numbers_out (rank_number (key_runs ks)) (s.k + 1) ++ drop (2 * (s.k + 1)) a.out.now
-more c =
-    let a = c.args in
-    let s = c.loop-i in
-    rw s.invariant.5 (numbers_store (rank_number (key_runs a.keys.now)) a.out.now s.k _ (omega (arith, room-Then-high-x-2 c)) (number (standing-Then-high-x-2 c) c.if-high-x.false))
-
-pub loop-i-preserved-then-high-x-2 : goal.loop-i-preserved-then-high-x-2
-loop-i-preserved-then-high-x-2 c =
-    let s = c.loop-i in
-    let h = c.if-high-x-2.true in (
-      omega arith,
-      omega arith,
-      omega (arith, room-Then-high-x-2 c),
-      simp length-set s.invariant.3,
-      passed (another (standing-Then-high-x-2 c) c.if-high-x.false) (omega arith),
-      more c,
+    let i = c.loop-key.key-index in
+    let h : s.x ≤ get_or ks i 0 % 65536 = omega arith in
+    let r = room ks i s.x s.k c.loop-key-test.true s.auto.x s.invariant.2 h in (
+      omega (arith, r),
+      c.put_number.ensures.1 ∙ s.invariant.1,
+      more ks i s.x s.k c.loop-key-test.true s.auto.x s.invariant.2 h,
+      c.put_number.ensures.0
+          ∙ ap (λ (z : List ℕ). set (set z (2 * s.k) (s.x / 256)) (2 * s.k + 1) (s.x % 256)) s.invariant.3
+          ∙ numbers_store (rank_number (key_runs ks)) c.args.out.now s.k s.x (omega (arith, r, c.requires)) (here ks i s.x s.k c.loop-key-test.true s.auto.x s.invariant.2 h),
     )
 
--- the invariant, with the run that the turn reads first
-standing-Else-high-x-2 : (c : goal.Else-high-x-2) →
+pub loop-key-preserved : goal.loop-key-preserved
+loop-key-preserved c =
+    let s = c.loop-x in
     let ks = c.args.keys.now in
-    let s = c.loop-i in
-    Written (numbers_of (key_runs ks)) (key_run (get_or ks s.i 0) ∷ drop (s.i + 1) (key_runs ks)) s.j s.k
-standing-Else-high-x-2 c = rw (next_key c.args.keys.now c.loop-i.i c.loop-i-test.true) at c.loop-i.invariant.4
-
--- there is a category more
-room-Else-high-x-2 : (c : goal.Else-high-x-2) →
-    c.loop-i.k < count_of (key_runs c.args.keys.now)
-room-Else-high-x-2 c =
-    omega (arith, there (standing-Else-high-x-2 c) c.if-high-x.false, numbers_count (key_runs c.args.keys.now))
-
-pub loop-i-smaller : goal.loop-i-smaller
-loop-i-smaller c = omega (arith, room-Else-high-x-2 c)
-
--- and it is written
-more-Else-high-x-2 : (c : goal.Else-high-x-2) →
-    let a = c.args in
-    let s = c.loop-i in
-    let ks = a.keys.now in
-    let x = get_or ks s.i 0 / 65536 + s.j in
-    set (set s.out (2 * s.k) (x / 256)) (2 * s.k + 1) (x % 256) ≡ numbers_out (rank_number (key_runs ks)) (s.k + 1) ++ drop (2 * (s.k + 1)) a.out.now
-more-Else-high-x-2 c =
-    let a = c.args in
-    let s = c.loop-i in
-    rw s.invariant.5 (numbers_store (rank_number (key_runs a.keys.now)) a.out.now s.k _ (omega (arith, room-Else-high-x-2 c)) (number (standing-Else-high-x-2 c) c.if-high-x.false))
-
-pub loop-i-preserved : goal.loop-i-preserved
-loop-i-preserved c =
-    let s = c.loop-i in (
-      omega arith,
-      omega arith,
-      omega (arith, room-Else-high-x-2 c),
-      simp length-set s.invariant.3,
-      rw (next_key c.args.keys.now s.i c.loop-i-test.true) (another (standing-Else-high-x-2 c) c.if-high-x.false),
-      more-Else-high-x-2 c,
-    )
+    let i = c.loop-key.key-index in
+    (s.invariant.0, s.invariant.1, ended ks i s.x s.k c.loop-key-test.true s.auto.x s.invariant.2 (omega arith), s.invariant.3)
 
 pub returns : goal.returns
 returns c =
     let a = c.args in
     let ks = a.keys.now in
-    let s = c.loop-i in
-    let w : Written (numbers_of (key_runs ks)) [] s.j s.k = rw (keys_up ks s.i c.loop-i-test.false) at s.invariant.4 in
-    let e : s.k ≡ count_of (key_runs ks) = all_written (key_runs ks) w s.invariant.2 in
-    s.invariant.5 ∙ (λ i. ranks_out (key_runs ks) s.k e i ++ drop (2 * e i) a.out.now)
+    let s = c.loop-key in
+    let w : Written (numbers_of (key_runs ks)) [] 0 s.k = rw (keys_up ks s.key-index (omega arith)) at s.invariant.2 in
+    let e : s.k ≡ count_of (key_runs ks) = all_written (key_runs ks) w s.invariant.0 in
+    s.invariant.3 ∙ (λ i. ranks_out (key_runs ks) s.k e i ++ drop (2 * e i) a.out.now)

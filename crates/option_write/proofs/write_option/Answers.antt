@@ -2,12 +2,8 @@
 -- Assumes nothing.
 use mathlib.Core.Path.{refl}
 use Rattle.label_keys.specs.Keys.{key_runs}
-use Rattle.option_write.proofs.Writing.{put_long, option_written}
+use Rattle.option_write.proofs.Writing.{option_written}
 use Rattle.option_write.proofs.write_option.Goals as goal
-
-pub write_head-requires : goal.write_head-requires
-write_head-requires c =
-    (put_long c.args.out.now c.write_body.new.out c.requires.1, c.requires.0.short)
 
 pub returns : goal.returns
 returns c =

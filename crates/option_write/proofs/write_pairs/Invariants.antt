@@ -1,5 +1,5 @@
 -- `option_write::write_pairs` meets its contract.
-use Prim.Native.Nat.{◌-◌, ◌*◌, ◌≤◌}
+use Prim.Native.Nat.{◌*◌}
 use mathlib.Core.Path.{◌≡◌}
 use mathlib.Core.List.{◌++◌}
 use lib.ListN.{length, drop}
@@ -9,7 +9,4 @@ use Rattle.option_write.proofs.write_pairs.Given as goal
 
 abbrev pub invariant-loop-j : goal.invariant-loop-j
 invariant-loop-j l =
-    (l.j ≤ l.pairs) × (length l.out ≡ length l.initial.out) × (l.out ≡ numbers_out (pair_number (key_runs l.keys)) (2 * l.j) ++ drop (2 * (2 * l.j)) l.initial.out)
-
-abbrev pub decreases-loop-j : goal.decreases-loop-j
-decreases-loop-j l = l.pairs - l.j
+    (length l.out ≡ length l.initial.out) × (l.out ≡ numbers_out (pair_number (key_runs l.keys)) (2 * l.j) ++ drop (2 * (2 * l.j)) l.initial.out)

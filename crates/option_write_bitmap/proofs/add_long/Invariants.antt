@@ -8,6 +8,3 @@ use Rattle.option_write_bitmap.proofs.add_long.Given as goal
 abbrev pub invariant-loop-o : goal.invariant-loop-o
 invariant-loop-o l =
     (l.low ≤ 8 * l.o + 7) × (8 * l.o ≤ l.high) × (l.ones ≡ 255 / 2 ^ (l.low - 8 * l.o)) × Adding (run l.low l.high) l.o l.initial.out l.out
-
-abbrev pub decreases-loop-o : goal.decreases-loop-o
-decreases-loop-o l = l.n - l.o

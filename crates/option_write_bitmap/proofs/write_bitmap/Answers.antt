@@ -9,21 +9,21 @@ use Rattle.option.specs.Spelling.{octets_of}
 use Rattle.option_write_bitmap.proofs.Octets.{cleared_length, cleared_bitmap, bitmap_turn, bitmap_whole}
 use Rattle.option_write_bitmap.proofs.write_bitmap.Goals as goal
 
-pub loop-i-init : goal.loop-i-init
-loop-i-init c = (omega arith, cleared_bitmap (length c.args.out.now) _ c.zero_all.ensures)
+pub loop-key-init : goal.loop-key-init
+loop-key-init c = cleared_bitmap (length c.args.out.now) _ (c.fill.ensures.after (λ y e. e))
 
-pub loop-i-preserved : goal.loop-i-preserved
-loop-i-preserved c =
-    let l = c.loop-i in
-    (omega arith, bitmap_turn c.args.keys.now l.i (omega arith) l.invariant.1 c.add_run.ensures)
+pub loop-key-preserved : goal.loop-key-preserved
+loop-key-preserved c =
+    let l = c.loop-key in
+    bitmap_turn c.args.keys.now l.key-index (omega arith) l.invariant c.add_run.ensures
 
 pub shape_of-out : goal.shape_of-out
-shape_of-out c = c.loop-i.invariant.1.sized ∙ cleared_length _ _ c.zero_all.ensures
+shape_of-out c = c.loop-key.invariant.sized ∙ cleared_length _ _ (c.fill.ensures.after (λ y e. e))
 
 pub returns : goal.returns
 returns c =
-    let l = c.loop-i in
+    let l = c.loop-key in
     let a = c.args in
     let ks = a.keys.now in
-    let e : take l.i ks ≡ ks = take_all l.i ks c.loop-i-test.false in
-    bitmap_whole l.invariant.1 ∙ (λ i. octets_of (covers (key_runs (e i))) (cleared_length (length a.out.now) _ c.zero_all.ensures i))
+    let e : take l.key-index ks ≡ ks = take_all l.key-index ks (omega arith) in
+    bitmap_whole l.invariant ∙ (λ i. octets_of (covers (key_runs (e i))) (cleared_length (length a.out.now) _ (c.fill.ensures.after (λ y e. e)) i))

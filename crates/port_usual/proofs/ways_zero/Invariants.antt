@@ -1,6 +1,4 @@
 -- `port_usual::ways_zero` meets its contract. The loop's invariant: all places are 0 exactly when those passed have no bit and what is left of both is 0.
--- Assumes nothing.
-use Prim.Native.Nat.{◌≤◌, ◌-◌}
 use mathlib.Core.Path.{◌≡◌}
 use mathlib.Core.Bool.{◌&&◌}
 use lib.Dec.{eqb}
@@ -10,8 +8,4 @@ use Rattle.port_usual.proofs.ways_zero.Given as goal
 
 abbrev pub invariant-loop-i : goal.invariant-loop-i
 invariant-loop-i l =
-    (l.i ≤ 256)
-    × ((unused l.receiving.flags && unused l.sending.flags) ≡ (eqb l.any 0 && (none_from l.receiving.flags l.i && none_from l.sending.flags l.i)))
-
-abbrev pub decreases-loop-i : goal.decreases-loop-i
-decreases-loop-i l = 256 - l.i
+    ((unused l.receiving.flags && unused l.sending.flags) ≡ (eqb l.any 0 && (none_from l.receiving.flags l.i && none_from l.sending.flags l.i)))

@@ -1,13 +1,15 @@
 -- `renumber::renumber` meets its contract.
 use native.Mathlib.Omega.{arith}
-use borrow.Author.Tests.{not-true, not-false}
-use Prim.Native.Nat.{ℕ}
+use Prim.Native.Nat.{ℕ, ◌≤◌}
 use mathlib.Core.Path.{◌≡◌, sym, ◌∙◌, ap}
 use mathlib.Core.Bool.{true}
 use mathlib.Core.List.{List}
-use lib.ListN.{take}
+use lib.ListN.{length, take}
+use lib.Seq.{length-take-le}
+use Rattle.label.specs.declared.Label.{Label}
 use Rattle.label.specs.Label.{used, well_formed}
-use Rattle.label_keys.specs.Keys.{key_runs}
+use Rattle.label.proofs.Labels.{formed}
+use Rattle.label_keys.specs.Keys.{key_runs, with_keys}
 use Rattle.table.specs.Table.{lent}
 use Rattle.renumber_keys.specs.Carry.{label_runs}
 use Rattle.renumber_keys.proofs.Held.{held_runs}
@@ -18,88 +20,50 @@ use Rattle.renumber.proofs.renumber.Goals as goal
 pub returns-then-not-well_formed : goal.returns-then-not-well_formed
 returns-then-not-well_formed c =
     let a = c.args in
-    c.refused.ensures ∙ renumbered_ill a.label (lent a.table a.rows.now) a.levels (sym c.well_formed-2.ensures ∙ not-true _ c.if-not-well_formed.true-raw)
+    renumbered_ill a.label (lent a.table a.rows.now) a.levels (sym c.if-not-well_formed.ensures)
 
 pub returns-then-not-table_sound : goal.returns-then-not-table_sound
 returns-then-not-table_sound c =
     let a = c.args in
-    c.refused-then-not-table_sound.ensures ∙ renumbered_unsound a.label (lent a.table a.rows.now) a.levels (sym c.table_sound.ensures ∙ not-true _ c.if-not-table_sound.true-raw)
-
-label-yes : (c : goal.After-refused-then-label-table) → well_formed c.args.label ≡ true
-label-yes c = sym c.well_formed-2.ensures ∙ not-false _ c.if-not-well_formed.false-raw
+    renumbered_unsound a.label (lent a.table a.rows.now) a.levels (sym c.if-not-table_sound.ensures)
 
 pub returns-then-label-table : goal.returns-then-label-table
 returns-then-label-table c =
     let a = c.args in
-    c.refused-then-label-table.ensures
-    ∙ renumbered_foreign a.label (lent a.table a.rows.now) a.levels (sym c.table_sound.ensures ∙ not-false _ c.if-not-table_sound.false-raw) (label-yes c) c.if-label-table.true
+    renumbered_foreign a.label (lent a.table a.rows.now) a.levels (sym c.if-not-table_sound.ensures) (sym c.if-not-well_formed.ensures) c.if-label-table.true
 
-label-yes-After-own-then-table-le-FEW_ROWS-1 : (c : goal.After-own-then-table-le-FEW_ROWS-1) → well_formed c.args.label ≡ true
-label-yes-After-own-then-table-le-FEW_ROWS-1 c = sym c.well_formed-2.ensures ∙ not-false _ c.if-not-well_formed.false-raw
+-- a well-formed label's runs are at the head of a list with a place for each, and as keys they are the label's
+module _ (l : Label) (was keys : List ℕ) (w : true ≡ well_formed l) (e : keys ≡ with_keys l was) (h : 120 ≤ length was) where
+  own_is : key_runs (take l.count keys) ≡ used l
+  own_is = ap (λ (z : List ℕ). key_runs (take l.count z)) e ∙ held_runs l was (sym w) h
 
--- the runs as keys are the label's
-own_is : (c : goal.After-own-then-table-le-FEW_ROWS-1) →
-    let l = c.args.label in
-    key_runs (take l.count c.label_keys.new.keys) ≡ used l
-own_is c =
-    let l = c.args.label in
-    ap (λ (z : List ℕ). key_runs (take l.count z)) c.label_keys.ensures.1 ∙ held_runs l _ (label-yes-After-own-then-table-le-FEW_ROWS-1 c) (omega arith)
+  own_runs : label_runs (key_runs (take l.count keys)) ≡ true
+  own_runs = ap label_runs own_is ∙ label_runs_lem l (sym w)
 
-own_runs : (c : goal.After-own-then-table-le-FEW_ROWS-1) →
-    let l = c.args.label in
-    label_runs (key_runs (take l.count c.label_keys.new.keys)) ≡ true
-own_runs c = ap label_runs (own_is c) ∙ label_runs_lem c.args.label (label-yes-After-own-then-table-le-FEW_ROWS-1 c)
+pub slice_bounds-keys-end : goal.slice_bounds-keys-end
+slice_bounds-keys-end c = let f = formed c.args.label (sym c.if-not-well_formed.ensures) in omega (arith, f.held)
 
-pub renumber_few-requires : goal.renumber_few-requires
-renumber_few-requires c = (own_runs c, c.if-table-le-FEW_ROWS.true)
+pub slice_bounds-own-end : goal.slice_bounds-own-end
+slice_bounds-own-end c =
+    let f = formed c.args.label (sym c.if-not-well_formed.ensures) in
+    sym (length-take-le _ c.label_keys.new.keys (omega (arith, f.held)))
 
-label-yes-After-renumber_few : (c : goal.After-renumber_few) → well_formed c.args.label ≡ true
-label-yes-After-renumber_few c = sym c.well_formed-2.ensures ∙ not-false _ c.if-not-well_formed.false-raw
-
--- the runs as keys are the label's
-own_is-After-renumber_few : (c : goal.After-renumber_few) →
-    let l = c.args.label in
-    key_runs (take l.count c.label_keys.new.keys) ≡ used l
-own_is-After-renumber_few c =
-    let l = c.args.label in
-    ap (λ (z : List ℕ). key_runs (take l.count z)) c.label_keys.ensures.1 ∙ held_runs l _ (label-yes-After-renumber_few c) (omega arith)
+pub renumber_in-requires : goal.renumber_in-requires
+renumber_in-requires c =
+    (omega arith, own_runs c.args.label _ _ c.if-not-well_formed.ensures c.label_keys.ensures.1 (omega arith), λ h. omega arith)
 
 pub returns-then-table-le-FEW_ROWS : goal.returns-then-table-le-FEW_ROWS
 returns-then-table-le-FEW_ROWS c =
     let a = c.args in
-    c.renumber_few.ensures ∙ runs_label a.label (lent a.table a.rows.now) a.levels _ (label-yes-After-renumber_few c) c.if-label-table.false (own_is-After-renumber_few c)
+    let w = c.if-not-well_formed.ensures in
+    c.renumber_in.ensures ∙ runs_label a.label (lent a.table a.rows.now) a.levels _ (sym w) c.if-label-table.false (own_is a.label _ _ w c.label_keys.ensures.1 (omega arith))
 
-label-yes-After-own-3-1 : (c : goal.After-own-3-1) → well_formed c.args.label ≡ true
-label-yes-After-own-3-1 c = sym c.well_formed-2.ensures ∙ not-false _ c.if-not-well_formed.false-raw
-
--- the runs as keys are the label's
-own_is-After-own-3-1 : (c : goal.After-own-3-1) →
-    let l = c.args.label in
-    key_runs (take l.count c.label_keys.new.keys) ≡ used l
-own_is-After-own-3-1 c =
-    let l = c.args.label in
-    ap (λ (z : List ℕ). key_runs (take l.count z)) c.label_keys.ensures.1 ∙ held_runs l _ (label-yes-After-own-3-1 c) (omega arith)
-
-own_runs-After-own-3-1 : (c : goal.After-own-3-1) →
-    let l = c.args.label in
-    label_runs (key_runs (take l.count c.label_keys.new.keys)) ≡ true
-own_runs-After-own-3-1 c = ap label_runs (own_is-After-own-3-1 c) ∙ label_runs_lem c.args.label (label-yes-After-own-3-1 c)
-
-pub renumber_many-requires : goal.renumber_many-requires
-renumber_many-requires c = own_runs-After-own-3-1 c
-
-label-yes-After-renumber_many : (c : goal.After-renumber_many) → well_formed c.args.label ≡ true
-label-yes-After-renumber_many c = sym c.well_formed-2.ensures ∙ not-false _ c.if-not-well_formed.false-raw
-
--- the runs as keys are the label's
-own_is-After-renumber_many : (c : goal.After-renumber_many) →
-    let l = c.args.label in
-    key_runs (take l.count c.label_keys.new.keys) ≡ used l
-own_is-After-renumber_many c =
-    let l = c.args.label in
-    ap (λ (z : List ℕ). key_runs (take l.count z)) c.label_keys.ensures.1 ∙ held_runs l _ (label-yes-After-renumber_many c) (omega arith)
+pub renumber_in-requires-2 : goal.renumber_in-requires-2
+renumber_in-requires-2 c =
+    (omega arith, own_runs c.args.label _ _ c.if-not-well_formed.ensures c.label_keys.ensures.1 (omega arith), λ h. omega arith)
 
 pub returns : goal.returns
 returns c =
     let a = c.args in
-    c.renumber_many.ensures ∙ runs_label a.label (lent a.table a.rows.now) a.levels _ (label-yes-After-renumber_many c) c.if-label-table.false (own_is-After-renumber_many c)
+    let w = c.if-not-well_formed.ensures in
+    c.renumber_in-2.ensures ∙ runs_label a.label (lent a.table a.rows.now) a.levels _ (sym w) c.if-label-table.false (own_is a.label _ _ w c.label_keys.ensures.1 (omega arith))

@@ -1,33 +1,46 @@
 -- `renumber_keys::carry` meets its contract.
-use mathlib.Core.Path.{◌≡◌, ◌∙◌}
+use Prim.Native.Nat.{ℕ, min}
+use mathlib.Core.Path.{◌≡◌, sym, ◌∙◌}
+use mathlib.Core.List.{List}
 use lib.ListN.{length, take}
 use Rattle.label_keys.specs.Keys.{key_runs}
-use Rattle.table.specs.Table.{lent}
-use Rattle.renumber_keys.specs.Carry.{carry_of}
+use Rattle.table.specs.Table.{Lent, lent}
+use Rattle.table_levels.specs.Levels.{Partner}
+use Rattle.renumber_keys.specs.declared.CarryError.TheVariants.{Unsound}
+use Rattle.renumber_keys.specs.Carry.{CarryAnswer, image_of, carried_keys, carry_of}
 use Rattle.renumber_keys.specs.Stages.{carried_by}
-use Rattle.renumber_keys.proofs.Carrying.{carried_by_lem}
+use Rattle.renumber_keys.proofs.Held.{first_same}
+use Rattle.renumber_keys.proofs.Carrying.{by_pairs, no_pairs, refused_same}
 use Rattle.renumber_keys.proofs.carry.Goals as goal
 
--- what was found of the level pairs
-found : (c : goal.After-slice_known-then-table-le-FEW_ROWS-1) →
+-- what was found of the level pairs, and what was carried of the first n keys, or of as many as there are
+found : (keys : List ℕ) (n m v : ℕ) (t : Lent) (ls : List (List ℕ)) (far far' : List ℕ) (p : Partner) (r : CarryAnswer) → m ≡ min n (length keys)
+    → carried_by p (key_runs (take n keys)) t (length far) ≡ carry_of (key_runs (take n keys)) v t ls (length far)
+    → (r ≡ carried_by p (key_runs (take m keys)) t (length far)) × (far' ≡ carried_keys r (image_of t (key_runs (take m keys))) far)
+    → (r ≡ carry_of (key_runs (take n keys)) v t ls (length far)) × (far' ≡ carried_keys r (image_of t (key_runs (take n keys))) far)
+found keys n m v t ls far far' p r is e q =
+    let k = rw (first_same keys n m is) at q in
+    (k.0 ∙ e, k.1)
+
+pub returns-in_default : goal.returns-in_default
+returns-in_default c =
     let a = c.args in
-    carried_by c.look_levels-lead.result.sound c.look_levels-lead.result.to (key_runs (take a.n a.keys.now)) (lent a.table a.rows.now) (length a.far.now)
-    ≡ carry_of (key_runs (take a.n a.keys.now)) a.level (lent a.table a.rows.now) a.levels (length a.far.now)
-found c =
-    let a = c.args in
-    carried_by_lem (key_runs (take a.n a.keys.now)) a.level (lent a.table a.rows.now) a.levels (length a.far.now) _ _ c.look_levels-lead.ensures.0 c.look_levels-lead.ensures.1
+    let t = lent a.table a.rows.now in
+    let runs = key_runs (take a.n a.keys.now) in (
+      no_pairs runs a.level t a.levels (length a.far.now) (sym c.in_default.is ∙ c.look_levels.ensures),
+      refused_same (image_of t runs) a.far.now Unsound,
+    )
 
 pub returns-then-table-le-FEW_ROWS : goal.returns-then-table-le-FEW_ROWS
-returns-then-table-le-FEW_ROWS c = (c.carry_few.ensures.0 ∙ found c, c.carry_few.ensures.1)
-
--- what was found of the level pairs
-found-After-slice_known-2-1 : (c : goal.After-slice_known-2-1) →
+returns-then-table-le-FEW_ROWS c =
     let a = c.args in
-    carried_by c.look_levels-lead.result.sound c.look_levels-lead.result.to (key_runs (take a.n a.keys.now)) (lent a.table a.rows.now) (length a.far.now)
-    ≡ carry_of (key_runs (take a.n a.keys.now)) a.level (lent a.table a.rows.now) a.levels (length a.far.now)
-found-After-slice_known-2-1 c =
-    let a = c.args in
-    carried_by_lem (key_runs (take a.n a.keys.now)) a.level (lent a.table a.rows.now) a.levels (length a.far.now) _ _ c.look_levels-lead.ensures.0 c.look_levels-lead.ensures.1
+    let t = lent a.table a.rows.now in
+    found a.keys.now a.n _ a.level t a.levels a.far.now _ _ _ c.min.ensures
+    (by_pairs (key_runs (take a.n a.keys.now)) a.level t a.levels (length a.far.now) _ (sym c.in-Some.is ∙ c.look_levels.ensures)) (c.carry_in.ensures.0, c.carry_in.ensures.1)
 
 pub returns : goal.returns
-returns c = (c.carry_many.ensures.0 ∙ found-After-slice_known-2-1 c, c.carry_many.ensures.1)
+returns c =
+    let a = c.args in
+    let t = lent a.table a.rows.now in
+    found a.keys.now a.n _ a.level t a.levels a.far.now _ _ _ c.min.ensures
+    (by_pairs (key_runs (take a.n a.keys.now)) a.level t a.levels (length a.far.now) _ (sym c.in-Some.is ∙ c.look_levels.ensures)) (c.carry_in-2.ensures.0, c.carry_in-2.ensures.1)

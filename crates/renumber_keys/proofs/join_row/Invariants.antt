@@ -1,5 +1,5 @@
 -- `renumber_keys::join_row` meets its contract.
-use Prim.Native.Nat.{◌≤◌, ◌-◌, ◌+◌}
+use Prim.Native.Nat.{◌≤◌, ◌+◌}
 use mathlib.Core.Path.{◌≡◌}
 use lib.ListN.{take, drop, length}
 use Rattle.renumber_keys.specs.Stages.{join_onto}
@@ -7,11 +7,7 @@ use Rattle.renumber_keys.proofs.join_row.Given as goal
 
 abbrev pub invariant-loop-i : goal.invariant-loop-i
 invariant-loop-i l =
-    (length l.keys ≡ length l.initial.keys)
-    × (l.w ≤ l.k)
+    (l.w ≤ l.k)
     × (drop l.k l.keys ≡ drop l.k l.initial.keys)
     × (l.k + length (drop l.i (take l.e l.cut)) ≤ l.w + length (drop l.a (take l.e l.cut)))
     × (join_onto (take l.k l.keys) (drop l.i (take l.e l.cut)) ≡ join_onto (take l.w l.initial.keys) (drop l.a (take l.e l.cut)))
-
-abbrev pub decreases-loop-i : goal.decreases-loop-i
-decreases-loop-i l = l.e - l.i

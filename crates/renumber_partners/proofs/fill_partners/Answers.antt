@@ -1,51 +1,39 @@
--- `renumber_partners::fill_partners` meets its contract.
+-- `renumber_partners::fill_partners` meets its contract. The loop's invariant: the pairs that were seen, from the last on, are listed.
 use borrow.Author.Rules.{rules}
 use native.Mathlib.Omega.{arith}
-use mathlib.Core.Path.{◌≡◌, ◌∙◌}
-use mathlib.Core.List.{[], ◌∷◌}
-use Prim.Native.Nat.{◌+◌, ◌-◌}
-use lib.ListN.{length, take, drop, get_or, length-take, drop_of_length-le}
-use Rattle.table_levels.proofs.Levels.{next_there}
-use Rattle.renumber_partners.proofs.Tabled.{listing_start, listing_next, listing_all, listing_short}
+use mathlib.Core.Path.{◌≡◌, ◌∙◌, ap}
+use mathlib.Core.List.{List, map, reverse, ◌++◌}
+use Prim.Native.Nat.{ℕ}
+use lib.ListN.{length, take, drop, replicate}
+use lib.Seq.{length-take-le}
+use Rattle.std.proofs.lemmas.List.{reverse-reverse}
+use Rattle.std.proofs.lemmas.Iterator.Adapters.{YieldsList-from_rev_slice}
+use Rattle.std.proofs.lemmas.Iterator.Consumers.{YieldsList-end}
+use Rattle.table_levels.proofs.Levels.{front_same}
+use Rattle.renumber_partners.proofs.Tabled.{seen_more, listing_start, listing_next, listing_end, listing_short}
 use Rattle.renumber_partners.proofs.fill_partners.Goals as goal
 
 pub returns-then-partners-lt-LEVELS : goal.returns-then-partners-lt-LEVELS
 returns-then-partners-lt-LEVELS c = listing_short (take c.args.pairs c.args.levels) c.args.partners.now c.if-partners-lt-LEVELS.true
 
-sized : (c : goal.After-lesser-i) → length c.args.levels ≡ 256
-sized c = search rules
+pub loop-pair-init : goal.loop-pair-init
+loop-pair-init c =
+    let was = c.args.partners.now in
+    let filled = c.fill.ensures.after (λ y h. h) ∙ ap (λ (k : ℕ). replicate k 256) (length-take-le 256 was c.if-partners-lt-LEVELS.false) in
+    listing_start was _ c.if-partners-lt-LEVELS.false (ap (λ (z : List ℕ). z ++ drop 256 was) filled)
 
-pub loop-i-init : goal.loop-i-init
-loop-i-init c =
-    let none : drop c.lesser-i.result (take c.args.pairs c.args.levels) ≡ [] = drop_of_length-le (take c.args.pairs c.args.levels) {i = c.lesser-i.result} (simp length-take (omega (arith, sized c, c.lesser-i.ensures))) in
-    (omega (arith, c.lesser-i.ensures), rw none (listing_start c.args.partners.now c.clear.new.partners c.clear.ensures))
-
-pub bounds-partners-level : goal.bounds-partners-level
-bounds-partners-level c =
-    let n : length c.clear.new.partners ≡ length c.args.partners.now = search rules in
-    omega (arith, c.place-level.ensures.1, c.loop-i.invariant.1.sized, n, c.if-partners-lt-LEVELS.false)
-
-sized-After-wide : (c : goal.After-wide) → length c.args.levels ≡ 256
-sized-After-wide c = search rules
-
-pub loop-i-preserved : goal.loop-i-preserved
-loop-i-preserved c =
-    let i = c.loop-i.i in
-    let n : length c.clear.new.partners ≡ length c.args.partners.now = search rules in
-    let z : i - 1 + 1 ≡ i = omega (arith, c.loop-i-test.true) in
-    let e : drop (i - 1) (take c.args.pairs c.args.levels) ≡ get_or c.args.levels (i - 1) [] ∷ drop i (take c.args.pairs c.args.levels) =
-    rw z at (next_there [] c.args.levels c.args.pairs (i - 1) (omega (arith, c.loop-i.invariant.0, c.loop-i-test.true)) (omega (arith, c.loop-i.invariant.0, c.loop-i-test.true, sized-After-wide c))) in (
-      omega (arith, c.loop-i.invariant.0),
-      rw e (listing_next (get_or c.args.levels (i - 1) []) (drop i (take c.args.pairs c.args.levels)) c.clear.new.partners c.loop-i.partners c.place-level.result c.wide.result (omega (arith, n, c.if-partners-lt-LEVELS.false)) c.loop-i.invariant.1 c.place-level.ensures.0 c.wide.ensures c.place-level.ensures.1),
-    )
-
-pub shape_of-partners : goal.shape_of-partners
-shape_of-partners c =
-    let n : length c.clear.new.partners ≡ length c.args.partners.now = search rules in
-    c.loop-i.invariant.1.sized ∙ n
+pub loop-pair-preserved : goal.loop-pair-preserved
+loop-pair-preserved c =
+    let v = c.loop-pair in
+    let p = c.in-Some.pair.now in
+    rw seen_more (listing_next p (reverse (map (λ y. y.now) v.yielded)) c.args.partners.now v.partners c.from-level.result c.from.result c.if-partners-lt-LEVELS.false v.invariant c.from-level.ensures c.from.ensures (omega arith))
 
 pub returns : goal.returns
 returns c =
-    let n : length c.clear.new.partners ≡ length c.args.partners.now = search rules in
-    let z : c.loop-i.i ≡ 0 = omega (arith, c.loop-i-test.false) in
-    listing_all (take c.args.pairs c.args.levels) c.args.partners.now c.clear.new.partners c.loop-i.partners c.if-partners-lt-LEVELS.false n c.clear.ensures (rw z at c.loop-i.invariant.1)
+    let v = c.loop-pair in
+    let ls = c.args.levels in
+    let pairs = take c.min-n.result ls in
+    let sized : length ls ≡ 256 = search rules in
+    let seen = YieldsList-end (YieldsList-from_rev_slice pairs cc) v.yielded _ v.yielded_by _ _ c.in-None.is c.next.ensures.steps in
+    let all = ap reverse seen.0 ∙ reverse-reverse pairs ∙ front_same ls c.args.pairs c.min-n.result sized c.min-n.ensures in
+    listing_end (take c.args.pairs ls) c.args.partners.now v.partners c.if-partners-lt-LEVELS.false (rw all at v.invariant)

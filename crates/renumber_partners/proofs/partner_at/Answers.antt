@@ -8,8 +8,8 @@ use Rattle.renumber_partners.proofs.partner_at.Goals as goal
 
 pub returns-then-partners-at : goal.returns-then-partners-at
 returns-then-partners-at c =
-    sym (get_or-eq_default c.args.partners.now 256 {n = c.args.level} (omega (arith, c.if-partners-at.true, c.place-at.ensures.0)))
+    sym (get_or-eq_default c.args.partners.now 256 {n = c.args.level} (omega (arith, c.if-partners-at.true, c.from-at.ensures)))
 
 pub returns : goal.returns
 returns c =
-    any_default c.args.partners.now c.place-at.result 0 256 (omega (arith, c.if-partners-at.false)) ∙ ap (λ (k : ℕ). get_or c.args.partners.now k 256) c.place-at.ensures.0
+    any_default c.args.partners.now c.from-at.result 0 256 (omega (arith, c.if-partners-at.false)) ∙ ap (λ (k : ℕ). get_or c.args.partners.now k 256) c.from-at.ensures

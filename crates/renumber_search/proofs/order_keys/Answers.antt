@@ -1,11 +1,11 @@
 -- `renumber_search::order_keys` meets its contract.
-use mathlib.Core.Path.{sym, ◌∙◌}
+use lib.ListN.{take}
+use Rattle.std.proofs.lemmas.Bool.{MatchBool-at_true}
+use Rattle.std.proofs.lemmas.List.Sorted.{non_decreasing_from_is_sorted}
 use Rattle.renumber_search.proofs.Joining.{stands_same}
 use Rattle.renumber_search.proofs.order_keys.Goals as goal
 
-pub returns-then-stand_in_order : goal.returns-then-stand_in_order
-returns-then-stand_in_order c =
-    stands_same c.args.keys.now c.args.n (sym c.stand_in_order.ensures ∙ c.if-stand_in_order.true)
-
-pub returns : goal.returns
-returns c = c.sort_keys.ensures
+pub returns-then-is_sorted : goal.returns-then-is_sorted
+returns-then-is_sorted c =
+    let a = c.args in
+    stands_same a.keys.now a.n (MatchBool-at_true _ _ c.if-is_sorted.true (non_decreasing_from_is_sorted (take a.n a.keys.now) _ c.is_sorted.ensures.cases))

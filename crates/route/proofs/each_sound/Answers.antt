@@ -1,29 +1,19 @@
 -- `route::each_sound` meets its contract.
-use borrow.Author.Tests.{not-true, not-false}
-use mathlib.Core.Path.{refl}
-use native.Mathlib.Omega.{arith}
+use mathlib.Core.Path.{ap, ◌∙◌}
+use mathlib.Core.List.{List}
+use Prim.Native.Nat.{ℕ}
+use Rattle.std.proofs.Common.{rules}
+use Rattle.std.proofs.lemmas.Iterator.{YieldsList-from_slice}
+use Rattle.std.proofs.lemmas.Iterator.Search.{all_from_yields_List}
+use Rattle.std.specs.List.{list_all}
 use Rattle.route.specs.Route.{route_sound}
-use Rattle.route.proofs.Laws.{fails, passes, every_end}
+use Rattle.route.specs.Stages.{route_at}
+use Rattle.route.proofs.Laws.{every_chunk}
 use Rattle.route.proofs.each_sound.Goals as goal
 
--- src/lib.rt:109:5
-pub loop-at-init : goal.loop-at-init
-loop-at-init c = (omega arith, refl)
-
--- src/lib.rt:112:13
-pub returns-then-not-route_sound : goal.returns-then-not-route_sound
-returns-then-not-route_sound c =
-    fails (route_sound c.args.domains.now) c.args.routes.now c.loop-at.at _ c.loop-at.invariant.1 (omega arith)
-    c.read_route-r.result c.read_route-r.ensures c.route_sound.result c.route_sound.ensures (not-true _ c.if-not-route_sound.true-raw)
-
--- src/lib.rt:109:5
-pub loop-at-preserved : goal.loop-at-preserved
-loop-at-preserved c = (
-  omega arith,
-  passes (route_sound c.args.domains.now) c.args.routes.now c.loop-at.at _ c.loop-at.invariant.1 (omega arith)
-      c.read_route-r.result c.read_route-r.ensures c.route_sound.result c.route_sound.ensures (not-false _ c.if-not-route_sound.false-raw),
-)
-
--- src/lib.rt:104:1
 pub returns : goal.returns
-returns c = every_end (route_sound c.args.domains.now) c.args.routes.now c.loop-at.at _ c.loop-at.invariant.1 c.loop-at-test.false
+returns c =
+    let p = λ (ns : List ℕ). route_sound c.args.domains.now (route_at ns 0) in
+    all_from_yields_List p _ _ c.all.result c.all.ensures.ran (YieldsList-from_slice c.as_chunks.result.0.now cc) (λ x b q k. search rules)
+    ∙ ap (list_all p) c.as_chunks.ensures.front
+    ∙ every_chunk (route_sound c.args.domains.now) c.args.routes.now

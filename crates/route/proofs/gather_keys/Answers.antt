@@ -1,43 +1,42 @@
 -- `route::gather_keys` meets its contract.
-use lib.ListN.{length-set}
-use mathlib.Core.Path.{refl}
+use mathlib.Core.Path.{◌≡◌, ◌∙◌}
 use native.Mathlib.Omega.{arith}
+use Prim.Native.Nat.{◌+◌, ◌*◌}
+use lib.ListN.{length-set}
+use Rattle.route.proofs.Laws.{route_of_chunk}
 use Rattle.route.proofs.Keys.{gathers, passes_by, sound_at, gathered}
 use Rattle.route.proofs.gather_keys.Goals as goal
+use Rattle.route.proofs.gather_keys.Goals.{then-is_among, else-is_among}
 
--- src/lib.rt:175:5
-pub loop-at-init : goal.loop-at-init
-loop-at-init c = (omega arith, omega arith, c.requires.1, c.requires.2, refl)
-
--- src/lib.rt:178:23
 pub prefix_key-requires : goal.prefix_key-requires
 prefix_key-requires c =
-    rw c.read_route-r.ensures (sound_at c.args.routes.now c.loop-at.at (omega arith) c.loop-at.invariant.3).0
+    rw (route_of_chunk c.args.routes.now c.as_chunks.result.0.now c.loop-numbers.numbers-index _ c.read_route-r.result c.as_chunks.ensures.front c.as_chunks.ensures.front_len c.loop-numbers-test.true c.read_route-r.ensures)
+    (sound_at c.args.routes.now (4 * c.loop-numbers.numbers-index) (omega (arith, c.as_chunks.ensures.front_len)) c.loop-numbers.invariant.sound).0
 
--- src/lib.rt:175:5
-pub loop-at-preserved-then-is_among : goal.loop-at-preserved-then-is_among
-loop-at-preserved-then-is_among c =
-    let room = c.loop-at.invariant.2 in (
-      omega arith,
-      omega arith,
-      simp length-set room,
-      (sound_at c.args.routes.now c.loop-at.at (omega arith) c.loop-at.invariant.3).1,
-      gathers c.args.hosts c.args.routes.now c.loop-at.keys c.loop-at.at c.loop-at.n _ c.loop-at.invariant.4 (omega arith)
-          c.read_route-r.result c.read_route-r.ensures c.is_among.result c.is_among.ensures c.if-is_among.true (omega (arith, room)) c.prefix_key.result c.prefix_key.ensures,
-    )
+pub loop-numbers-preserved : goal.loop-numbers-preserved
+loop-numbers-preserved c =
+    let v = c.loop-numbers in
+    let ns = c.args.routes.now in
+    let cs = c.as_chunks.ensures in
+    let er = route_of_chunk ns c.as_chunks.result.0.now v.numbers-index _ c.read_route-r.result cs.front cs.front_len c.loop-numbers-test.true c.read_route-r.ensures in
+    let e : 4 * (v.numbers-index + 1) ≡ 4 * v.numbers-index + 4 = omega arith in
+    let behind = (sound_at ns (4 * v.numbers-index) (omega (arith, c.as_chunks.ensures.front_len)) v.invariant.sound).1 in
+    elim c.if-is_among.branch [
+      | then-is_among w ↦ rw (e, w.n-is, w.keys-is) (record {
+        room = omega arith;
+        long = length-set v.keys v.n _ ∙ v.invariant.long;
+        sound = behind;
+        gathered = gathers c.args.hosts ns v.keys (4 * v.numbers-index) v.n _ v.invariant.gathered (omega (arith, c.as_chunks.ensures.front_len))
+            c.read_route-r.result er c.is_among.result c.is_among.ensures w.if-is_among.true (omega (arith, c.requires.0, c.as_chunks.ensures.front_len)) w.prefix_key.result w.prefix_key.ensures;
+      })
+      | else-is_among w ↦ rw (e, w.n-is, w.keys-is) (record {
+        room = omega arith;
+        long = v.invariant.long;
+        sound = behind;
+        gathered = passes_by c.args.hosts ns v.keys (4 * v.numbers-index) v.n _ v.invariant.gathered (omega (arith, c.as_chunks.ensures.front_len))
+            c.read_route-r.result er c.is_among.result c.is_among.ensures w.if-is_among.false;
+      })
+    ]
 
--- src/lib.rt:175:5
-pub loop-at-preserved : goal.loop-at-preserved
-loop-at-preserved c = (
-  omega arith,
-  omega arith,
-  c.loop-at.invariant.2,
-  (sound_at c.args.routes.now c.loop-at.at (omega arith) c.loop-at.invariant.3).1,
-  passes_by c.args.hosts c.args.routes.now c.loop-at.keys c.loop-at.at c.loop-at.n _ c.loop-at.invariant.4 (omega arith)
-      c.read_route-r.result c.read_route-r.ensures c.is_among.result c.is_among.ensures c.if-is_among.false,
-)
-
--- src/lib.rt:167:1
 pub returns : goal.returns
-returns c =
-    let room = c.loop-at.invariant.2 in record { gathered = gathered c.args.hosts c.args.routes.now c.loop-at.keys c.loop-at.at c.loop-at.n _ c.loop-at.invariant.4 c.loop-at-test.false (omega (arith, room)); upper_bound = omega (arith, room) }
+returns c = record { gathered = gathered c.args.hosts c.args.routes.now c.loop-numbers.keys (4 * c.loop-numbers.numbers-index) c.loop-numbers.n _ c.loop-numbers.invariant.gathered (omega (arith, c.as_chunks.ensures.front_len)) (omega (arith, c.as_chunks.ensures.front_len)); upper_bound = omega arith }

@@ -4,16 +4,13 @@ use Rattle.route.specs.Stages.{bare_route}
 use Rattle.route.proofs.Keys.{long, key_fits}
 use Rattle.route.proofs.prefix_key.Goals as goal
 
--- src/lib.rt:202:9
 pub returns-then-length-eq32 : goal.returns-then-length-eq32
 returns-then-length-eq32 c = simp (eq-eqb _ _ c.if-length-eq32.true)
 
--- src/lib.rt:204:5
 pub overflow_add-result : goal.overflow_add-result
 overflow_add-result c =
     let r = bare_route c.args.prefix c.args.length in
     record { fits = rw c.marker.ensures (key_fits r c.requires (long r c.requires (ne_eqb _ _ c.if-length-eq32.false)) c.ranges.prefix.fits) }
 
--- src/lib.rt:197:1
 pub returns : goal.returns
 returns c = simp (ne_eqb _ _ c.if-length-eq32.false, c.marker.ensures)

@@ -5,14 +5,11 @@ use Prim.Native.Nat.{◌-◌}
 use Rattle.route.proofs.Laws.{power, power_pos}
 use Rattle.route.proofs.prefix_sound.Goals as goal
 
--- src/lib.rt:138:9
 pub returns-then-length-gt32 : goal.returns-then-length-gt32
 returns-then-length-gt32 c = simp (lt-leb _ _ c.if-length-gt32.true)
 
--- src/lib.rt:141:5
 pub nonzero_rem-result : goal.nonzero_rem-result
 nonzero_rem-result c = rw (power (32 - c.args.r.length) (omega arith)) (power_pos (32 - c.args.r.length))
 
--- src/lib.rt:133:1
 pub returns : goal.returns
 returns c = simp (le-leb _ _ c.if-length-gt32.false, power (32 - c.args.r.length) (omega arith))

@@ -1,16 +1,13 @@
 -- `route::prefixes_differ` meets its contract.
-use borrow.Author.Tests.{not-true, not-false}
 use mathlib.Core.Path.{sym, ◌∙◌}
 use Rattle.route.specs.Route.{routes_of}
 use Rattle.route.proofs.Keys.{hosts_repeat, by_others}
 use Rattle.route.proofs.prefixes_differ.Goals as goal
 
--- src/lib.rt:151:9
 pub returns-then-not-keys_differ : goal.returns-then-not-keys_differ
 returns-then-not-keys_differ c =
-    hosts_repeat (routes_of c.args.routes.now) c.requires.1 (sym c.keys_differ.ensures ∙ not-true _ c.if-not-keys_differ.true-raw)
+    hosts_repeat (routes_of c.args.routes.now) c.requires.1 (sym c.keys_differ.ensures ∙ c.if-not-keys_differ.true)
 
--- src/lib.rt:146:1
 pub returns : goal.returns
 returns c =
-    by_others (routes_of c.args.routes.now) c.requires.1 (sym c.keys_differ.ensures ∙ not-false _ c.if-not-keys_differ.false-raw) c.keys_differ-2.ensures
+    by_others (routes_of c.args.routes.now) c.requires.1 (sym c.keys_differ.ensures ∙ c.if-not-keys_differ.false) c.keys_differ-2.ensures

@@ -1,20 +1,16 @@
 -- `route::route_sound` meets its contract.
 use mathlib.Core.Path.{sym, ◌∙◌}
 use Rattle.route.proofs.Laws.{bad_prefix, port_missing, by_domain}
-use borrow.Author.Tests.{not-true, not-false}
 use Rattle.route.proofs.route_sound.Goals as goal
 
--- src/lib.rt:123:9
 pub returns-then-not-prefix_sound : goal.returns-then-not-prefix_sound
 returns-then-not-prefix_sound c =
-    bad_prefix c.args.domains.now c.args.r (sym c.prefix_sound.ensures ∙ not-true _ c.if-not-prefix_sound.true-raw)
+    bad_prefix c.args.domains.now c.args.r (sym c.prefix_sound.ensures ∙ c.if-not-prefix_sound.true)
 
--- src/lib.rt:127:9
 pub returns-then-domains-port : goal.returns-then-domains-port
 returns-then-domains-port c =
-    port_missing c.args.domains.now c.args.r (sym c.prefix_sound.ensures ∙ not-false _ c.if-not-prefix_sound.false-raw) c.if-domains-port.true
+    port_missing c.args.domains.now c.args.r (sym c.prefix_sound.ensures ∙ c.if-not-prefix_sound.false) c.if-domains-port.true
 
--- src/lib.rt:119:1
 pub returns : goal.returns
 returns c =
-    by_domain c.args.domains.now c.args.r (sym c.prefix_sound.ensures ∙ not-false _ c.if-not-prefix_sound.false-raw) c.if-domains-port.false
+    by_domain c.args.domains.now c.args.r (sym c.prefix_sound.ensures ∙ c.if-not-prefix_sound.false) c.if-domains-port.false

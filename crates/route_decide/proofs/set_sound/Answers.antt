@@ -9,30 +9,25 @@ use Rattle.route_decide.specs.Stages.{known_sound}
 use borrow.Author.Rules.{rules}
 use Rattle.route_decide.proofs.set_sound.Goals as goal
 
--- src/lib.rt:91:9
 pub returns-then-not-known : goal.returns-then-not-known
 unfolding known_sound
 returns-then-not-known c = simp (not-true c.args.known.sound c.if-not-known.true)
 
--- src/lib.rt:94:9
 pub returns-then-not-tables_sound : goal.returns-then-not-tables_sound
 unfolding known_sound
-returns-then-not-tables_sound c = simp (not-false c.args.known.sound c.if-not-known.false, sym c.tables_sound.ensures ∙ not-true _ c.if-not-tables_sound.true-raw)
+returns-then-not-tables_sound c = simp (not-false c.args.known.sound c.if-not-known.false, sym c.tables_sound.ensures ∙ c.if-not-tables_sound.true)
 
--- src/lib.rt:98:9
 pub returns-then-n-arriving : goal.returns-then-n-arriving
 unfolding known_sound
-returns-then-n-arriving c = simp (not-false c.args.known.sound c.if-not-known.false, sym c.tables_sound.ensures ∙ not-false _ c.if-not-tables_sound.false-raw, le-ltb _ _ c.if-n-arriving.true)
+returns-then-n-arriving c = simp (not-false c.args.known.sound c.if-not-known.false, sym c.tables_sound.ensures ∙ c.if-not-tables_sound.false, le-ltb _ _ c.if-n-arriving.true)
 
--- src/lib.rt:101:9
 pub returns-then-n-gt-MAX_PORTS : goal.returns-then-n-gt-MAX_PORTS
 unfolding known_sound
-returns-then-n-gt-MAX_PORTS c = simp (not-false c.args.known.sound c.if-not-known.false, sym c.tables_sound.ensures ∙ not-false _ c.if-not-tables_sound.false-raw, lt-ltb _ _ c.if-n-arriving.false, lt-leb _ _ c.if-n-gt-MAX_PORTS.true)
+returns-then-n-gt-MAX_PORTS c = simp (not-false c.args.known.sound c.if-not-known.false, sym c.tables_sound.ensures ∙ c.if-not-tables_sound.false, lt-ltb _ _ c.if-n-arriving.false, lt-leb _ _ c.if-n-gt-MAX_PORTS.true)
 
 sized : (c : goal.After-domains-1) → length c.args.known.domains ≡ 64
 sized c = search rules
 
--- src/lib.rt:104:26
 pub slice_bounds-routes_sound-end : goal.slice_bounds-routes_sound-end
 slice_bounds-routes_sound-end c =
     let l : length c.args.known.domains ≡ 64 = sized c in
@@ -40,10 +35,9 @@ slice_bounds-routes_sound-end c =
     let g : c.args.known.count ≤ length c.args.known.domains = omega arith in
     g
 
--- src/lib.rt:87:1
 pub returns : goal.returns
 unfolding known_sound
 returns c =
     let z : c.args.known.count - 0 ≡ c.args.known.count = omega arith in
-    rw (not-false c.args.known.sound c.if-not-known.false, sym c.tables_sound.ensures ∙ not-false _ c.if-not-tables_sound.false-raw, lt-ltb _ _ c.if-n-arriving.false, le-leb _ _ c.if-n-gt-MAX_PORTS.false)
+    rw (not-false c.args.known.sound c.if-not-known.false, sym c.tables_sound.ensures ∙ c.if-not-tables_sound.false, lt-ltb _ _ c.if-n-arriving.false, le-leb _ _ c.if-n-gt-MAX_PORTS.false)
     (c.routes_sound.ensures ∙ ap (λ (k : ℕ). routes_sound (take k c.args.known.domains) c.args.routes.now) z)

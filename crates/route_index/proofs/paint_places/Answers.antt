@@ -1,42 +1,26 @@
 -- `route_index::paint_places` meets its contract.
 use native.Mathlib.Omega.{arith}
-use Prim.Native.Nat.{◌+◌, ◌<◌}
-use mathlib.Core.Path.{◌≡◌}
+use Prim.Native.Nat.{◌<◌}
+use mathlib.Core.Path.{◌≡◌, refl, ◌∙◌, ap}
 use lib.ListN.{length, get_or}
 use Rattle.route_index.specs.Stages.{better_code}
-use Rattle.route_index.proofs.Paint.{updated_start, updated_room, updated_next, updated_end}
+use Rattle.route_index.proofs.Paint.{mapped_start, mapped_next, mapped_end, ahead_next}
 use Rattle.route_index.proofs.paint_places.Goals as goal
 
-pub loop-i-init : goal.loop-i-init
-loop-i-init c = (omega arith, omega arith, updated_start (better_code c.args.routes.now c.args.at) c.args.index.now c.args.n c.args.low)
-
-room : (c : goal.After-slice_known-in-loop-i-1-unread) → c.args.n + c.loop-i.i < length c.loop-i.index
-room c =
-    updated_room (better_code c.args.routes.now c.args.at) c.args.index.now c.args.n c.requires.0 c.loop-i.index c.args.low c.loop-i.i c.loop-i.invariant.2 (omega (arith, c.loop-i-test.true, c.requires.3))
-
-pub bounds-index-n : goal.bounds-index-n
-bounds-index-n c = room c
+pub loop-place-init : goal.loop-place-init
+loop-place-init c = (mapped_start (better_code c.args.routes.now c.args.at) c.args.places.now c.args.places.now refl, λ j h. refl)
 
 pub better_code-requires : goal.better_code-requires
 better_code-requires c =
-    let h : c.loop-i.i < c.args.n = omega (arith, c.loop-i-test.true, c.requires.3) in
-    let e : get_or c.loop-i.index (c.args.n + c.loop-i.i) 0 ≡ get_or c.args.index.now (c.args.n + c.loop-i.i) 0 = c.loop-i.invariant.2.above c.loop-i.i h (omega arith) in
-    (c.requires.1, c.requires.2, omega (arith, e, c.requires.4.inside c.loop-i.i h))
+    let h : c.loop-place.place-index < length c.args.places.now = omega (arith, c.loop-place.invariant.0.sized) in
+    let e : get_or c.loop-place.places c.loop-place.place-index 0 ≡ get_or c.args.places.now c.loop-place.place-index 0 = c.loop-place.invariant.1 c.loop-place.place-index (omega arith) in
+    (c.requires.0, c.requires.1, omega (arith, e, c.requires.2 c.loop-place.place-index h))
 
-room-After-better_code : (c : goal.After-better_code) → c.args.n + c.loop-i.i < length c.loop-i.index
-room-After-better_code c =
-    updated_room (better_code c.args.routes.now c.args.at) c.args.index.now c.args.n c.requires.0 c.loop-i.index c.args.low c.loop-i.i c.loop-i.invariant.2 (omega (arith, c.loop-i-test.true, c.requires.3))
-
-pub bounds-index-n-in-loop-i : goal.bounds-index-n-in-loop-i
-bounds-index-n-in-loop-i c = room-After-better_code c
-
-pub loop-i-preserved : goal.loop-i-preserved
-loop-i-preserved c =
-    (omega (arith, c.loop-i.invariant.0), omega (arith, c.loop-i-test.true), updated_next (better_code c.args.routes.now c.args.at) c.args.index.now c.args.n c.requires.0 c.loop-i.index c.args.low c.loop-i.i c.loop-i.invariant.2 (omega (arith, c.loop-i-test.true, c.requires.3)) c.loop-i.invariant.0 c.better_code.result c.better_code.ensures)
-
-pub shape_of-index : goal.shape_of-index
-shape_of-index c = c.loop-i.invariant.2.sized
+pub loop-place-preserved : goal.loop-place-preserved
+loop-place-preserved c =
+    let h : c.loop-place.place-index < length c.args.places.now = omega (arith, c.loop-place.invariant.0.sized) in
+    let e : get_or c.loop-place.places c.loop-place.place-index 0 ≡ get_or c.args.places.now c.loop-place.place-index 0 = c.loop-place.invariant.1 c.loop-place.place-index (omega arith) in
+    (mapped_next (better_code c.args.routes.now c.args.at) c.args.places.now c.loop-place.places c.loop-place.place-index c.loop-place.invariant.0 h c.better_code.result (c.better_code.ensures ∙ ap (better_code c.args.routes.now c.args.at) e), ahead_next c.args.places.now c.loop-place.places c.loop-place.place-index c.better_code.result c.loop-place.invariant.1)
 
 pub returns : goal.returns
-returns c =
-    updated_end (better_code c.args.routes.now c.args.at) c.args.index.now c.args.n c.requires.0 c.loop-i.index c.args.low c.loop-i.i c.loop-i.invariant.2 c.args.high c.loop-i.invariant.0 c.loop-i.invariant.1 c.loop-i-test.false
+returns c = mapped_end (better_code c.args.routes.now c.args.at) c.args.places.now c.loop-place.places c.loop-place.place-index c.loop-place.invariant.0 (omega (arith, c.loop-place.invariant.0.sized))

@@ -1,10 +1,8 @@
 -- `route_ports::still_sound` meets its contract.
 use Rattle.route_ports.proofs.still_sound.Goals as goal
 
--- src/lib.rt:83:9
 pub returns-then-ok : goal.returns-then-ok
 returns-then-ok c = simp (c.if-ok.true, c.port_sound.ensures)
 
--- src/lib.rt:79:1
 pub returns : goal.returns
 returns c = simp c.if-ok.false

@@ -1,13 +1,15 @@
 -- `route_ports::survey_ports` meets its contract.
-use Rattle.route_ports.proofs.Laws.{begin, one_more, at_end}
+use mathlib.Core.Path.{sym, ◌∙◌, ap}
+use lib.Seq.{take_all}
+use Rattle.route_ports.specs.Ports.{survey_of}
+use Rattle.route_ports.proofs.Laws.{begin, one_more}
 use Rattle.route_ports.proofs.survey_ports.Goals as goal
 
-pub loop-i-init : goal.loop-i-init
-loop-i-init c = begin c.args.ports.now c.start-s.result c.start-s.ensures
+pub loop-p-init : goal.loop-p-init
+loop-p-init c = c.start-s.ensures ∙ sym begin
 
-pub loop-i-preserved : goal.loop-i-preserved
-loop-i-preserved c =
-    one_more c.args.ports.now c.loop-i.i c.loop-i.s c.loop-i-test.true c.loop-i.invariant c.pick_port-p.result c.pick_port-p.ensures c.note_port-s.result c.note_port-s.ensures
+pub loop-p-preserved : goal.loop-p-preserved
+loop-p-preserved c = one_more c.args.ports.now c.loop-p.p-index c.loop-p.s c.loop-p-test.true c.loop-p.invariant _ c.note_port-s.result c.note_port-s.ensures
 
 pub returns : goal.returns
-returns c = at_end c.args.ports.now c.loop-i.i c.loop-i.s c.loop-i-test.false c.loop-i.invariant
+returns c = c.loop-p.invariant ∙ ap survey_of (take_all c.loop-p.p-index c.args.ports.now c.loop-p-test.false)

@@ -19,10 +19,10 @@ pub overflow_add-next : goal.overflow_add-next
 overflow_add-next c =
     record { fits = omega (arith, short c, window c, ahead c, c.if-end-at.false) }
 
-pub overflow_add-from : goal.overflow_add-from
-overflow_add-from c =
+pub overflow_add-at : goal.overflow_add-at
+overflow_add-at c =
     record { fits = omega (arith, short c, window c, ahead c) }
 
-pub answer-waiting-requires : goal.answer-waiting-requires
-answer-waiting-requires c =
-    omega (arith, c.spare-ready.ensures.spare (omega arith))
+pub answer-requires : goal.answer-requires
+answer-requires c =
+    omega (arith, c.in_ok-ready.ensures.spare (omega arith))

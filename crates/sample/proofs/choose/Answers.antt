@@ -2,7 +2,6 @@
 use borrow.Author.Rules.{rules}
 use native.Mathlib.Omega.{arith}
 use mathlib.Core.Path.{◌≡◌, refl, ap}
-use Prim.Native.Nat.{◌≤◌}
 use lib.ListN.{length}
 use Rattle.label.proofs.Steps.{length_mapped}
 use Rattle.route_ports.specs.Ports.{unlisted_port, port_at}
@@ -10,23 +9,14 @@ use Rattle.sample.specs.declared.Choice.{Choice}
 use Rattle.sample.proofs.Choices.{inside, is_closed, not_accepted, too_few, enough, none_opened, first_opened}
 use Rattle.sample.proofs.choose.Goals as goal
 
--- src/main.rt:111:9
-pub returns-then-verdict-ne-ACCEPTED : goal.returns-then-verdict-ne-ACCEPTED
-returns-then-verdict-ne-ACCEPTED c =
-    let e = c.no_choice.ensures in
-    let a : c.no_choice.result.at ≡ 0 = ap (λ (x : Choice). x.at) e in
-    let z : c.no_choice.result.end ≡ 0 = ap (λ (x : Choice). x.end) e in
-    (is_closed c.args.verdict c.args.set c.args.rows.now (not_accepted c.args.verdict c.args.set c.args.rows.now c.if-verdict-ne-ACCEPTED.true) c.no_choice.result e, omega arith, omega arith)
+pub returns-then-verdict-ne-ACCEPTED-clause-chosen : goal.returns-then-verdict-ne-ACCEPTED-clause-chosen
+returns-then-verdict-ne-ACCEPTED-clause-chosen c =
+    is_closed c.args.verdict c.args.set c.args.rows.now (not_accepted c.args.verdict c.args.set c.args.rows.now c.if-verdict-ne-ACCEPTED.true)
 
--- src/main.rt:114:9
-pub returns-then-set-lt2 : goal.returns-then-set-lt2
-returns-then-set-lt2 c =
-    let e = c.no_choice-then-set-lt2.ensures in
-    let a : c.no_choice-then-set-lt2.result.at ≡ 0 = ap (λ (x : Choice). x.at) e in
-    let z : c.no_choice-then-set-lt2.result.end ≡ 0 = ap (λ (x : Choice). x.end) e in
-    (is_closed c.args.verdict c.args.set c.args.rows.now (too_few c.args.verdict c.args.set c.args.rows.now c.if-verdict-ne-ACCEPTED.false c.if-set-lt2.true) c.no_choice-then-set-lt2.result e, omega arith, omega arith)
+pub returns-then-set-lt2-clause-chosen : goal.returns-then-set-lt2-clause-chosen
+returns-then-set-lt2-clause-chosen c =
+    is_closed c.args.verdict c.args.set c.args.rows.now (too_few c.args.verdict c.args.set c.args.rows.now c.if-verdict-ne-ACCEPTED.false c.if-set-lt2.true)
 
--- src/main.rt:125:9
 ports-sized : (c : goal.After-with_table) → length c.args.set.ports ≡ 16
 ports-sized c = search (length_mapped, rules)
 
@@ -35,31 +25,27 @@ unfolding port_at
 returns-then-set-eq0 c =
     let l : length c.args.set.ports ≡ 16 = ports-sized c in
     let a : c.with_table.result.at ≡ c.first_table-none.result.at = ap (λ (x : Choice). x.at) c.with_table.ensures in
-    let z : c.with_table.result.end ≡ c.first_table-none.result.end = ap (λ (x : Choice). x.end) c.with_table.ensures in (
-      none_opened c.args.verdict c.args.set c.args.rows.now (enough c.args.verdict c.args.set c.args.rows.now c.if-verdict-ne-ACCEPTED.false c.if-set-lt2.false) _ _
+    let z : c.with_table.result.end ≡ c.first_table-none.result.end = ap (λ (x : Choice). x.end) c.with_table.ensures in record {
+      chosen = none_opened c.args.verdict c.args.set c.args.rows.now (enough c.args.verdict c.args.set c.args.rows.now c.if-verdict-ne-ACCEPTED.false c.if-set-lt2.false) _ _
           (inside c.args.set.ports 0 _ unlisted_port (omega arith)) (inside c.args.set.ports 1 _ unlisted_port (omega arith)) c.first_table-none.result c.with_table.result c.with_table.ensures
-          _ refl _ c.if-set-eq0.true c.first_table-none.ensures.0,
-      omega (arith, c.first_table-none.ensures.1),
-      omega (arith, c.first_table-none.ensures.2),
-    )
+          _ refl _ c.if-set-eq0.true c.first_table-none.ensures.0;
+      in_bounds = (omega (arith, c.first_table-none.ensures.1), omega (arith, c.first_table-none.ensures.2));
+    }
 
--- src/main.rt:125:9
 ports-sized-After-with_table-2 : (c : goal.After-with_table-2) → length c.args.set.ports ≡ 16
 ports-sized-After-with_table-2 c = search (length_mapped, rules)
 
 tables-sized : (c : goal.After-with_table-2) → length c.args.set.tables ≡ 8
 tables-sized c = search (length_mapped, rules)
 
--- src/main.rt:107:1
 pub returns : goal.returns
 unfolding port_at
 returns c =
     let l : length c.args.set.ports ≡ 16 = ports-sized-After-with_table-2 c in
     let a : c.with_table-2.result.at ≡ c.first_table-found.result.at = ap (λ (x : Choice). x.at) c.with_table-2.ensures in
-    let z : c.with_table-2.result.end ≡ c.first_table-found.result.end = ap (λ (x : Choice). x.end) c.with_table-2.ensures in (
-      first_opened c.args.verdict c.args.set c.args.rows.now (enough c.args.verdict c.args.set c.args.rows.now c.if-verdict-ne-ACCEPTED.false c.if-set-lt2.false) _ _
+    let z : c.with_table-2.result.end ≡ c.first_table-found.result.end = ap (λ (x : Choice). x.end) c.with_table-2.ensures in record {
+      chosen = first_opened c.args.verdict c.args.set c.args.rows.now (enough c.args.verdict c.args.set c.args.rows.now c.if-verdict-ne-ACCEPTED.false c.if-set-lt2.false) _ _
           (inside c.args.set.ports 0 _ unlisted_port (omega arith)) (inside c.args.set.ports 1 _ unlisted_port (omega arith)) c.first_table-found.result c.with_table-2.result c.with_table-2.ensures
-          _ c.if-set-eq0.false (tables-sized c) c.first_table-found.ensures.0,
-      omega (arith, c.first_table-found.ensures.1),
-      omega (arith, c.first_table-found.ensures.2),
-    )
+          _ c.if-set-eq0.false (tables-sized c) c.first_table-found.ensures.0;
+      in_bounds = (omega (arith, c.first_table-found.ensures.1), omega (arith, c.first_table-found.ensures.2));
+    }

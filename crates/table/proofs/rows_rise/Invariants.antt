@@ -1,9 +1,8 @@
 -- `table::rows_rise` meets its contract.
-use Prim.Native.Nat.{◌≤◌, ◌-◌}
 use mathlib.Core.Path.{◌≡◌}
 use mathlib.Core.Bool.{◌&&◌}
 use mathlib.Core.List.{◌++◌}
-use lib.ListN.{take, drop, length}
+use lib.ListN.{take, drop}
 use Rattle.table.specs.Table.{rows_from, rising}
 use Rattle.table.specs.Order.{order_keys}
 use Rattle.table.specs.Stages.{chain}
@@ -11,11 +10,8 @@ use Rattle.table.proofs.rows_rise.Given as goal
 
 abbrev pub invariant-loop-i : goal.invariant-loop-i
 invariant-loop-i l =
-    (l.i ≤ l.n)
-    × (length l.order ≡ length l.initial.order)
-    × (rising 0 (rows_from l.rows) ≡ rising l.floor (drop l.i (rows_from l.rows)))
-    × (chain 0 (rows_from l.rows) ≡ (l.targets && chain l.past (drop l.i (rows_from l.rows))))
-    × (l.order ≡ order_keys 0 (take l.i (rows_from l.rows)) ++ drop l.i l.initial.order)
-
-abbrev pub decreases-loop-i : goal.decreases-loop-i
-decreases-loop-i l = l.n - l.i
+    record {
+      rise : rising 0 (rows_from l.rows) ≡ rising l.floor (drop l.i (rows_from l.rows));
+      ordered : chain 0 (rows_from l.rows) ≡ (l.targets && chain l.past (drop l.i (rows_from l.rows)));
+      written : l.order ≡ order_keys 0 (take l.i (rows_from l.rows)) ++ drop l.i l.initial.order;
+    }

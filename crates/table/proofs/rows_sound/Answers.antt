@@ -14,9 +14,9 @@ returns-then-rows-n c = list_part c.args.rows.now c.if-rows-n.true
 -- src/lib.rt:87:9
 pub returns-then-n-le-FEW_ROWS : goal.returns-then-n-le-FEW_ROWS
 returns-then-n-le-FEW_ROWS c =
-    list_whole c.args.rows.now c.few_rows.result (omega (arith, c.if-n-gt-MAX_ROWS.false)) c.if-rows-n.false c.few_rows.ensures
+    list_whole c.args.rows.now c.rows_in.result (omega (arith, c.if-n-gt-MAX_ROWS.false)) c.if-rows-n.false c.rows_in.ensures
 
 -- src/lib.rt:76:1
 pub returns : goal.returns
 returns c =
-    list_whole c.args.rows.now c.many_rows.result (omega (arith, c.if-n-gt-MAX_ROWS.false)) c.if-rows-n.false c.many_rows.ensures
+    list_whole c.args.rows.now c.rows_in-2.result (omega (arith, c.if-n-gt-MAX_ROWS.false)) c.if-rows-n.false c.rows_in-2.ensures

@@ -1,5 +1,4 @@
 -- `table::targets_apart` meets its contract. The loop's invariant: the rows that are left along the order decide, as long as all kept apart so far.
-use Prim.Native.Nat.{◌≤◌, ◌-◌}
 use mathlib.Core.Path.{◌≡◌}
 use mathlib.Core.Bool.{◌&&◌}
 use lib.ListN.{drop}
@@ -8,9 +7,6 @@ use Rattle.table.specs.Order.{in_order}
 use Rattle.table.specs.Stages.{chain}
 use Rattle.table.proofs.targets_apart.Given as goal
 
-abbrev pub invariant-loop-i : goal.invariant-loop-i
-invariant-loop-i l =
-    (l.i ≤ l.n) × (chain 0 (in_order (rows_from l.rows)) ≡ (l.apart && chain l.past (drop l.i (in_order (rows_from l.rows)))))
-
-abbrev pub decreases-loop-i : goal.decreases-loop-i
-decreases-loop-i l = l.n - l.i
+abbrev pub invariant-loop-k : goal.invariant-loop-k
+invariant-loop-k l =
+    chain 0 (in_order (rows_from l.rows)) ≡ (l.apart && chain l.past (drop l.k-index (in_order (rows_from l.rows))))

@@ -18,4 +18,4 @@ returns-then-claimed-k c =
 pub returns : goal.returns
 returns c =
     let h : c.args.k < length c.args.claimed.now = omega arith in
-    rw (lt-ltb c.args.k (length c.args.claimed.now) h) (ap (eqb c.args.x) c.wide.ensures)
+    rw (lt-ltb c.args.k (length c.args.claimed.now) h)

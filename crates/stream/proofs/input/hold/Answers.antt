@@ -13,12 +13,12 @@ returns c =
     c.lie-w.ensures.value
     c.lie-w.ensures.at_le_end
     _
-    c.move_down.new.input
+    c.copy_within.new.self
     c.read_until-last.new.input
     c.read_until-last.result
     c.if-n-end.false
-    c.move_down.ensures.input_after
-    c.move_down.ensures.input_len_unchanged
+    c.copy_within.ensures.after
+    c.copy_within.ensures.len
     c.read_until-last.ensures.lower_bound.0
     c.read_until-last.ensures.lower_bound.1
     c.read_until-last.ensures.input_len_unchanged.0

@@ -11,11 +11,11 @@ returns c =
     c.lie-w.ensures.value
     c.lie-w.ensures.at_le_end
     _
-    c.move_down.new.input
+    c.copy_within.new.self
     c.read_once-got.new.input
     c.read_once-got.result
-    c.move_down.ensures.input_after
-    c.move_down.ensures.input_len_unchanged
+    c.copy_within.ensures.after
+    c.copy_within.ensures.len
     (omega arith)
     (omega arith)
     c.read_once-got.ensures.result_bound.1

@@ -5,7 +5,7 @@ pub returns-then-n-w : goal.returns-then-n-w
 returns-then-n-w c = rw c.go_on.ensures (feeds_enough _ _ c.lie-w.result c.lie-w.ensures.value c.lie-w.ensures.at_le_end _ c.if-n-w.true)
 
 pub returns-then-not-sent : goal.returns-then-not-sent
-returns-then-not-sent c = rw c.stop.ensures (feeds_unsent _ _ c.lie-w.result c.lie-w.ensures.value c.lie-w.ensures.at_le_end _ c.if-n-w.false)
+returns-then-not-sent c = (feeds_unsent _ _ c.lie-w.result c.lie-w.ensures.value c.lie-w.ensures.at_le_end _ c.if-n-w.false)
 
 pub returns : goal.returns
 returns c =

@@ -1,7 +1,0 @@
--- `file_format::read_four` meets its contract.
-use Rattle.file_format.specs.Format.{read_at}
-use Rattle.file_format.proofs.read_four.Goals as goal
-
-pub returns : goal.returns
-unfolding read_at
-returns c = (record { reads = c.read_number.ensures.0 }, c.read_number.ensures.1, c.read_number.ensures.2)

@@ -1,9 +1,0 @@
--- `renumber_keys::carry_many` meets its contract.
-use native.Mathlib.Omega.{arith}
-use Rattle.renumber_keys.proofs.carry_many.Goals as goal
-
-pub carry_by-requires : goal.carry_by-requires
-carry_by-requires c = (λ h. omega arith)
-
-pub returns : goal.returns
-returns c = (c.carry_by.ensures.0, c.carry_by.ensures.1)
