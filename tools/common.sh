@@ -47,3 +47,17 @@ make_folder() { mkdir -p "$1" 2>/dev/null || stop "$1 cannot be made here"; }
 
 # Whether what was made is missing, or older than something that it is made of.
 stale() { [ ! -e "$1" ] || [ -n "$(find "${@:2}" -newer "$1" -print -quit)" ]; }
+
+# The crates that these are built from, themselves too, one a line.
+needed() {
+    awk -F: -v names="$*" '
+        function visit(name,    names, count, i) {
+            if (!(name in uses) || name in seen) return
+            seen[name] = 1; print name
+            count = split(uses[name], names, " ")
+            for (i = 1; i <= count; i++) visit(names[i])
+        }
+        { sub(/#.*/, ""); sub(/ +staticlib/, "") }
+        NF { uses[$1] = $2 }
+        END { count = split(names, roots, " "); for (i = 1; i <= count; i++) visit(roots[i]) }' "$root/crates.txt"
+}
