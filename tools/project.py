@@ -147,7 +147,8 @@ class Definitions:
         return sum(len([line for line in self.text[name].split("\n") if line.strip()]) for name in names)
 
 
-FUNCTION = re.compile(r"^( *)(pub )?(?:extern \"C\" )?fn (\w+).*?^\1\{", re.MULTILINE | re.DOTALL)
+# a head without a contract ends in its own line's brace, one with a contract in the brace below it
+FUNCTION = re.compile(r"^( *)(pub )?(?:extern \"C\" )?fn (\w+)(?:(?:(?!requires|ensures)[^{])*\{$|.*?^\1\{)", re.MULTILINE | re.DOTALL)
 
 
 def heads():

@@ -301,9 +301,3 @@ whole_inside k area at o =
       first = ap kind_of (get_or-take (get_or area (at + 1) 0) (drop at area) 0 0 (omega arith)) ∙ o.kind;
       second = get_or-take (get_or area (at + 1) 0) (drop at area) 1 0 (omega arith) ∙ get_or-drop at area 1 0 ∙ sym s;
     }
-
--- its slice
-pub slice_is : (at : ℕ) (area : List ℕ) → take (at + get_or area (at + 1) 0 - at) (drop at area) ≡ option_at at area
-slice_is at area =
-    let e : at + get_or area (at + 1) 0 - at ≡ get_or area (at + 1) 0 = omega arith in
-    ap (λ (k : ℕ). take k (drop at area)) e

@@ -5,7 +5,7 @@
 ghost use Rattle.std.specs.Prelude.{◌≡◌, ℕ, Some, None};
 ghost use Rattle.area.specs.Kinds.{kind_of, size_of};
 ghost use Rattle.area.specs.Turn.{judge, judge_basic};
-ghost use Rattle.area.specs.Area.{bad_size, met_of, judged, walk_of, open_walk};
+ghost use Rattle.area.specs.Area.{bad_size, met_of, judged, walk_of, open_walk, option_at};
 
 // The most octets of an options area.
 pub const AREA_OCTETS: usize = 40;
@@ -47,6 +47,24 @@ pub fn read_size(rest: &[u8]) -> Option<usize>
         return None;
     }
     if n <= rest.len() { Some(n) } else { None }
+}
+
+// The octets of the option at an octet: as many as its length octet says, or as there are.
+pub fn option_at(area: &[u8], at: usize) -> &[u8]
+    ensures { result.now ≡ option_at at area.now }
+{
+    if area.len() < at {
+        return &[];
+    }
+    let rest = &area[at..];
+    if rest.len() < 2 {
+        return &[];
+    }
+    let count = rest[1] as usize;
+    if rest.len() < count {
+        return rest;
+    }
+    &rest[..count]
 }
 
 // The places of the options 134 and 130 that a walk meets: the octets of their types, where there are such options.

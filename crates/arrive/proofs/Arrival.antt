@@ -3,10 +3,10 @@ use mathlib.Core.Path.{◌≡◌, refl, sym, ◌∙◌, ap, subst}
 use mathlib.Core.Bool.{Bool, true, false, cond, not, ◌||◌, true≢false}
 use mathlib.Core.List.{List, [], ◌∷◌, ◌++◌}
 use mathlib.Core.Option.{Option, none, some}
-use Prim.Native.Nat.{ℕ, ◌+◌, ◌-◌, ◌%◌, ◌≤◌}
+use Prim.Native.Nat.{ℕ, ◌+◌, ◌%◌, ◌≤◌}
 use native.Mathlib.Omega.{arith}
 use lib.Dec.{ltb, eqb}
-use lib.ListN.{length, get_or, take, drop}
+use lib.ListN.{length, get_or, take}
 use mathlib.Core.Logic.{⊎_elim}
 use borrow.Author.Tests.{eqb-false, eq-eqb, ne_eqb, le-ltb, ltb-false}
 use Rattle.label.specs.declared.Run.{Run}
@@ -19,7 +19,7 @@ use Rattle.option.specs.Option.{Octets}
 use Rattle.option_read.specs.Reading.{Reading}
 use Rattle.option_read.specs.Keys.{KeyReading}
 use Rattle.option_read.specs.Reading.{framed, reading_for}
-use Rattle.option_read.specs.Keys.{keyed, labelled, key_reading_for, keys_after, ReadsKeys}
+use Rattle.option_read.specs.Keys.{keyed, labelled, key_reading_for, ReadsKeys}
 use Rattle.option_read.proofs.Checks.{parts_framed}
 use Rattle.option_read.proofs.Theorems.{reads}
 use Rattle.option_slack.specs.Strict.{stops_slack}
@@ -29,7 +29,7 @@ use Rattle.area.specs.Kinds.{Place, Walk, places, fault}
 use Rattle.area.specs.declared.Kind.TheVariants.{Cipso}
 use Rattle.area.specs.Area.{bad_area, walk_of, octets_at, WholeAt}
 use Rattle.area.proofs.KindLaws.{cipso_octet}
-use Rattle.area.proofs.Laws.{area_refused, off_nowhere, whole_inside, slice_is}
+use Rattle.area.proofs.Laws.{area_refused, off_nowhere, whole_inside}
 use Rattle.basic.specs.declared.Way.{Way}
 use Rattle.basic.specs.declared.BasicReading.{BasicReading}
 use Rattle.basic.specs.Alone.{BasicRead, basic_reading}
@@ -37,14 +37,13 @@ use Rattle.basic.specs.Settings.{passes_way, passes_read}
 use Rattle.port.specs.declared.Port.{Port}
 use Rattle.port.specs.Port.{port_sound}
 use Rattle.port.proofs.Laws.{sound}
-use Rattle.decision.specs.Decision.{Refusal}
+use Rattle.decision.specs.declared.Refusal.{Refusal}
 use Rattle.arrive.specs.Checks.{faulty, barred, when, first_of, walk_at, walk_refusal, walk_check, place_in, basic_in, option_at, read_at, required_by, required_check, option_by, option_check, bad_basic_by, bad_basic_check, arriving_basic, missing_basic_by, missing_basic_check, basic_passes, basic_range_check, label_by, arriving_label, range_check, arrival_checks}
-use Rattle.decision.specs.declared.Verdict.{Verdict}
-use Rattle.decision.specs.Verdict.{verdict_of, stopped, going}
-use Rattle.arrive.specs.Verdict.{keys_by, arrival_of, arrival_keys, Arrives}
+use Rattle.decision.specs.Verdict.{Verdict, passed_with, verdict_of, stopped, going}
+use Rattle.arrive.specs.Verdict.{arrival_of, arrival_keys, Arrives}
 use Rattle.arrive.specs.Stages.{place_checks, basic_checks, is_open, instead_of, before_range, held_between, ArrivesAt}
 use Rattle.arrive.proofs.Pointer.{reading_pointer, strict_number}
-use Rattle.arrive.proofs.First.{first_append, Real, late_else, Late, late_first, late_when, late_real, Early, AllEarly, early_first, early_when, between, before_none, before_zero, first_none, when_none, not_false_yes}
+use Rattle.arrive.proofs.First.{first_append, Real, late_else, Late, late_first, late_when, late_real, Early, AllEarly, early_first, early_when, between, before_none, before_ok, first_none, when_none, not_false_yes}
 use Rattle.arrive.proofs.Verdicts.{held_in_range, label_stands}
 
 -- The walk's answer decides which checks are left.
@@ -76,7 +75,7 @@ walk_early : (on : Bool) (area : List ℕ) (w : Walk) → walk_of on area ≡ w 
 walk_early on area (Ok m) e = tt
 walk_early on area (Err r) e =
     let q = area_refused on area r.number r.at e in
-    (λ z. omega (arith, q.0), λ z. omega (arith, q.1))
+    λ z. omega (arith, q.1)
 
 module _ (p : Port) (area : List ℕ) where
   option_in : (i : ℕ) → (b : Bool) → eqb (read_at p (option_at i area)).number 0 ≡ b
@@ -84,7 +83,7 @@ module _ (p : Port) (area : List ℕ) where
       Late o × Early o
   option_in i true e = (tt, tt)
   option_in i false e =
-      ⊎_elim (λ n. (omega (arith, n.0), (λ z. omega (arith, n.0), λ z. omega (arith, n.1)))) (λ n. (omega (arith, n), (λ z. omega (arith, n), λ z. omega (arith, n))))
+      ⊎_elim (λ n. (omega (arith, n.0), λ z. omega (arith, n.1))) (λ n. (omega (arith, n), λ z. omega (arith, n)))
       (strict_number p.strict p.domain (option_at i area) (eqb-false _ _ e))
 
   option_late : (q : Place) → Late (option_by q p area) × Early (option_by q p area)
@@ -92,21 +91,21 @@ module _ (p : Port) (area : List ℕ) where
   option_late (Some i) = option_in i (eqb (read_at p (option_at i area)).number 0) refl
 
 required_late : (q : Place) (p : Port) → Late (required_by q p) × Early (required_by q p)
-required_late None p = (late_when p.required _ (omega arith), early_when p.required _ (λ z. omega arith) (λ z. omega arith))
+required_late None p = (late_when p.required _ (omega arith), early_when p.required _ (λ z. omega arith))
 required_late (Some i) p = (tt, tt)
 
 bad_late : (b : Place) (area : List ℕ) → Late (bad_basic_by b area) × Early (bad_basic_by b area)
 bad_late None area = (tt, tt)
 bad_late (Some i) area =
     let c : Bool = is_none (basic_reading (option_at i area)) in
-    (late_when c (faulty 19 i) (omega arith), early_when c (faulty 19 i) (λ z. omega arith) (λ z. omega arith))
+    (late_when c (faulty 19 i) (omega arith), early_when c (faulty 19 i) (λ z. omega arith))
 
 missing_late : (o : Option (List ℕ)) (on : Bool) → Late (missing_basic_by o on) × Early (missing_basic_by o on)
-missing_late none on = (late_when on _ (omega arith), early_when on _ (λ z. omega arith) (λ z. omega arith))
+missing_late none on = (late_when on _ (omega arith), early_when on _ (λ z. omega arith))
 missing_late (some o) on = (tt, tt)
 
 range_late : (b : Bool) (code : ℕ) → Late (when b (barred 21 code)) × Early (when b (barred 21 code))
-range_late b code = (late_when b (barred 21 code) (omega arith), early_when b (barred 21 code) (λ z. omega arith) (λ z. omega arith))
+range_late b code = (late_when b (barred 21 code) (omega arith), early_when b (barred 21 code) (λ z. omega arith))
 
 fourteen : ◌≤◌ 3 14
 fourteen = omega arith
@@ -211,27 +210,23 @@ read_checks p at code x y =
     ∷ []
 
 -- Reading the option there: its slice is the option, its refusal is that of the checks, and its label is held against the range.
-module _ (p : Port) (area : List ℕ) (at code : ℕ) (r : Reading) (is : r ≡ reading_for p.domain (take (at + get_or area (at + 1) 0 - at) (drop at area))) where
-  r_is : r ≡ reading_for p.domain (option_at at area)
-  r_is = is ∙ ap (reading_for p.domain) (slice_is at area)
-
+module _ (p : Port) (area : List ℕ) (at code : ℕ) (r : Reading) (is : r ≡ reading_for p.domain (option_at at area)) where
   -- whether 23 decides
-  stops_is : (b : Bool) → stops_slack p.strict r.number (take (at + get_or area (at + 1) 0 - at) (drop at area)) ≡ b
-      → stops_slack p.strict (reading_for p.domain (option_at at area)).number (option_at at area) ≡ b
-  stops_is b e = (λ i. stops_slack p.strict (sym r_is i).number (sym (slice_is at area) i)) ∙ e
+  stops_is : (b : Bool) → stops_slack p.strict r.number (option_at at area) ≡ b → stops_slack p.strict (reading_for p.domain (option_at at area)).number (option_at at area) ≡ b
+  stops_is b e = rw (← is) e
 
-  pub read_slack : stops_slack p.strict r.number (take (at + get_or area (at + 1) 0 - at) (drop at area)) ≡ true
+  pub read_slack : stops_slack p.strict r.number (option_at at area) ≡ true
       → first_of (place_checks (Some at) p area code) ≡ some (faulty 23 (at + 10))
   read_slack e =
       ap (λ (x : Reading). first_of (read_checks p at code x (reading_for p.domain (option_at at area))))
       (strict_stops p.strict p.domain (option_at at area) (stops_is true e))
 
-  module _ (passed : stops_slack p.strict r.number (take (at + get_or area (at + 1) 0 - at) (drop at area)) ≡ false) where
+  module _ (passed : stops_slack p.strict r.number (option_at at area) ≡ false) where
     checks_are : first_of (place_checks (Some at) p area code) ≡ first_of (read_checks p at code r r)
     checks_are =
         ap (λ (x : Reading). first_of (read_checks p at code x (reading_for p.domain (option_at at area))))
         (strict_else p.strict p.domain (option_at at area) (stops_is false passed))
-        ∙ ap (λ (x : Reading). first_of (read_checks p at code x x)) (sym r_is)
+        ∙ ap (λ (x : Reading). first_of (read_checks p at code x x)) (sym is)
 
     pub read_refused : (r.number ≡ 0 → ⊥) → first_of (place_checks (Some at) p area code) ≡ some (faulty r.number (at + r.pointer))
     read_refused h = checks_are ∙ rw (ne_eqb r.number 0 h)
@@ -241,59 +236,50 @@ module _ (p : Port) (area : List ℕ) (at code : ℕ) (r : Reading) (is : r ≡ 
 
     pub read_inside : r.number ≡ 0 → in_range p.lowest p.highest r.label ≡ true
         → (first_of (place_checks (Some at) p area code) ≡ none) × (label_by (Some at) p area ≡ r.label)
-    read_inside h e = (checks_are ∙ rw (eq-eqb r.number 0 h, e), ap (λ (x : Reading). x.label) (sym r_is))
+    read_inside h e = (checks_are ∙ rw (eq-eqb r.number 0 h, e), ap (λ (x : Reading). x.label) (sym is))
 
   pub read_formed : WholeAt Cipso area at → Octets (option_at at area) → port_sound p ≡ true → r.number ≡ 0 → well_formed r.label ≡ true
   read_formed o oct s h =
-      let m = (reads.for p.domain).means (option_at at area) oct (placed_framed area at o).framed (sound p s).owned (ap (λ (x : Reading). x.number) (sym r_is) ∙ h) in
-      ap (λ (x : Reading). well_formed x.label) r_is ∙ m.label
+      let m = (reads.for p.domain).means (option_at at area) oct (placed_framed area at o).framed (sound p s).owned (ap (λ (x : Reading). x.number) (sym is) ∙ h) in
+      ap (λ (x : Reading). well_formed x.label) is ∙ m.label
 
   pub read_points : WholeAt Cipso area at → length area ≤ 40 → r.pointer ≤ 50
   read_points o h =
       let f = placed_framed area at o in
-      let q : r.pointer ≤ length (option_at at area) + 10 = rw (r_is) (reading_pointer p.domain (option_at at area)) in
+      let q : r.pointer ≤ length (option_at at area) + 10 = rw is (reading_pointer p.domain (option_at at area)) in
       omega (arith, f.size, f.inside)
 
 -- The option is read into keys: what is answered, and what the keys hold.
 module _ (p : Port) (area keys keys' : List ℕ) (at code : ℕ) (r : KeyReading)
-    (is : ReadsKeys p.domain (take (at + get_or area (at + 1) 0 - at) (drop at area)) keys keys' r) (room : 120 ≤ length keys) where
+    (is : ReadsKeys p.domain (option_at at area) keys keys' r) (room : 120 ≤ length keys) where
   abbrev whole : Reading
   whole = labelled p.domain r keys'
 
   abbrev rs : List Run
   rs = key_runs (take r.count keys')
 
-  here : at + get_or area (at + 1) 0 - at ≡ get_or area (at + 1) 0
-  here = omega arith
-
-  left_is : keys' ≡ keys_by (Some at) p area keys
-  left_is = is.left ∙ ap (λ (k : ℕ). keys_after p.domain (take k (drop at area)) keys) here
-
   answer_is : r ≡ keyed (reading_for p.domain (option_at at area))
   unfolding key_reading_for
-  answer_is = (rw (le-ltb (length keys) 120 room) at is.answer) ∙ ap (λ (k : ℕ). keyed (reading_for p.domain (take k (drop at area)))) here
-
-  reading_is : whole ≡ reading_for p.domain (option_at at area)
-  reading_is = is.reading room ∙ ap (λ (k : ℕ). reading_for p.domain (take k (drop at area))) here
+  answer_is = rw (le-ltb (length keys) 120 room) at is.answer
 
   -- whether 23 decides
   abbrev stops : Bool
-  stops = stops_slack p.strict r.number (take (at + get_or area (at + 1) 0 - at) (drop at area))
+  stops = stops_slack p.strict r.number (option_at at area)
 
   pub keys_slack : stops ≡ true → ArrivesAt (Some at) p area code keys keys' (stopped 23 12 0 (20 + (at + 10)))
   keys_slack e =
       record {
         answer = ap (λ (o : Option Refusal). verdict_of o (label_by (Some at) p area).level (label_by (Some at) p area).count) (sym (read_slack p area at code whole (is.reading room) e));
-        left = left_is;
-        stands = λ z. absurd (omega arith);
+        left = is.left;
+        stands = tt;
       }
 
   pub keys_refused : stops ≡ false → (r.number ≡ 0 → ⊥) → ArrivesAt (Some at) p area code keys keys' (stopped r.number 12 0 (20 + (at + r.pointer)))
   keys_refused passed h =
       record {
         answer = ap (λ (o : Option Refusal). verdict_of o (label_by (Some at) p area).level (label_by (Some at) p area).count) (sym (read_refused p area at code whole (is.reading room) passed h));
-        left = left_is;
-        stands = λ z. absurd (h z);
+        left = is.left;
+        stands = tt;
       }
 
   pub keys_point : WholeAt Cipso area at → length area ≤ 40 → r.pointer ≤ 50
@@ -309,35 +295,31 @@ module _ (p : Port) (area keys keys' : List ℕ) (at code : ℕ) (r : KeyReading
     owner_is : whole.label.domain ≡ p.domain
     owner_is = rw (eq-eqb r.number 0 z)
 
-    held_is : held_between p.lowest p.highest (going r.level r.count) keys' ≡ in_range p.lowest p.highest whole.label
+    held_is : held_between p.lowest p.highest (passed_with r.level r.count) keys' ≡ in_range p.lowest p.highest whole.label
     held_is =
         let g = (sound p s).range in
-        held_in_range p.lowest p.highest whole.label (going r.level r.count) keys' g.low_formed g.high_formed formed_is
+        held_in_range p.lowest p.highest whole.label (passed_with r.level r.count) keys' g.low_formed g.high_formed formed_is
         (g.low_domain ∙ sym owner_is) (owner_is ∙ sym g.high_domain) refl (sym used_is)
 
-    pub keys_held : stops ≡ false → ArrivesAt (Some at) p area code keys keys'
-        (cond (held_between p.lowest p.highest (going r.level r.count) keys') (going r.level r.count) (stopped 14 3 code 0))
-    keys_held passed = go (held_between p.lowest p.highest (going r.level r.count) keys') refl
-      where
-        go : (b : Bool) → held_between p.lowest p.highest (going r.level r.count) keys' ≡ b
-            → ArrivesAt (Some at) p area code keys keys' (cond b (going r.level r.count) (stopped 14 3 code 0))
-        go true e =
-            record {
-              answer = ap (λ (x : KeyReading). going x.level x.count) answer_is
-                  ∙ ap (λ (o : Option Refusal). verdict_of o (label_by (Some at) p area).level (label_by (Some at) p area).count) (sym (read_inside p area at code whole (is.reading room) passed z (sym held_is ∙ e)).0);
-              left = left_is;
-              stands = λ w. sym used_is ∙ ap (λ (x : Reading). used x.label) reading_is;
-            }
-        go false e =
-            record {
-              answer = ap (λ (o : Option Refusal). verdict_of o (label_by (Some at) p area).level (label_by (Some at) p area).count) (sym (read_outside p area at code whole (is.reading room) passed z (sym held_is ∙ e)));
-              left = left_is;
-              stands = λ w. absurd (omega arith);
-            }
+    pub keys_held : stops ≡ false → (b : Bool) → held_between p.lowest p.highest (passed_with r.level r.count) keys' ≡ b
+        → ArrivesAt (Some at) p area code keys keys' (cond b (going r.level r.count) (stopped 14 3 code 0))
+    keys_held passed true e =
+        record {
+          answer = ap (λ (x : KeyReading). going x.level x.count) answer_is
+              ∙ ap (λ (o : Option Refusal). verdict_of o (label_by (Some at) p area).level (label_by (Some at) p area).count) (sym (read_inside p area at code whole (is.reading room) passed z (sym held_is ∙ e)).0);
+          left = is.left;
+          stands = sym used_is ∙ ap (λ (x : Reading). used x.label) (is.reading room);
+        }
+    keys_held passed false e =
+        record {
+          answer = ap (λ (o : Option Refusal). verdict_of o (label_by (Some at) p area).level (label_by (Some at) p area).count) (sym (read_outside p area at code whole (is.reading room) passed z (sym held_is ∙ e)));
+          left = is.left;
+          stands = tt;
+        }
 
 -- No option: 6, or the assigned label, which is in the range of a sound port.
 pub none_required : (p : Port) (area keys : List ℕ) (code : ℕ) → p.required ≡ true → ArrivesAt None p area code keys keys (stopped 6 12 1 134)
-none_required p area keys code e = record { answer = rw e; left = rw e; stands = λ z. absurd (omega arith) }
+none_required p area keys code e = record { answer = rw e; left = rw e; stands = tt }
 
 pub none_assigned : (p : Port) (area keys keys' : List ℕ) (code : ℕ) → port_sound p ≡ true → p.required ≡ false → 120 ≤ length keys → keys' ≡ with_keys p.assigned keys
     → ArrivesAt None p area code keys keys' (going p.assigned.level p.assigned.count)
@@ -345,15 +327,8 @@ none_assigned p area keys keys' code s e h w =
     record {
       answer = rw (e, (sound p s).assigned e);
       left = rw e w;
-      stands = λ z. rw w (label_stands p.assigned keys ((sound p s).assigned_formed e) h);
+      stands = rw w (label_stands p.assigned keys ((sound p s).assigned_formed e) h);
     }
-
--- 19 to 21 have numbers.
-pub basic_real : (b : Place) (on : Bool) (way : Way) (area : List ℕ) (code : ℕ) → Real (first_of (basic_checks b on way area code))
-basic_real b on way area code =
-    late_real (first_of (basic_checks b on way area code))
-    (late_first (basic_checks b on way area code)
-    ((bad_late b area).0, ((missing_late (octets_at b area) on).0, ((range_late (not (basic_passes on way (octets_at b area))) code).0, tt))))
 
 -- A port that does not read option 130 meets none.
 pub off_none : (p : Port) (area : List ℕ) → p.basic.on ≡ false → arriving_basic p area ≡ none
@@ -370,10 +345,10 @@ unfolding arriving_basic
 on_some p area o e g = ap (λ (t : Bool). octets_at (basic_in (walk_of t area)) area) (sym e) ∙ g
 
 -- What 19 to 21 answer, return by return.
-pub open_closed : (r : Verdict) (o : Option Refusal) → is_open r.number ≡ false → r ≡ before_range r o
+pub open_closed : (r : Verdict) (o : Option Refusal) → is_open r ≡ false → r ≡ before_range r o
 open_closed r o e = sym (ap (λ (b : Bool). cond b (instead_of r o) r) e)
 
-module _ (r : Verdict) (way : Way) (area : List ℕ) (code : ℕ) (asked : is_open r.number ≡ true) where
+module _ (r : Verdict) (way : Way) (area : List ℕ) (code : ℕ) (asked : is_open r ≡ true) where
   answered_by : (b : Place) (o : Option Refusal) → first_of (basic_checks b true way area code) ≡ o
       → instead_of r o ≡ before_range r (first_of (basic_checks b true way area code))
   answered_by b o e = sym (ap (λ (t : Bool). cond t (instead_of r (first_of (basic_checks b true way area code))) r) asked ∙ ap (instead_of r) e)
@@ -404,12 +379,12 @@ checks_at r way area code p q e = sym (ap (λ (x : Place). before_range r (first
 module _ (p : Port) (area keys : List ℕ) (code : ℕ) where
   pub port_sized : (bad_area area || ltb (length keys) 120) ≡ true → Arrives p area code keys keys (stopped 1 0 0 0)
   unfolding arrival_of arrival_keys
-  port_sized e = record { answer = rw e; left = rw e; stands = λ z. absurd (omega arith) }
+  port_sized e = record { answer = rw e; left = rw e; stands = tt }
 
   module _ (sized : (bad_area area || ltb (length keys) 120) ≡ false) where
     pub port_unsound : port_sound p ≡ false → Arrives p area code keys keys (stopped 2 0 0 0)
     unfolding arrival_of arrival_keys
-    port_unsound e = record { answer = rw (sized, e); left = rw (sized, e); stands = λ z. absurd (omega arith) }
+    port_unsound e = record { answer = rw (sized, e); left = rw (sized, e); stands = tt }
 
     module _ (s : port_sound p ≡ true) where
       pub port_walked : (n at : ℕ) → walk_at p area ≡ Err (fault n at) → Arrives p area code keys keys (stopped n 12 0 (20 + at))
@@ -418,7 +393,7 @@ module _ (p : Port) (area keys : List ℕ) (code : ℕ) where
           record {
             answer = rw (sized, s, arrival_refused p area code n at e);
             left = rw (sized, s, e);
-            stands = λ z. absurd (omega (arith, (area_refused p.basic.on area n at e).0));
+            stands = tt;
           }
 
       -- what 6 to 13, 23 and 14 answered, with 19 to 21 between
@@ -438,9 +413,7 @@ module _ (p : Port) (area keys : List ℕ) (code : ℕ) where
           record {
             answer = rw (sized, s, a.1) g;
             left = rw (sized, s, e) w.left;
-            stands = λ z.
-                (let q : before_range r o ≡ r = before_zero r o (basic_real b p.basic.on p.basic.receiving area code) z in
-                rw (q, a.1) (w.stands (ap (λ (x : Verdict). x.number) (sym q) ∙ z)));
+            stands = before_ok r o _ (rw a.1 w.stands);
           }
 
       -- where the port does not read option 130 there is none

@@ -5,12 +5,14 @@ use mathlib.Core.List.{List, [], ◌∷◌, ◌++◌}
 use mathlib.Core.Option.{Option, none, some}
 use Prim.Native.Nat.{ℕ, ◌≤◌}
 use native.Mathlib.Omega.{arith}
+use lib.Dec.{eqb}
 use borrow.Author.Tests.{ne_eqb}
-use Rattle.decision.specs.declared.Verdict.{Verdict}
-use Rattle.decision.specs.Decision.{Refusal}
+use Rattle.std.specs.Prelude.{Ok, Err, IfOk}
+use Rattle.decision.specs.declared.Passed.{Passed}
+use Rattle.decision.specs.declared.Refusal.{Refusal}
 use Rattle.arrive.specs.Checks.{barred, when, first_of, NoneApplies}
-use Rattle.decision.specs.Verdict.{verdict_of}
-use Rattle.arrive.specs.Stages.{is_open, before_range}
+use Rattle.decision.specs.Verdict.{Verdict, verdict_of}
+use Rattle.arrive.specs.Stages.{instead_of, before_range}
 
 abbrev pub or_else : Option Refusal → Option Refusal → Option Refusal
 or_else (some r) o = some r
@@ -65,10 +67,10 @@ pub late_real : (o : Option Refusal) → Late o → Real o
 late_real none h = tt
 late_real (some r) h = λ z. omega arith
 
--- A refusal's number is neither 0 nor 14: it comes before the range.
+-- A refusal's number is not 14: it comes before the range.
 abbrev pub Early : Option Refusal → Type 0
 Early none = Unit {0}
-Early (some r) = (r.number ≡ 0 → ⊥) × (r.number ≡ 14 → ⊥)
+Early (some r) = r.number ≡ 14 → ⊥
 
 abbrev pub AllEarly : List (Option Refusal) → Type 0
 AllEarly [] = Unit {0}
@@ -79,9 +81,9 @@ early_first [] a = tt
 early_first (some r ∷ cs) a = a.0
 early_first (none ∷ cs) a = early_first cs a.1
 
-pub early_when : (b : Bool) (r : Refusal) → (r.number ≡ 0 → ⊥) → (r.number ≡ 14 → ⊥) → Early (when b r)
-early_when true r h k = (h, k)
-early_when false r h k = tt
+pub early_when : (b : Bool) (r : Refusal) → (r.number ≡ 14 → ⊥) → Early (when b r)
+early_when true r h = h
+early_when false r h = tt
 
 -- Checks that are asked after those before the range and come before it: the verdict of the others, unless one of these comes before it.
 pub between : (xs ys : List (Option Refusal)) (b : Bool) (code v n : ℕ) → Early (first_of xs)
@@ -96,7 +98,7 @@ between xs ys b code v n h =
     go : (x y : Option Refusal) (b : Bool) → Early x
         → before_range (verdict_of (or_else x (first_of (when b (barred 14 code) ∷ []))) v n) y
         ≡ verdict_of (or_else x (or_else y (first_of (when b (barred 14 code) ∷ [])))) v n
-    go (some x) y b e = rw (ne_eqb x.number 0 e.0, ne_eqb x.number 14 e.1)
+    go (some x) y b e = rw (ne_eqb x.number 14 e)
     go none none true e = refl
     go none none false e = refl
     go none (some y) true e = refl
@@ -104,19 +106,23 @@ between xs ys b code v n h =
 
 -- what is left as it was, where nothing applies
 pub before_none : (r : Verdict) → before_range r none ≡ r
-before_none r = go (is_open r.number)
+before_none (Ok p) = refl
+before_none (Err r) = go (eqb r.number 14)
   where
-    go : (b : Bool) → cond b r r ≡ r
+    go : (b : Bool) → cond b (instead_of (Err r) none) (Err r) ≡ Err r
     go true = refl
     go false = refl
 
-pub before_zero : (r : Verdict) (o : Option Refusal) → Real o → (before_range r o).number ≡ 0 → before_range r o ≡ r
-before_zero r none h e = before_none r
-before_zero r (some x) h e = go (is_open r.number) e
+-- what has passed these has passed the others
+pub before_ok : (r : Verdict) (o : Option Refusal) (P : Passed → Type 0) → IfOk r P → IfOk (before_range r o) P
+before_ok (Ok p) none P h = h
+before_ok (Ok p) (some x) P h = tt
+before_ok (Err r) o P h = go (eqb r.number 14) o
   where
-    go : (b : Bool) → (cond b (verdict_of (some x) 0 0) r).number ≡ 0 → cond b (verdict_of (some x) 0 0) r ≡ r
-    go true e = absurd (h e)
-    go false e = refl
+    go : (b : Bool) (o : Option Refusal) → IfOk (cond b (instead_of (Err r) o) (Err r)) P
+    go true none = tt
+    go true (some x) = tt
+    go false o = tt
 
 -- Where no check applies, none of them does.
 pub first_none : (cs : List (Option Refusal)) → first_of cs ≡ none → NoneApplies cs
@@ -131,22 +137,6 @@ none_first (c ∷ cs) a = rw a.0 (none_first cs a.1)
 pub when_none : (b : Bool) (r : Refusal) → when b r ≡ none → b ≡ false
 when_none true r e = let z : ◌≡◌ {A = ℕ} 0 1 = cc in absurd (omega arith)
 when_none false r e = refl
-
--- What a stage's verdict says of its checks.
-module _ (o : Option Refusal) (v n : ℕ) (r : Verdict) (real : Real o) (is : r ≡ verdict_of o v n) where
-  pub verdict_none : r.number ≡ 0 → (o ≡ none) × (r ≡ verdict_of none v n)
-  verdict_none z = go o real is
-    where
-      go : (o : Option Refusal) → Real o → r ≡ verdict_of o v n → (o ≡ none) × (r ≡ verdict_of none v n)
-      go none h e = (refl, e)
-      go (some x) h e = absurd (h (sym (ap (λ (q : Verdict). q.number) e) ∙ z))
-
-  pub verdict_some : (r.number ≡ 0 → ⊥) → (x : Refusal) × (o ≡ some x) × (r ≡ verdict_of (some x) v n)
-  verdict_some z = go o is
-    where
-      go : (o : Option Refusal) → r ≡ verdict_of o v n → (x : Refusal) × (o ≡ some x) × (r ≡ verdict_of (some x) v n)
-      go none e = absurd (z (ap (λ (q : Verdict). q.number) e))
-      go (some x) e = (x, refl, e)
 
 -- tests that do not pass
 pub not_false_yes : (b : Bool) → not b ≡ false → b ≡ true

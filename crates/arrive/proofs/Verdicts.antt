@@ -17,21 +17,21 @@ use Rattle.label_keys.specs.Range.{set_in_range}
 use Rattle.label_keys.proofs.Keys.{keys_runs}
 use Rattle.label.proofs.Labels.{formed, used_length, of_used}
 use Rattle.label_keys.proofs.Range.{look_right, set_in_range_lem}
-use Rattle.decision.specs.declared.Verdict.{Verdict}
+use Rattle.decision.specs.declared.Passed.{Passed}
 use Rattle.arrive.specs.Stages.{held_between}
 
 -- keys that are spaced, held against a range of well-formed labels
-pub held_in_set : (lowest highest : Label) (r : Verdict) (keys : List ℕ) → well_formed lowest ≡ true → well_formed highest ≡ true
-    → spaced 0 (key_runs (take r.count keys)) ≡ true
-    → held_between lowest highest r keys ≡ set_in_range lowest highest r.level (key_runs (take r.count keys))
-held_in_set lowest highest r keys wl wh s = look_right lowest highest r.level wl wh (key_runs (take r.count keys)) s
+pub held_in_set : (lowest highest : Label) (p : Passed) (keys : List ℕ) → well_formed lowest ≡ true → well_formed highest ≡ true
+    → spaced 0 (key_runs (take p.count keys)) ≡ true
+    → held_between lowest highest p keys ≡ set_in_range lowest highest p.level (key_runs (take p.count keys))
+held_in_set lowest highest p keys wl wh s = look_right lowest highest p.level wl wh (key_runs (take p.count keys)) s
 
 -- those of a well-formed label, against a range of its domain
-pub held_in_range : (lowest highest l : Label) (r : Verdict) (keys : List ℕ) → well_formed lowest ≡ true → well_formed highest ≡ true → well_formed l ≡ true
-    → lowest.domain ≡ l.domain → l.domain ≡ highest.domain → r.level ≡ l.level → key_runs (take r.count keys) ≡ used l
-    → held_between lowest highest r keys ≡ in_range lowest highest l
-held_in_range lowest highest l r keys wl wh w d e v k =
-    held_in_set lowest highest r keys wl wh (rw k (formed l w).runs)
+pub held_in_range : (lowest highest l : Label) (p : Passed) (keys : List ℕ) → well_formed lowest ≡ true → well_formed highest ≡ true → well_formed l ≡ true
+    → lowest.domain ≡ l.domain → l.domain ≡ highest.domain → p.level ≡ l.level → key_runs (take p.count keys) ≡ used l
+    → held_between lowest highest p keys ≡ in_range lowest highest l
+held_in_range lowest highest l p keys wl wh w d e v k =
+    held_in_set lowest highest p keys wl wh (rw k (formed l w).runs)
     ∙ (λ i. set_in_range lowest highest (v i) (k i))
     ∙ set_in_range_lem lowest highest l wl wh w d e
 

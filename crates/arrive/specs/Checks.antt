@@ -15,7 +15,7 @@ use Rattle.basic.specs.declared.Way.{Way}
 use Rattle.basic.specs.Alone.{basic_reading}
 use Rattle.basic.specs.Settings.{passes_read}
 use Rattle.port.specs.declared.Port.{Port}
-use Rattle.decision.specs.Decision.{Refusal}
+use Rattle.decision.specs.declared.Refusal.{Refusal}
 
 -- "silent" is type, code and pointer all 0
 abbrev pub silent : ℕ → Refusal

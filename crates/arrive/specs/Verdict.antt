@@ -4,13 +4,12 @@ use Rattle.std.proofs.Math.Option.{Option}
 use Rattle.label.specs.Label.{used}
 use Rattle.label_keys.specs.Keys.{key_runs, with_keys}
 use Rattle.option_read.specs.Keys.{keys_after}
-use Rattle.std.specs.Prelude.{Ok, Err, Some, None}
+use Rattle.std.specs.Prelude.{Ok, Err, IfOk, Some, None}
 use Rattle.area.specs.Kinds.{Place, Walk}
 use Rattle.port.specs.declared.Port.{Port}
 use Rattle.port.specs.Port.{port_sound}
-use Rattle.decision.specs.declared.Verdict.{Verdict}
-use Rattle.decision.specs.Decision.{Refusal}
-use Rattle.decision.specs.Verdict.{verdict_of}
+use Rattle.decision.specs.declared.Refusal.{Refusal}
+use Rattle.decision.specs.Verdict.{Verdict, verdict_of}
 use Rattle.area.specs.Area.{bad_area}
 use Rattle.arrive.specs.Checks.{silent, when, first_of, walk_at, option_at, arriving_label, arrival_checks}
 
@@ -40,4 +39,4 @@ arrival_keys port area keys =
 pub record Arrives (port : Port) (area : List ℕ) (code : ℕ) (keys keys' : List ℕ) (r : Verdict) : Type 0 where
   pub answer : r ≡ arrival_of port area code (length keys)
   pub left : keys' ≡ arrival_keys port area keys
-  pub stands : r.number ≡ 0 → key_runs (take r.count keys') ≡ used (arriving_label port area)
+  pub stands : IfOk r (λ p. key_runs (take p.count keys') ≡ used (arriving_label port area))

@@ -108,12 +108,12 @@ pub enum BasicError {
     Bad,
 }
 
-impl BasicError {
-    // The number of the refusal.
-    pub fn number(self) -> u8
-        ensures { result ≡ number_of self }
-    {
-        match self {
+// The number of the refusal.
+impl From<BasicError> for u8 {
+    ghost from_gives = { λ e n. n ≡ number_of e };
+
+    fn from(error: BasicError) -> u8 {
+        match error {
             BasicError::Short => 1,
             BasicError::Bad => BAD_BASIC,
         }
@@ -155,7 +155,7 @@ fn octet_at(octets: &[u8], i: usize) -> u8
 fn framed(n: usize, kind: u8, size: u8) -> bool
     ensures { result ≡ framed_at n kind size }
 {
-    (FLAGS_AT <= n) & (n <= BASIC_OCTETS) & (kind == BASIC_TYPE) & (size as usize == n)
+    (FLAGS_AT <= n) & (n <= BASIC_OCTETS) & (kind == BASIC_TYPE) & (usize::from(size) == n)
 }
 
 // Whether the low bits of the flag octets that an option of n octets has say which one is the last.
@@ -175,7 +175,7 @@ fn ended(n: usize, first: u8, second: u8) -> bool
 fn flag_field(first: u8, second: u8) -> u16
     ensures { result ≡ flag_field first second }
 {
-    (first / 2) as u16 * 128 + (second / 2) as u16
+    u16::from(first / 2) * OCTET_FLAGS + u16::from(second / 2)
 }
 
 // Writes the shortest option of a level and a flag field, and tells how many octets it has: only these change, and none where it is refused.
@@ -341,7 +341,7 @@ pub fn passes_way(way: Way, level: u8, flags: u16) -> bool
     permits(way, flags)
 }
 
-// Whether the flag field is one of the first `count`, in one pass that does not end early.
+// Whether the flag field is one of the first `count`, in one pass that does not end early: one that has only some of the flags is another.
 #[tactic(auto, using(crate::proofs::Settings::among_more))]
 fn permits(way: Way, flags: u16) -> bool
     ensures { result ≡ among (take way.count way.flags) flags }
@@ -349,14 +349,7 @@ fn permits(way: Way, flags: u16) -> bool
     let n = way.count.min(MAX_FIELDS);
     let mut found = false;
     for field in &way.flags[..n] {
-        found |= same_field(*field, flags);
+        found |= *field == flags;
     }
     found
-}
-
-// Flag fields are held against each other whole: one that has only some of the flags is another.
-fn same_field(permitted: u16, flags: u16) -> bool
-    ensures { result ≡ eqb permitted flags }
-{
-    permitted == flags
 }

@@ -76,7 +76,7 @@ pub fn inglebreek_spell(
             0
         }
         Err(error) => {
-            let number = error.number();
+            let number = u8::from(error);
             put_numbers(answer, &[number as u64, 0]);
             number
         }

@@ -46,7 +46,7 @@ pub fn time_spell(octets: &[u8], size: usize, out: &mut [u8], times: usize) -> u
         let label = labels[i % LABELS];
         let (number, count) = match spell_label(label, permitted, &mut out[..]) {
             Ok(count) => (0, count),
-            Err(error) => (error.number(), 0),
+            Err(error) => (u8::from(error), 0),
         };
         total = mix(mix(total, usize::from(number)), count);
     }

@@ -48,7 +48,7 @@ fn put_built(line: &mut Line, answer: Result<Option<Built>, BuildError>) {
     match answer {
         Ok(Some(built)) => put_counts(line, 0, built.message, built.options),
         Ok(None) => put_counts(line, 0, 0, 0),
-        Err(error) => put_counts(line, error.number(), 0, 0),
+        Err(error) => put_counts(line, u8::from(error), 0, 0),
     }
 }
 

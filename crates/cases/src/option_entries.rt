@@ -31,7 +31,7 @@ fn put_spelled(case: &mut Case, label: Label, permitted: Spellings, line: &mut L
     let mut space = [lent.fill; LONGEST];
     let (number, count) = match spell_label(label, permitted, &mut space[..room]) {
         Ok(count) => (0, count),
-        Err(error) => (error.number(), 0),
+        Err(error) => (u8::from(error), 0),
     };
     put_counted(line, number, count, &space, room);
     Some(())
@@ -79,7 +79,7 @@ pub fn ask_write_basic(case: &mut Case, line: &mut Line) -> Option<()> {
     let mut space = [lent.fill; LONGEST];
     match write_basic(level, flags, &mut space[..room]) {
         Ok(count) => put_counted(line, 0, count, &space, room),
-        Err(error) => put_counted(line, error.number(), 0, &space, room),
+        Err(error) => put_counted(line, u8::from(error), 0, &space, room),
     }
     Some(())
 }

@@ -5,13 +5,7 @@ use Rattle.label.specs.declared.Label.{Label}
 use Rattle.label.specs.Label.{zero_label}
 use Rattle.decision.specs.declared.Decision.{Decision}
 use Rattle.decision.specs.declared.Facts.{Facts}
-
--- a refusal: its number, and its ICMP type, code and pointer
-pub record Refusal : Type 0 where
-  pub number : ℕ
-  pub kind : ℕ
-  pub code : ℕ
-  pub pointer : ℕ
+use Rattle.decision.specs.declared.Refusal.{Refusal}
 
 -- RFC 1122, section 3.2.2: no error goes out about an ICMP error message, a broadcast or multicast destination, a link-layer broadcast, a
 -- fragment other than the first, or a source that is not one host; any of these facts silences

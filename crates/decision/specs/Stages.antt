@@ -1,10 +1,7 @@
 -- What a private stage of concluding answers; no public contract names it.
-use Rattle.std.specs.Prelude.{Bool, cond, eqb}
-use Rattle.decision.specs.declared.Verdict.{Verdict}
-use Rattle.decision.specs.Verdict.{stopped, going}
+use Rattle.std.specs.Prelude.{Bool, cond}
+use Rattle.decision.specs.declared.Refusal.{Refusal}
 
--- a verdict, if the datagram is silenced
-abbrev pub reported : Bool → Verdict → Verdict
-reported quiet r =
-    cond (eqb r.number 0) (going r.level r.count)
-    (cond quiet (stopped r.number 0 0 0) (stopped r.number r.kind r.code r.pointer))
+-- what is reported of a refusal, if the datagram is silenced
+abbrev pub reported : Bool → Refusal → Refusal
+reported quiet r = record { number = r.number; kind = cond quiet 0 r.kind; code = cond quiet 0 r.code; pointer = cond quiet 0 r.pointer }

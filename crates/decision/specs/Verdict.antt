@@ -1,15 +1,23 @@
 -- What is decided on the way to a decision, without the label, whose categories stand in a lent list as keys.
-use Rattle.std.specs.Prelude.{Bool, cond, List, ℕ, eqb, take}
+use Rattle.std.specs.Prelude.{Bool, false, List, ℕ, eqb, take, Result, Ok, Err}
 use Rattle.std.proofs.Math.Option.{Option, none, some}
 use Rattle.label_keys.specs.Keys.{key_runs, label_from}
 use Rattle.decision.specs.declared.Decision.{Decision}
-use Rattle.decision.specs.declared.Verdict.{Verdict}
-use Rattle.decision.specs.Decision.{Refusal, refused, done}
+use Rattle.decision.specs.declared.Passed.{Passed}
+use Rattle.decision.specs.declared.Refusal.{Refusal}
+use Rattle.decision.specs.Decision.{refused, done}
 
--- the refusal of the first check that applies, with level and count 0; or 0 with the level and the count of keys
+-- what has passed so far, or the refusal of the first check that applies
+abbrev pub Verdict : Type 0
+Verdict = Result Passed Refusal
+
+-- a level and a count of keys
+abbrev pub passed_with : ℕ → ℕ → Passed
+passed_with v n = record { level = v; count = n }
+
 abbrev pub verdict_of : Option Refusal → ℕ → ℕ → Verdict
-verdict_of (some r) v n = record { number = r.number; kind = r.kind; code = r.code; pointer = r.pointer; level = 0; count = 0 }
-verdict_of none v n = record { number = 0; kind = 0; code = 0; pointer = 0; level = v; count = n }
+verdict_of (some r) v n = Err r
+verdict_of none v n = Ok (passed_with v n)
 
 -- a check that applies, by its parts
 abbrev pub stopped : ℕ → ℕ → ℕ → ℕ → Verdict
@@ -19,8 +27,12 @@ stopped n k c p = verdict_of (some (record { number = n; kind = k; code = c; poi
 abbrev pub going : ℕ → ℕ → Verdict
 going v n = verdict_of none v n
 
+-- whether the check of a number has applied
+abbrev pub stopped_by : ℕ → Verdict → Bool
+stopped_by n (Ok p) = false
+stopped_by n (Err r) = eqb r.number n
+
 -- the decision of a verdict: the label with the runs of the first keys and a count, or the refusal
 unfoldable pub concluded : Verdict → ℕ → Bool → ℕ → List ℕ → Decision
-concluded r domain quiet n keys =
-    cond (eqb r.number 0) (done (label_from domain r.level (key_runs (take r.count keys))) n)
-    (refused quiet (record { number = r.number; kind = r.kind; code = r.code; pointer = r.pointer }))
+concluded (Ok p) domain quiet n keys = done (label_from domain p.level (key_runs (take p.count keys))) n
+concluded (Err r) domain quiet n keys = refused quiet r

@@ -2,7 +2,7 @@
 // document 02, Wish 2).
 #![tactic(auto)]
 
-ghost use Rattle.std.specs.Prelude.{◌≡◌, cond, eqb};
+ghost use Rattle.std.specs.Prelude.{◌≡◌};
 ghost use Rattle.decision.specs.Decision.{silenced};
 ghost use Rattle.decision.specs.Verdict.{stopped, going, concluded};
 ghost use Rattle.decision.specs.Stages.{reported};
@@ -22,17 +22,24 @@ pub struct Decision {
     pub label: Label,
 }
 
-// What is decided so far, without the label: 0, the level, and how many keys of a lent list hold the categories; or a refusal with level and
-// count 0.
+// What has passed so far, without the label: the level, and how many keys of a lent list hold the categories.
 #[derive(Clone, Copy)]
-pub struct Verdict {
+pub struct Passed {
+    pub level: u8,
+    pub count: usize,
+}
+
+// A refusal: its number, and its ICMP type, code and pointer.
+#[derive(Clone, Copy)]
+pub struct Refusal {
     pub number: u8,
     pub kind: u8,
     pub code: u8,
     pub pointer: u8,
-    pub level: u8,
-    pub count: usize,
 }
+
+// What is decided so far: what has passed, or the refusal of the first check that applies.
+pub type Verdict = Result<Passed, Refusal>;
 
 // What the caller states of a datagram (RFC 1122, section 3.2.2): no error goes out about one of which any of these holds.
 #[derive(Clone, Copy)]
@@ -55,19 +62,31 @@ pub fn conclude(verdict: Verdict, domain: u32, facts: Facts, count: usize, keys:
     ensures { result ≡ concluded verdict domain (silenced facts) count keys.now }
 {
     let quiet = is_silenced(facts);
-    let said = report(verdict, quiet);
-    let owner = owned_by(said.number, domain);
+    let (passed, said, owner, n) = match verdict {
+        Ok(passed) => (passed, NO_REFUSAL, domain, count),
+        Err(refusal) => (NONE_PASSED, report(refusal, quiet), 0, 0),
+    };
     // one exit, so that the label is built where it is returned
-    let label = to_label(keys, said.count, owner, said.level);
+    let label = to_label(keys, passed.count, owner, passed.level);
     Decision {
         number: said.number,
         kind: said.kind,
         code: said.code,
         pointer: said.pointer,
-        count: counted_by(said.number, count),
+        count: n,
         label: label,
     }
 }
+
+// What a decision says of a refusal where there is none, and what its label is made of where there is one.
+const NO_REFUSAL: Refusal = Refusal {
+    number: 0,
+    kind: 0,
+    code: 0,
+    pointer: 0,
+};
+
+const NONE_PASSED: Passed = Passed { level: 0, count: 0 };
 
 // ICMP types (RFC 792): destination unreachable, and parameter problem.
 const UNREACHABLE: u8 = 3;
@@ -114,28 +133,19 @@ pub fn barred(number: u8, code: u8) -> Verdict
 pub fn stop(number: u8, kind: u8, code: u8, pointer: u8) -> Verdict
     ensures { result ≡ stopped number kind code pointer }
 {
-    Verdict {
-        number: number,
-        kind: kind,
-        code: code,
-        pointer: pointer,
-        level: 0,
-        count: 0,
-    }
+    Err(Refusal {
+        number,
+        kind,
+        code,
+        pointer,
+    })
 }
 
 // No check has applied so far.
 pub fn go_on(level: u8, count: usize) -> Verdict
     ensures { result ≡ going level count }
 {
-    Verdict {
-        number: 0,
-        kind: 0,
-        code: 0,
-        pointer: 0,
-        level: level,
-        count: count,
-    }
+    Ok(Passed { level, count })
 }
 
 // Whether any of the five facts holds.
@@ -146,34 +156,16 @@ fn is_silenced(facts: Facts) -> bool
 }
 
 // What is reported of a refusal: its number alone where the datagram is silenced.
-fn report(verdict: Verdict, quiet: bool) -> Verdict
-    ensures { result ≡ reported quiet verdict }
+fn report(refusal: Refusal, quiet: bool) -> Refusal
+    ensures { result ≡ reported quiet refusal }
 {
-    if verdict.number == 0 {
-        return go_on(verdict.level, verdict.count);
-    }
     if quiet {
-        return silent(verdict.number);
+        return Refusal {
+            number: refusal.number,
+            kind: 0,
+            code: 0,
+            pointer: 0,
+        };
     }
-    stop(verdict.number, verdict.kind, verdict.code, verdict.pointer)
-}
-
-// A refusal's label is of domain 0.
-fn owned_by(number: u8, domain: u32) -> u32
-    ensures { result ≡ cond (eqb number 0) domain 0 }
-{
-    if number == 0 {
-        return domain;
-    }
-    0
-}
-
-// A refusal's count is 0.
-fn counted_by(number: u8, count: usize) -> usize
-    ensures { result ≡ cond (eqb number 0) count 0 }
-{
-    if number == 0 {
-        return count;
-    }
-    0
+    refusal
 }

@@ -12,11 +12,11 @@ use Rattle.label.specs.Label.{used, in_range}
 use Rattle.label_keys.specs.Keys.{key_runs, label_from}
 use Rattle.port.specs.Port.{port_sound, host_sound}
 use Rattle.port.proofs.Laws.{host_range}
-use Rattle.decision.specs.declared.Verdict.{Verdict}
-use Rattle.decision.specs.Decision.{Refusal, silenced, refused, done}
+use Rattle.decision.specs.declared.Refusal.{Refusal}
+use Rattle.decision.specs.Decision.{silenced, refused, done}
 use Rattle.area.specs.Area.{bad_area}
 use Rattle.arrive.specs.Checks.{silent, barred, first_of, arriving_label, arrival_checks}
-use Rattle.decision.specs.Verdict.{verdict_of, stopped, concluded}
+use Rattle.decision.specs.Verdict.{Verdict, passed_with, verdict_of, stopped, concluded}
 use Rattle.arrive.specs.Verdict.{arrival_of, Arrives}
 use Rattle.arrive.specs.Stages.{held_between}
 use Rattle.deliver.specs.Delivery.{Delivery, delivery_sizes, delivery_records, host_check, deliver_checks, deliver_of}
@@ -70,11 +70,11 @@ module _ (d : Delivery) (keys keys' : List ℕ) (a v : Verdict) (room : 120 ≤ 
   answer o = verdict_of o label.level label.count
 
   -- a refusal
-  by_refusal : (o : Option Refusal) (x : Refusal) → a ≡ answer o → hosted_by (answer o) d.host d.port.domain keys' ≡ answer (some x) → (x.number ≡ 0 → ⊥)
+  by_refusal : (o : Option Refusal) (x : Refusal) → a ≡ answer o → hosted_by (answer o) d.host d.port.domain keys' ≡ answer (some x)
       → first_of (deliver_checks d) ≡ some x → concluded v d.port.domain (silenced d.facts) 0 keys' ≡ deliver_of d
-  by_refusal o x e f h g =
+  by_refusal o x e f g =
       ap (λ (r : Verdict). concluded r d.port.domain (silenced d.facts) 0 keys') (hosted ∙ ap (λ (r : Verdict). hosted_by r d.host d.port.domain keys') e ∙ f)
-      ∙ concluded_refused x label.level label.count d.port.domain 0 (silenced d.facts) keys' h
+      ∙ concluded_refused x label.level label.count d.port.domain 0 (silenced d.facts) keys'
       ∙ deliver_refused d x g
 
   size_is : bad_area d.area ≡ true → a ≡ answer (some (silent 1))
@@ -112,20 +112,20 @@ module _ (d : Delivery) (keys keys' : List ℕ) (a v : Verdict) (room : 120 ≤ 
       module _ (h : host_sound d.host d.port.domain ≡ true) where
         stopped_host : (x : Refusal) → 3 ≤ x.number → hosted_by (answer (some x)) d.host d.port.domain keys' ≡ answer (some x)
         unfolding hosted_by
-        stopped_host x t = rw (ne_eqb x.number 1 (λ z. omega arith), h, ne_eqb x.number 0 (λ z. omega arith))
+        stopped_host x t = rw (ne_eqb x.number 1 (λ z. omega arith), h)
 
         module _ (e : first_of (arrival_checks d.port d.area 10) ≡ none) where
           none_is : a ≡ answer none
           none_is = past_is ∙ ap answer e
 
           stand : key_runs (take label.count keys') ≡ used label
-          stand = ap (λ (r : Verdict). key_runs (take r.count keys')) (sym none_is) ∙ arrived.stands (ap (λ (r : Verdict). r.number) none_is)
+          stand = rw none_is at arrived.stands
 
-          held_is : held_between d.host.lowest d.host.highest (answer none) keys' ≡ in_range d.host.lowest d.host.highest label
+          held_is : held_between d.host.lowest d.host.highest (passed_with label.level label.count) keys' ≡ in_range d.host.lowest d.host.highest label
           held_is =
               let f = arrival_held d.port d.area 10 p e in
               let g = host_range d.host d.port.domain h in
-              held_in_range d.host.lowest d.host.highest label (answer none) keys' g.low_formed g.high_formed f.formed
+              held_in_range d.host.lowest d.host.highest label (passed_with label.level label.count) keys' g.low_formed g.high_formed f.formed
               (g.low_domain ∙ sym f.domain) (f.domain ∙ sym g.high_domain) refl stand
 
           ranged_host : (b : Bool) → in_range d.host.lowest d.host.highest label ≡ b
@@ -135,7 +135,7 @@ module _ (d : Delivery) (keys keys' : List ℕ) (a v : Verdict) (room : 120 ≤ 
           ranged_host false q = rw (h, held_is ∙ q)
 
           by_range : (b : Bool) → in_range d.host.lowest d.host.highest label ≡ b → concluded v d.port.domain (silenced d.facts) 0 keys' ≡ deliver_of d
-          by_range false q = by_refusal none (barred 15 10) none_is (ranged_host false q) (λ z. omega arith) (deliver_outside d sized p h e q)
+          by_range false q = by_refusal none (barred 15 10) none_is (ranged_host false q) (deliver_outside d sized p h e q)
           by_range true q =
               let f = arrival_held d.port d.area 10 p e in
               let l : label_from d.port.domain label.level (key_runs (take label.count keys')) ≡ label =
@@ -147,20 +147,20 @@ module _ (d : Delivery) (keys keys' : List ℕ) (a v : Verdict) (room : 120 ≤ 
 
         by_arrival : (o : Option Refusal) → first_of (arrival_checks d.port d.area 10) ≡ o → Late o → concluded v d.port.domain (silenced d.facts) 0 keys' ≡ deliver_of d
         by_arrival none e t = by_range e (in_range d.host.lowest d.host.highest label) refl
-        by_arrival (some x) e t = by_refusal (some x) x (past_is ∙ ap answer e) (stopped_host x t) (λ z. omega arith) (deliver_arrival d sized p h x e)
+        by_arrival (some x) e t = by_refusal (some x) x (past_is ∙ ap answer e) (stopped_host x t) (deliver_arrival d sized p h x e)
 
       by_host : (b : Bool) → host_sound d.host d.port.domain ≡ b → concluded v d.port.domain (silenced d.facts) 0 keys' ≡ deliver_of d
       by_host true h = by_arrival h (first_of (arrival_checks d.port d.area 10)) refl (arrival_late d.port d.area 10)
       by_host false h =
-          by_refusal (first_of (arrival_checks d.port d.area 10)) (silent 2) past_is (unsound_host (first_of (arrival_checks d.port d.area 10)) (arrival_late d.port d.area 10) h) (λ z. omega arith)
+          by_refusal (first_of (arrival_checks d.port d.area 10)) (silent 2) past_is (unsound_host (first_of (arrival_checks d.port d.area 10)) (arrival_late d.port d.area 10) h)
           (deliver_record d sized (rw (p, h)))
 
     by_port : (b : Bool) → port_sound d.port ≡ b → concluded v d.port.domain (silenced d.facts) 0 keys' ≡ deliver_of d
     by_port true p = by_host p (host_sound d.host d.port.domain) refl
-    by_port false p = by_refusal (some (silent 2)) (silent 2) (record_is p) record_host (λ z. omega arith) (deliver_record d sized (rw p))
+    by_port false p = by_refusal (some (silent 2)) (silent 2) (record_is p) record_host (deliver_record d sized (rw p))
 
   by_size : (b : Bool) → bad_area d.area ≡ b → concluded v d.port.domain (silenced d.facts) 0 keys' ≡ deliver_of d
-  by_size true e = by_refusal (some (silent 1)) (silent 1) (size_is e) size_host (λ z. omega arith) (deliver_size d e)
+  by_size true e = by_refusal (some (silent 1)) (silent 1) (size_is e) size_host (deliver_size d e)
   by_size false e = by_port e (port_sound d.port) refl
 
   pub delivered : concluded v d.port.domain (silenced d.facts) 0 keys' ≡ deliver_of d

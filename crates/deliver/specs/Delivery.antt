@@ -9,7 +9,8 @@ use Rattle.port.specs.declared.Host.{Host}
 use Rattle.port.specs.Port.{port_sound, host_sound}
 use Rattle.decision.specs.declared.Facts.{Facts}
 use Rattle.decision.specs.declared.Decision.{Decision}
-use Rattle.decision.specs.Decision.{Refusal, silenced, decided}
+use Rattle.decision.specs.declared.Refusal.{Refusal}
+use Rattle.decision.specs.Decision.{silenced, decided}
 use Rattle.arrive.specs.Checks.{silent, barred, when, first_of, option_checks, range_check, arriving_label}
 
 -- one port and a host

@@ -5,10 +5,9 @@ ghost use Rattle.std.specs.Prelude.{◌≡◌};
 ghost use Rattle.deliver.specs.Delivery.{delivery_of, deliver_of};
 ghost use Rattle.deliver.specs.Stages.{hosted_by};
 
-use arrive::arrive;
+use arrive::{arrive, held_between, stopped_by};
 use decision::{Decision, Facts, HOST_PROHIBITED, Verdict, barred, conclude, silent};
 use label::Label;
-use label_keys::{Look, look_between, runs_between};
 use port::{Host, Port, host_sound};
 
 // Decides whether a datagram is delivered to the host behind the port.
@@ -25,29 +24,15 @@ pub fn deliver(port: Port, host: Host, facts: Facts, area: &[u8]) -> Decision
 fn reach_host(arrived: Verdict, host: Host, domain: u32, keys: &[u32]) -> Verdict
     ensures { result ≡ hosted_by arrived host domain keys.now }
 {
-    if arrived.number == 1 {
+    if stopped_by(arrived, 1) {
         return arrived;
     }
     if !host_sound(host, domain) {
         return silent(2);
     }
-    if arrived.number != 0 {
-        return arrived;
+    let passed = arrived?;
+    if !held_between(passed, host.lowest, host.highest, keys) {
+        return barred(15, HOST_PROHIBITED);
     }
-    match look_between(
-        keys,
-        arrived.count,
-        arrived.level,
-        host.lowest,
-        host.highest,
-    ) {
-        Look::Within => arrived,
-        Look::Outside => barred(15, HOST_PROHIBITED),
-        Look::Open => {
-            if !runs_between(keys, arrived.count, host.lowest, host.highest) {
-                return barred(15, HOST_PROHIBITED);
-            }
-            arrived
-        }
-    }
+    arrived
 }

@@ -2,7 +2,7 @@
 use mathlib.Core.Path.{◌≡◌, sym, ◌∙◌, ap}
 use mathlib.Core.List.{List, ◌∷◌}
 use mathlib.Core.Option.{Option, some}
-use Rattle.decision.specs.Decision.{Refusal}
+use Rattle.decision.specs.declared.Refusal.{Refusal}
 use Rattle.arrive.specs.Checks.{first_of}
 use Rattle.deliver.specs.Delivery.{deliver_checks}
 use Rattle.arrive.proofs.First.{first_append, none_first}

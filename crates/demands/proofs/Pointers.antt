@@ -28,7 +28,8 @@ use Rattle.area_leaving.specs.Kept.{kept_of}
 use Rattle.port.specs.declared.Port.{Port}
 use Rattle.port.specs.Port.{port_sound, host_sound, lowest_out, highest_out}
 use Rattle.label_keys.specs.Range.{set_in_range}
-use Rattle.decision.specs.Decision.{Refusal, silenced, decided}
+use Rattle.decision.specs.declared.Refusal.{Refusal}
+use Rattle.decision.specs.Decision.{silenced, decided}
 use Rattle.arrive.specs.Checks.{silent, faulty, barred, when, first_of, walk_at, walk_refusal, walk_check, place_in, basic_in, option_at, read_at, required_by, required_check, option_by, option_check, bad_basic_by, bad_basic_check, arriving_basic, missing_basic_by, missing_basic_check, basic_passes, basic_range_check, arriving_label, range_check}
 use Rattle.deliver.specs.Delivery.{Delivery, delivery_sizes, delivery_records, host_check, deliver_checks, deliver_of}
 use Rattle.arrive.proofs.Arrival.{placed_framed}

@@ -33,7 +33,8 @@ use Rattle.renumber.specs.Renumber.{carried_of}
 use Rattle.renumber.specs.Theorems.{Far}
 use Rattle.renumber.proofs.Theorems.{renumbering, agrees}
 use Rattle.decision.specs.declared.Decision.{Decision}
-use Rattle.decision.specs.Decision.{Refusal, silenced, refused, decided}
+use Rattle.decision.specs.declared.Refusal.{Refusal}
+use Rattle.decision.specs.Decision.{silenced, refused, decided}
 use Rattle.area.specs.Area.{bad_area}
 use Rattle.arrive.specs.Checks.{silent, barred, first_of, NoneApplies, walk_at, walk_check, option_at, read_at, required_by, required_check, option_by, option_check, label_by, arriving_label, range_check, arrival_checks}
 use Rattle.deliver.specs.Delivery.{Delivery, delivery_sizes, delivery_records, host_check, deliver_checks, deliver_of}

@@ -31,7 +31,8 @@ use Rattle.area_leaving.specs.Kept.{kept_of, round_up, leaving_of}
 use Rattle.port.specs.declared.Port.{Port}
 use Rattle.port.specs.declared.Host.{Host}
 use Rattle.decision.specs.declared.Decision.{Decision}
-use Rattle.decision.specs.Decision.{Refusal, silenced, decided}
+use Rattle.decision.specs.declared.Refusal.{Refusal}
+use Rattle.decision.specs.Decision.{silenced, decided}
 use Rattle.arrive.specs.Checks.{barred, when, first_of, bad_basic_check, arriving_basic, missing_basic_by, missing_basic_check, basic_passes, basic_range_check, arriving_label, range_check}
 use Rattle.deliver.specs.Delivery.{Delivery, delivery_sizes, delivery_records, host_check, deliver_of}
 use Rattle.forward_rules.specs.Crossing.{Forwarding, sizes, records, leaving_basic_check, Crossing, crossing, number_check, leaving_check, spelling_check, leaving_label, leaving_option}

@@ -9,7 +9,7 @@ use Rattle.table.specs.Table.{used_rows}
 use Rattle.table.specs.Numbers.{has_number}
 use Rattle.table_levels.specs.Levels.{partner_of}
 use Rattle.renumber.specs.Renumber.{image_runs}
-use Rattle.decision.specs.Decision.{Refusal}
+use Rattle.decision.specs.declared.Refusal.{Refusal}
 use Rattle.arrive.specs.Checks.{NoneApplies, arriving_label, option_checks, range_check}
 use Rattle.forward_rules.specs.Crossing.{Forwarding, sizes, records, leaving_basic_check}
 use Rattle.forward_rules.specs.Forward.{forward_of}

@@ -22,7 +22,8 @@ use Rattle.port.specs.declared.Port.{Port}
 use Rattle.port.specs.Port.{port_sound, host_sound}
 use Rattle.table.specs.Table.{table_sound}
 use Rattle.renumber.specs.Theorems.{Far}
-use Rattle.decision.specs.Decision.{Refusal, silenced, refused, done}
+use Rattle.decision.specs.declared.Refusal.{Refusal}
+use Rattle.decision.specs.Decision.{silenced, refused, done}
 use Rattle.arrive.specs.Checks.{NoneApplies, walk_at, option_at, bad_basic_check, arriving_label, option_checks, range_check}
 use Rattle.deliver.specs.Delivery.{Delivery, delivery_sizes, delivery_records, deliver_checks, deliver_of}
 use Rattle.forward_rules.specs.Crossing.{Forwarding, sizes, records, leaving_basic_check, crossing, number_check}

@@ -17,7 +17,8 @@ use Rattle.port.specs.declared.Port.{Port}
 use Rattle.port.specs.Port.{port_sound, host_sound, lowest_out, highest_out}
 use Rattle.table.specs.Table.{table_sound}
 use Rattle.decision.specs.declared.Decision.{Decision}
-use Rattle.decision.specs.Decision.{Refusal, silenced, refused}
+use Rattle.decision.specs.declared.Refusal.{Refusal}
+use Rattle.decision.specs.Decision.{silenced, refused}
 use Rattle.arrive.specs.Checks.{walk_at, place_in, basic_in, option_at, arriving_basic, basic_passes, arriving_label}
 use Rattle.deliver.specs.Delivery.{Delivery, deliver_of}
 use Rattle.forward_rules.specs.Crossing.{no_room, Forwarding, same_domain, crossing, stays, has_numbers, leaving_level, leaving_runs, leaving_option}

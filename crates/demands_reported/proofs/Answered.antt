@@ -10,7 +10,8 @@ use borrow.Author.Tests.{le-leb, eqb-true, eqb-false}
 use lib.Dec.{leb, eqb}
 use lib.ListN.{get_or, drop}
 use Rattle.label.specs.declared.Label.{Label}
-use Rattle.decision.specs.Decision.{Refusal, decided}
+use Rattle.decision.specs.declared.Refusal.{Refusal}
+use Rattle.decision.specs.Decision.{decided}
 use Rattle.option.specs.Option.{Octets}
 use Rattle.option_read.proofs.Theorems.{reads}
 use Rattle.option_slack.proofs.Strict.{strictly_reads}

@@ -21,7 +21,8 @@ use Rattle.area_leaving.specs.Kept.{kept_of}
 use Rattle.port.specs.declared.Port.{Port}
 use Rattle.port.specs.Port.{port_sound, host_sound, lowest_out, highest_out}
 use Rattle.label_keys.specs.Range.{set_in_range}
-use Rattle.decision.specs.Decision.{Refusal, silenced, decided}
+use Rattle.decision.specs.declared.Refusal.{Refusal}
+use Rattle.decision.specs.Decision.{silenced, decided}
 use Rattle.arrive.specs.Checks.{silent as silent_as, faulty, barred, option_at, read_at, basic_passes, arriving_label, when, first_of, walk_at, walk_refusal, walk_check, place_in, basic_in, required_by, required_check, option_by, option_check, bad_basic_by, bad_basic_check, arriving_basic, missing_basic_by, missing_basic_check, basic_range_check, range_check}
 use Rattle.arrive.proofs.Pointer.{strict_number}
 use Rattle.forward_rules.specs.Crossing.{Forwarding, sizes, records, leaving_basic_check, Crossing, crossing, stays, has_numbers, number_check, leaving_level, leaving_runs, leaving_check, no_room, leaving_label, leaving_option, spelling_check}

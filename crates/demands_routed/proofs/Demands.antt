@@ -9,7 +9,8 @@ use Rattle.label.specs.declared.Label.{Label}
 use Rattle.label.specs.Label.{in_range, zero_label}
 use Rattle.port.specs.declared.Port.{Port}
 use Rattle.decision.specs.declared.Decision.{Decision}
-use Rattle.decision.specs.Decision.{Refusal, silenced, refused, decided}
+use Rattle.decision.specs.declared.Refusal.{Refusal}
+use Rattle.decision.specs.Decision.{silenced, refused, decided}
 use Rattle.arrive.specs.Checks.{barred, when, first_of, NoneApplies, bad_basic_check, arriving_basic, missing_basic_by, missing_basic_check, basic_passes, basic_range_check, range_check, arrival_checks}
 use Rattle.arrive.proofs.First.{or_else, first_append, none_first}
 use Rattle.forward_rules.specs.Crossing.{sizes}

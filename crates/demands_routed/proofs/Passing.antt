@@ -9,7 +9,8 @@ use lib.Dec.{ltb}
 use Rattle.label.specs.declared.Label.{Label}
 use Rattle.label.specs.Label.{zero_label}
 use Rattle.decision.specs.declared.Decision.{Decision}
-use Rattle.decision.specs.Decision.{Refusal, silenced, decided}
+use Rattle.decision.specs.declared.Refusal.{Refusal}
+use Rattle.decision.specs.Decision.{silenced, decided}
 use Rattle.area.specs.Area.{bad_area}
 use Rattle.arrive.specs.Checks.{silent, when, first_of, arrival_checks}
 use Rattle.arrive.proofs.First.{or_else, Real, first_append}

@@ -6,7 +6,8 @@ use mathlib.Core.Option.{Option}
 use lib.Dec.{ltb}
 use Rattle.area.specs.Area.{bad_area}
 use Rattle.area_leaving.specs.Kept.{kept_of}
-use Rattle.decision.specs.Decision.{Refusal, silenced}
+use Rattle.decision.specs.declared.Refusal.{Refusal}
+use Rattle.decision.specs.Decision.{silenced}
 use Rattle.arrive.specs.Checks.{barred, when, first_of, walk_check, required_check, option_check, bad_basic_check, missing_basic_check, basic_range_check, range_check, arriving_basic, basic_passes}
 use Rattle.arrive.proofs.First.{first_append}
 use Rattle.forward_rules.specs.Crossing.{Forwarding, sizes, leaving_basic_check, number_check, leaving_check, spelling_check, crossing}

@@ -19,7 +19,8 @@ use Rattle.basic.proofs.OptionTheorems.{writes_basic}
 use Rattle.table.specs.Table.{Lent, table_sound}
 use Rattle.renumber_reverse.specs.declared.ReverseError.{ReverseError}
 use Rattle.renumber_reverse.specs.Reverse.{reversed_of, with_rows}
-use Rattle.decision.specs.Decision.{Refusal, silenced, decided}
+use Rattle.decision.specs.declared.Refusal.{Refusal}
+use Rattle.decision.specs.Decision.{silenced, decided}
 use Rattle.arrive.specs.Checks.{first_of}
 use Rattle.forward_rules.specs.Crossing.{Forwarding}
 use Rattle.forward_rules.specs.Forward.{forward_checks, forward_of, output_of, written}

@@ -6,7 +6,8 @@ use Rattle.label.specs.declared.Label.{Label}
 use Rattle.option.specs.Option.{Octets}
 use Rattle.area_leaving.specs.Kept.{kept_of, round_up, leaving_of}
 use Rattle.arrive.specs.Checks.{NoneApplies, bad_basic_check, arrival_checks}
-use Rattle.decision.specs.Decision.{Refusal, silenced, refused, done}
+use Rattle.decision.specs.declared.Refusal.{Refusal}
+use Rattle.decision.specs.Decision.{silenced, refused, done}
 use Rattle.forward_rules.specs.Crossing.{sizes}
 use Rattle.route.specs.declared.Route.{Route}
 use Rattle.route.specs.Route.{routes_of, matches}

@@ -16,7 +16,8 @@ use Rattle.file_port.specs.PortFormat.{no_port}
 use Rattle.file_set.specs.Set.{tables_in}
 use Rattle.file_read.proofs.Answers.{not_accepted}
 use Rattle.route_ports.specs.Ports.{unlisted_port, port_at}
-use Rattle.decision.specs.Decision.{Refusal, silenced, decided}
+use Rattle.decision.specs.declared.Refusal.{Refusal}
+use Rattle.decision.specs.Decision.{silenced, decided}
 use Rattle.area.specs.Area.{bad_area}
 use Rattle.arrive.specs.Checks.{silent, when, first_of}
 use Rattle.forward_rules.specs.Crossing.{Forwarding, sizes, records, same_domain, crossing, leaving_label}

@@ -45,7 +45,7 @@ pub fn inglebreek_build_message(
             0
         }
         Ok(None) => 0,
-        Err(error) => error.number(),
+        Err(error) => u8::from(error),
     }
 }
 

@@ -85,7 +85,7 @@ pub fn inglebreek_spell_label(
         }
         Err(error) => {
             *count = 0;
-            error.number()
+            u8::from(error)
         }
     }
 }
@@ -124,7 +124,7 @@ pub fn inglebreek_write_basic(level: u8, flags: u16, out: &mut [u8], count: &mut
         }
         Err(error) => {
             *count = 0;
-            error.number()
+            u8::from(error)
         }
     }
 }

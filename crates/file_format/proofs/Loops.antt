@@ -3,7 +3,9 @@ use mathlib.Core.List.{List, [], ◌∷◌, ◌++◌, append_assoc, append-nil}
 use mathlib.Core.Path.{◌≡◌, refl, ◌∙◌}
 use Prim.Native.Nat.{ℕ, suc, ◌+◌, ◌-◌, ◌≤◌, ◌<◌}
 use native.Mathlib.Omega.{arith}
-use lib.ListN.{length, length-append}
+use native.Mathlib.Numerals.{add-one}
+use lib.ListN.{length, take, set, length-append}
+use lib.Seq.{take-suc-set}
 use Rattle.file_format.specs.Format.{Found, got, bad, after, many_at}
 
 module _ {A S : Type 0} (rd : S → ℕ → Found A) (next : S → A → S) where
@@ -55,3 +57,7 @@ module _ {A S : Type 0} (rd : S → ℕ → Found A) (next : S → A → S) wher
 
     pub ends : n ≤ i → many_at rd next n st₀ at₀ ≡ got done at
     ends h = p.rest ∙ rest_ends done n i st at h
+
+-- an element put into its place
+pub put_next : {A : Type 0} (l : List A) (i : ℕ) (x : A) → i < length l → take (i + 1) (set l i x) ≡ take i l ++ (x ∷ [])
+put_next l i x h = rw (add-one i) (take-suc-set l i x h)

@@ -7,7 +7,8 @@ use native.Mathlib.Omega.{arith}
 use lib.Dec.{leb, ltb}
 use Rattle.std.specs.List.{list_all, enumerate_from}
 use lib.ListN.{length, set, take, drop, replicate, length-append, length-replicate, take-append-drop}
-use lib.Seq.{take-append_seam, set-append_seam, length-take-le, take_all}
+use lib.Seq.{take-append_seam, set-append_seam, length-take-le, take_all, take_at}
+use Rattle.std.proofs.lemmas.List.{drop-replicate}
 use borrow.Author.Tests.{leb-true, leb-false, ltb-true, ltb-false}
 use Rattle.label.proofs.Bools.{and_left, and_right}
 use Rattle.file_format.specs.Format.{Each}
@@ -42,6 +43,17 @@ used_is l count n places h e = go (leb count places) refl e
         let b : places < count = leb-false _ _ t in
         let u : take count l ≡ l = take_all count l (omega arith) in
         (rw (e, u) (sym (take_all places l (omega arith))), rw (u, e) h)
+
+-- A list that stands in the first n places of an array of k empty records.
+module _ {A : Type 0} (k n : ℕ) (d : A) (part rest : List A) (size : length part ≡ n) (empty : rest ≡ drop n (replicate k d)) where
+  pub front_used : take n (part ++ rest) ≡ part
+  front_used = take_at part rest n size
+
+  pub front_padded : padded k d part ≡ part ++ rest
+  front_padded = rw (size, empty, drop-replicate) refl
+
+  pub front_filled : n ≤ k → Filled k d n (part ++ rest)
+  front_filled h = record { places = rw front_used front_padded; size = rw front_used size; limit = h }
 
 -- A list that a loop puts into its places, one by one.
 pub record Held {A : Type 0} (n : ℕ) (d : A) (count : ℕ) (l done : List A) : Type 0 where

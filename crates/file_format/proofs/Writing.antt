@@ -1,5 +1,5 @@
 -- Octets written over others: one after the other, and the last octet alone.
-use mathlib.Core.Bool.{Bool, true, false, not}
+use mathlib.Core.Bool.{Bool, true, false}
 use mathlib.Core.List.{List, [], ◌∷◌, ◌++◌, append_assoc, append-nil}
 use mathlib.Core.Path.{◌≡◌, refl, sym, ap, ◌∙◌}
 use Prim.Native.Nat.{ℕ, suc, ◌+◌, ◌-◌, ◌*◌, ◌/◌, ◌%◌, ◌≤◌, ◌<◌}
@@ -7,12 +7,13 @@ use native.Mathlib.Omega.{arith}
 use native.Mathlib.Nat.{add-zero, suc-mul}
 use native.Mathlib.Numerals.{add-one}
 use lib.Dec.{leb}
-use borrow.Author.Tests.{le-leb, lt-leb, leb-true, leb-false, not-true, not-false}
+use borrow.Author.Tests.{le-leb, lt-leb, leb-true, leb-false}
 use lib.ListN.{length, get_or, set, take, drop, length-append}
 use lib.Seq.{length-take-le, drop_at, take-set-le, set_split, take-suc}
 use Rattle.lists.specs.Lists.{paint}
 use Rattle.lists.proofs.Laws.{paint_none, paint_length, paint_two}
-use Rattle.file_format.specs.Format.{digits, in_turn, Writes, Wrote}
+use Rattle.file_format.specs.declared.Output.{Output}
+use Rattle.file_format.specs.Format.{digits, in_turn, Writes, Wrote, Adds, Added}
 use Rattle.file_format.specs.Laws.{flat}
 use Rattle.file_format.proofs.Numbers.{digits_length}
 
@@ -36,7 +37,7 @@ number_turn at i rest out h l =
 -- Writers in turn: what they write is written in turn.
 
 -- a writer that has room, each way, and one that has not
-pub room_wrote : {at n : ℕ} {xs out out' : List ℕ} → Writes at xs out out' n → Wrote at xs out out' n
+room_wrote : {at n : ℕ} {xs out out' : List ℕ} → Writes at xs out out' n → Wrote at xs out out' n
 room_wrote {at} {n} {xs} {out} {out'} w =
     record { wrote = λ h. (w.buffer ∙ rw (le-leb (at + length xs) (length out) h), w.place ∙ rw (le-leb (at + length xs) (length out) h)) }
 
@@ -47,23 +48,7 @@ wrote_all {at} {n} {xs} {out} {out'} h w =
 pub wrote_nothing : {at : ℕ} {xs out : List ℕ} → length out < at + length xs → Writes at xs out out at
 wrote_nothing {at} {xs} {out} h = record { buffer = rw (lt-leb (at + length xs) (length out) h); place = rw (lt-leb (at + length xs) (length out) h) }
 
--- after the writer has looked whether there is room for its n octets
-module _ {at : ℕ} {xs out : List ℕ} (t : Bool) (n : ℕ) (asked : t ≡ leb (at + n) (length out)) (size : length xs ≡ n) where
-  pub stops_short : not t ≡ true → Writes at xs out out at
-  stops_short h =
-      let k : length out < at + n = leb-false _ _ (sym asked ∙ not-true t h) in
-      wrote_nothing (omega (arith, size))
-
-  pub goes_on : {out' : List ℕ} {m : ℕ} → not t ≡ false → Wrote at xs out out' m → Writes at xs out out' m
-  goes_on h w =
-      let k : at + n ≤ length out = leb-true _ _ (sym asked ∙ not-false t h) in
-      wrote_all (omega (arith, size)) w
-
--- nothing is written by nobody
-pub writes_none : {at : ℕ} {out : List ℕ} → Wrote at [] out out at
-writes_none {at} {out} = record { wrote = λ h. (sym (paint_none at out), sym (add-zero at)) }
-
-pub writes_then : {at n m : ℕ} {xs ys out out₁ out₂ : List ℕ} → Wrote at xs out out₁ n → Wrote n ys out₁ out₂ m → Wrote at (xs ++ ys) out out₂ m
+writes_then : {at n m : ℕ} {xs ys out out₁ out₂ : List ℕ} → Wrote at xs out out₁ n → Wrote n ys out₁ out₂ m → Wrote at (xs ++ ys) out out₂ m
 writes_then {at} {n} {m} {xs} {ys} {out} {out₁} {out₂} a b = record { wrote = go }
   where
     go : at + length (xs ++ ys) ≤ length out → (out₂ ≡ paint at (xs ++ ys) out) × (m ≡ at + length (xs ++ ys))
@@ -74,6 +59,30 @@ writes_then {at} {n} {m} {xs} {ys} {out} {out₁} {out₂} a b = record { wrote 
         let g : (out₂ ≡ paint n ys out₁) × (m ≡ n + length ys) = b.wrote (omega arith) in
         let p : paint n ys out₁ ≡ paint at (xs ++ ys) out = rw (f.0, f.1) (paint_two at xs ys out (omega arith)) in
         (g.0 ∙ p, omega arith)
+
+-- The same of an output.
+
+pub room_added : {a b : Output} {xs : List ℕ} → Adds a xs b → Added a xs b
+room_added w = record { same = w.same; adds = room_wrote w.adds }
+
+-- after the writer has looked whether there is room for its n octets
+module _ {a : Output} {xs : List ℕ} (t : Bool) (n : ℕ) (asked : t ≡ leb (a.end + n) (length a.octets.now)) (size : length xs ≡ n) where
+  pub stops_short : t ≡ false → Adds a xs a
+  stops_short h =
+      let k : length a.octets.now < a.end + n = leb-false _ _ (sym asked ∙ h) in
+      record { same = refl; adds = wrote_nothing (omega (arith, size)) }
+
+  pub goes_on : {b : Output} → t ≡ true → Added a xs b → Adds a xs b
+  goes_on h w =
+      let k : a.end + n ≤ length a.octets.now = leb-true _ _ (sym asked ∙ h) in
+      record { same = w.same; adds = wrote_all (omega (arith, size)) w.adds }
+
+-- nothing is written by nobody
+pub added_none : {a : Output} → Added a [] a
+added_none {a} = record { same = refl; adds = record { wrote = λ h. (sym (paint_none a.end a.octets.now), sym (add-zero a.end)) } }
+
+pub added_then : {a b c : Output} {xs ys : List ℕ} → Added a xs b → Added b ys c → Added a (xs ++ ys) c
+added_then p q = record { same = q.same ∙ p.same; adds = writes_then p.adds q.adds }
 
 pub flat_turn : {A S : Type 0} (pr : S → A → List ℕ) (next : S → A → S) (g : A → List ℕ) → ((st : S) (a : A) → pr st a ≡ g a) → (st : S) (as' : List A) → in_turn pr next st as' ≡ flat g as'
 flat_turn pr next g h st [] = refl
@@ -90,10 +99,9 @@ pub flat_snoc : {A : Type 0} (g : A → List ℕ) (as' : List A) (a : A) → fla
 flat_snoc g [] a = append-nil (g a)
 flat_snoc g (b ∷ as') a = rw (flat_snoc g as' a) (sym (append_assoc (g b) (flat g as') (g a)))
 
--- a turn of a loop that writes the elements of an array, and its end
+-- a turn of a loop that writes the elements of an array
 module _ {A : Type 0} (g : A → List ℕ) (d : A) (l : List A) where
-  pub writes_turn : {at i n m : ℕ} {out out₁ out₂ : List ℕ} → i < length l → Wrote at (flat g (take i l)) out out₁ n → Wrote n (g (get_or l i d)) out₁ out₂ m
-      → Wrote at (flat g (take (i + 1) l)) out out₂ m
-  writes_turn {i} h a b =
+  pub added_turn : {i : ℕ} {a b c : Output} → i < length l → Added a (flat g (take i l)) b → Added b (g (get_or l i d)) c → Added a (flat g (take (i + 1) l)) c
+  added_turn {i} h p q =
       let e : flat g (take (i + 1) l) ≡ flat g (take i l) ++ g (get_or l i d) = rw (add-one, take-suc l i d h) (flat_snoc g (take i l) (get_or l i d)) in
-      rw e (writes_then a b)
+      rw e (added_then p q)

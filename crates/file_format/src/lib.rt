@@ -2,7 +2,7 @@
 #![tactic(auto)]
 
 ghost use Rattle.std.specs.Prelude.{◌≡◌, cond, ◌+◌, ◌≤◌, ◌<◌, leb, length, MatchResult, IfOk};
-ghost use Rattle.file_format.specs.Format.{Width, Reads, number, one, two, four, digits, Writes, number_at, got, bad};
+ghost use Rattle.file_format.specs.Format.{Width, Reads, number, one, two, four, digits, Writes, Adds, number_at, got, bad};
 
 // A number of so many octets at a place, and the place after it; or the place to blame.
 fn read_number(
@@ -61,37 +61,46 @@ pub fn has_room(held: usize, at: usize, size: usize) -> bool
     at <= held && size <= held - at
 }
 
-// Writes a number where there is room for it, and tells the place after it; else nothing, and the place that was given.
-fn write_number(out: &mut [u8], at: usize, width: usize, value: u32) -> usize
-    ensures { Writes at (digits width value) out.old out.new result }
-{
-    if !has_room(out.len(), at, width) {
-        return at;
+// An output in a lent buffer. What is put goes behind the place `end`; where there is no room for all of it, nothing is put.
+#[derive(Drop)]
+pub struct Output<'a> {
+    pub octets: &'a mut [u8],
+    pub end: usize,
+}
+
+impl Output<'_> {
+    // A number in so many octets.
+    fn number(&mut self, width: usize, value: u32)
+        ensures { Adds self.old (digits width value) self.new }
+    {
+        if !has_room(self.octets.len(), self.end, width) {
+            return;
+        }
+        let mut rest = value;
+        for i in (0..width).rev() {
+            self.octets[self.end + i] = (rest % 256) as u8;
+            rest = rest / 256;
+        }
+        self.end += width;
     }
-    let mut rest = value;
-    for i in (0..width).rev() {
-        out[at + i] = (rest % 256) as u8;
-        rest = rest / 256;
+
+    pub fn octet(&mut self, value: u32)
+        ensures { Adds self.old (digits 1 value) self.new }
+    {
+        self.number(1, value)
     }
-    at + width
-}
 
-pub fn write_octet(out: &mut [u8], at: usize, value: u32) -> usize
-    ensures { Writes at (digits 1 value) out.old out.new result }
-{
-    write_number(&mut out[..], at, 1, value)
-}
+    pub fn two(&mut self, value: u32)
+        ensures { Adds self.old (digits 2 value) self.new }
+    {
+        self.number(2, value)
+    }
 
-pub fn write_two(out: &mut [u8], at: usize, value: u32) -> usize
-    ensures { Writes at (digits 2 value) out.old out.new result }
-{
-    write_number(&mut out[..], at, 2, value)
-}
-
-pub fn write_four(out: &mut [u8], at: usize, value: u32) -> usize
-    ensures { Writes at (digits 4 value) out.old out.new result }
-{
-    write_number(&mut out[..], at, 4, value)
+    pub fn four(&mut self, value: u32)
+        ensures { Adds self.old (digits 4 value) self.new }
+    {
+        self.number(4, value)
+    }
 }
 
 // Writes numbers over a list where there is room for all of them, and tells the place after them; else nothing, and the place that was given.

@@ -1,43 +1,30 @@
--- A label that is built in place.
+-- Labels and ways that are read and written, and how many octets they have.
 use mathlib.Core.Bool.{Bool, true, false, cond, not, ◌&&◌}
-use mathlib.Core.List.{List, [], ◌∷◌, ◌++◌}
-use mathlib.Core.Path.{◌≡◌, refl, sym, ap, ◌∙◌}
-use Prim.Native.Nat.{ℕ, ◌+◌, ◌-◌, ◌*◌, ◌<◌}
+use mathlib.Core.List.{List, ◌++◌}
+use mathlib.Core.Path.{◌≡◌, refl, ◌∙◌}
+use Prim.Native.Nat.{ℕ, ◌+◌, ◌-◌, ◌*◌}
 use native.Mathlib.Omega.{arith}
 use lib.Dec.{leb, eqb}
 use borrow.Author.Tests.{le-leb}
-use lib.ListN.{length, set, take, replicate, length-append}
-use lib.Seq.{take-append_seam}
+use lib.ListN.{length, take, drop, replicate, length-append}
 use Rattle.label.specs.declared.Run.{Run}
 use Rattle.label.specs.declared.Label.{Label}
 use Rattle.label.specs.Label.{no_run, used, label_of}
-use Rattle.label.proofs.Labels.{with_run_of}
 use Rattle.basic.specs.declared.Way.{Way}
 use Rattle.basic.specs.Levels.{is_level, rank_of, at_most}
 use Rattle.file_format.specs.Format.{digits, bit, sum_of, octets, many, same}
-use Rattle.file_format.specs.Places.{padded}
-use Rattle.file_format.proofs.Places.{used_is, padded_more, padded_used}
+use Rattle.file_format.proofs.Places.{used_is, front_used, front_padded}
 use Rattle.file_format.specs.Laws.{flat}
 use Rattle.file_format.proofs.Writing.{flat_turn, flat_length}
 use Rattle.port.specs.declared.Port.{Port}
 use Rattle.file_port.specs.PortFormat.{given_format, way_of, way_format, spelling_marks, spellings_format, plain_format, later_format, plain_of, later_of, third_port, port_format}
 use Rattle.file_port.specs.LabelFormat.{run_format, next_floor, label_format}
 
--- one run more is stored in the first unused place, and counted
-pub label_more : (l : Label) (d v : ℕ) (done : List Run) (x : Run) (i : ℕ) → l ≡ label_of d v done → length done ≡ i → i < 120
-    → ◌≡◌ {A = Label} (record { domain = l.domain; level = l.level; count = i + 1; runs = set l.runs i x }) (label_of d v (done ++ (x ∷ [])))
-label_more l d v done x i e n h =
-    let k : length (done ++ (x ∷ [])) ≡ length done + 1 = length-append done (x ∷ []) in
-    let r : set (done ++ replicate (120 - length done) no_run) (length done) x ≡ (done ++ (x ∷ [])) ++ replicate (120 - length (done ++ (x ∷ []))) no_run =
-    with_run_of done x (omega arith) in
-    rw (e, ← n) (λ j. record { domain = d; level = v; count = sym k j; runs = r j })
-
--- a label that was built has the runs that were put into it
-pub built_used : (l : Label) (d v : ℕ) (done : List Run) → l ≡ label_of d v done → used l ≡ done
-built_used l d v done e = rw e (take-append_seam done (replicate (120 - length done) no_run))
-
-pub built_again : (l : Label) (d v : ℕ) (done : List Run) → l ≡ label_of d v done → label_of d v (used l) ≡ l
-built_again l d v done e = ap (label_of d v) (built_used l d v done e) ∙ sym e
+-- a label whose runs were put into the first of its places is that of these runs
+pub label_again : (d v n : ℕ) (part rest : List Run) → length part ≡ n → rest ≡ drop n (replicate 120 no_run)
+    → ◌≡◌ {A = Label} (label_of d v (take n (part ++ rest))) (record { domain = d; level = v; count = n; runs = part ++ rest })
+label_again d v n part rest size empty =
+    rw (front_used 120 n no_run part rest size empty) (λ i. record { domain = d; level = v; count = size i; runs = front_padded 120 n no_run part rest size empty i })
 
 -- the octets of a run do not depend on the run before it
 abbrev pub run_octets : Run → List ℕ
@@ -125,19 +112,11 @@ module _ (p : Port) (a b c d r s : ℕ) where
       let z : length (octets (later_format p.domain p.lowest p.highest) (later_of p) ++ digits 1 (bit p.strict)) ≡ 4 + r + s + d = length-append l (digits 1 (bit p.strict)) ∙ omega arith in
       rw (port_octets_lem p) (length-append (octets plain_format (plain_of p)) (l ++ digits 1 (bit p.strict)) ∙ omega arith)
 
--- a way that is built in place
-pub way_more : (w : Way) (l h : ℕ) (done : List ℕ) (x i : ℕ) → w ≡ way_of l h done → length done ≡ i → i < 256
-    → ◌≡◌ {A = Way} (record { lowest = w.lowest; highest = w.highest; count = i + 1; flags = set w.flags i x }) (way_of l h (done ++ (x ∷ [])))
-way_more w l h done x i e n k =
-    let c : length (done ++ (x ∷ [])) ≡ length done + 1 = length-append done (x ∷ []) in
-    let r : set (padded 256 0 done) (length done) x ≡ padded 256 0 (done ++ (x ∷ [])) = padded_more 256 0 done x (omega arith) in
-    rw (e, ← n) (λ j. record { lowest = l; highest = h; count = sym c j; flags = r j })
-
-pub way_used : (w : Way) (l h : ℕ) (done : List ℕ) → w ≡ way_of l h done → take w.count w.flags ≡ done
-way_used w l h done e = rw e (padded_used 256 0 done)
-
-pub way_again : (w : Way) (l h : ℕ) (done : List ℕ) → w ≡ way_of l h done → way_of l h (take w.count w.flags) ≡ w
-way_again w l h done e = ap (way_of l h) (way_used w l h done e) ∙ sym e
+-- and so is a way
+pub way_again : (l h n : ℕ) (part rest : List ℕ) → length part ≡ n → rest ≡ drop n (replicate 256 0)
+    → ◌≡◌ {A = Way} (way_of l h (take n (part ++ rest))) (record { lowest = l; highest = h; count = n; flags = part ++ rest })
+way_again l h n part rest size empty =
+    rw (front_used 256 n 0 part rest size empty) (λ i. record { lowest = l; highest = h; count = size i; flags = front_padded 256 n 0 part rest size empty i })
 
 -- the rule of a lowest level, as the code asks it
 pub level_alone : (on : Bool) (v : ℕ) → cond on (at_most v v) (eqb v 0) ≡ cond on (is_level v) (eqb v 0)

@@ -4,15 +4,13 @@
 ghost use Rattle.std.specs.Prelude.{◌≡◌, true, false, cond, leb, eqb, length, take, IfOk, ◌+◌, ◌*◌, ◌≤◌, ◌<◌};
 ghost use Rattle.label.specs.Label.{used, label_of, zero_label, in_range};
 ghost use Rattle.basic.specs.Levels.{at_most};
-ghost use Rattle.file_format.specs.Format.{ReadsAs, Reads, many, number, two, flag, alike, same, bit, sum_of, marks_of, digits, octets, Writes, Wrote};
+ghost use Rattle.file_format.specs.Format.{ReadsAs, Reads, Fills, many, number, two, flag, alike, same, bit, sum_of, marks_of, digits, octets, Adds, Added};
 ghost use Rattle.file_format.specs.Laws.{flat};
 ghost use Rattle.file_port.specs.LabelFormat.{run_format, next_floor, unless0, label_format};
 ghost use Rattle.file_port.specs.PortFormat.{given_format, way_of, way_format, spellings_made, spelling_marks, spellings_format, plain_format, plain_of, plain_made, later_format, later_of, port_format, no_port};
 
 use basic::{Basic, Way, at_most};
-use file_format::{
-    count_used, has_room, read_four, read_octet, read_two, write_four, write_octet, write_two,
-};
+use file_format::{Output, count_used, has_room, read_four, read_octet, read_two};
 use label::{Label, Run};
 use option::Spellings;
 use port::Port;
@@ -41,7 +39,26 @@ fn read_run(octets: &[u8], at: usize, floor: u32) -> Result<(Run, usize), usize>
     Ok((run, at))
 }
 
-// The runs of a label of the domain and level; they are put in their places as they are read.
+// Runs, into the lent places; the place after them, or the place to blame.
+fn fill_runs(octets: &[u8], at: usize, runs: &mut [Run]) -> Result<usize, usize>
+    ensures { Fills (many run_format next_floor (length runs.old) 0) octets.now at runs.new result }
+{
+    let mut place = at;
+    let mut floor: u32 = 0;
+    for run in runs.iter_mut() {
+        match read_run(octets, place, floor) {
+            Ok((read, next)) => {
+                *run = read;
+                floor = u32::from(read.high) + 2;
+                place = next;
+            }
+            Err(blamed) => return Err(blamed),
+        }
+    }
+    Ok(place)
+}
+
+// The runs of a label of the domain and level.
 fn read_runs(
     octets: &[u8],
     at: usize,
@@ -53,26 +70,15 @@ fn read_runs(
     ensures read { ReadsAs (many run_format next_floor count 0) used octets.now at result }
     ensures label { IfOk result (λ p. label_of domain level (used p.0) ≡ p.0) }
 {
-    let mut label = Label {
+    let mut runs = [Run { low: 0, high: 0 }; 120];
+    let at = fill_runs(octets, at, &mut runs[..count])?;
+    let label = Label {
         domain: domain,
         level: level,
-        count: 0,
-        runs: [Run { low: 0, high: 0 }; 120],
+        count: count,
+        runs: runs,
     };
-    let mut place = at;
-    let mut floor: u32 = 0;
-    for i in 0..count {
-        match read_run(octets, place, floor) {
-            Ok((run, next)) => {
-                label.runs[i] = run;
-                label.count = i + 1;
-                floor = u32::from(run.high) + 2;
-                place = next;
-            }
-            Err(blamed) => return Err(blamed),
-        }
-    }
-    Ok((label, place))
+    Ok((label, at))
 }
 
 // Reads the label of a domain, and tells the place after it or the place to blame; of domain 0 there is only the all-zero label.
@@ -87,30 +93,28 @@ pub fn read_label(octets: &[u8], at: usize, domain: u32) -> Result<(Label, usize
 }
 
 // The first n runs, each its low and its high.
-fn write_runs(label: Label, n: usize, out: &mut [u8], at: usize) -> usize
+fn write_runs(label: Label, n: usize, out: &mut Output)
     requires { n ≤ 120 }
-    ensures { Wrote at (octets (many run_format next_floor n 0) (take n label.runs)) out.old out.new result }
+    ensures { Added out.old (octets (many run_format next_floor n 0) (take n label.runs)) out.new }
 {
-    let mut place = at;
     for run in &label.runs[..n] {
-        place = write_two(out, place, u32::from(run.low));
-        place = write_two(out, place, u32::from(run.high));
+        out.two(u32::from(run.low));
+        out.two(u32::from(run.high));
     }
-    place
 }
 
-// Writes a label where there is room for all of it, and tells the place after it; else nothing, and the place that was given.
-pub fn write_label(label: Label, out: &mut [u8], at: usize) -> usize
-    ensures { Writes at (octets (label_format label.domain) label) out.old out.new result }
+// Writes a label where there is room for all of it; else nothing.
+pub fn write_label(label: Label, out: &mut Output)
+    ensures { Adds out.old (octets (label_format label.domain) label) out.new }
 {
-    if !has_room(out.len(), at, label_size(label)) {
-        return at;
+    if !has_room(out.octets.len(), out.end, label_size(label)) {
+        return;
     }
     let n = count_used(label.count, 120);
-    let level = write_four(out, at, label.domain);
-    let count = write_octet(out, level, label.level as u32);
-    let runs = write_octet(out, count, n as u32);
-    write_runs(label, n, out, runs)
+    out.four(label.domain);
+    out.octet(u32::from(label.level));
+    out.octet(n as u32);
+    write_runs(label, n, out);
 }
 
 // How many octets a label has.
@@ -222,7 +226,20 @@ fn most_flags(on: bool) -> u32
     0
 }
 
-// Flag fields; they are put in their places as they are read.
+// Flag fields, into the lent places; the place after them, or the place to blame.
+fn fill_flags(octets: &[u8], at: usize, flags: &mut [u16]) -> Result<usize, usize>
+    ensures { Fills (many (alike (number two 0 65535)) same (length flags.old) 0) octets.now at flags.new result }
+{
+    let mut place = at;
+    for flag in flags.iter_mut() {
+        let (read, next) = read_two(octets, place, 0, 65535)?;
+        *flag = read as u16;
+        place = next;
+    }
+    Ok(place)
+}
+
+// The settings for one way, behind their levels.
 fn read_flags(
     octets: &[u8],
     at: usize,
@@ -234,20 +251,15 @@ fn read_flags(
     ensures read { ReadsAs (many (alike (number two 0 65535)) same count 0) (λ w. take w.count w.flags) octets.now at result }
     ensures way { IfOk result (λ p. way_of lowest highest (take p.0.count p.0.flags) ≡ p.0) }
 {
-    let mut way = Way {
+    let mut flags = [0u16; 256];
+    let at = fill_flags(octets, at, &mut flags[..count])?;
+    let way = Way {
         lowest: lowest,
         highest: highest,
-        count: 0,
-        flags: [0u16; 256],
+        count: count,
+        flags: flags,
     };
-    let mut place = at;
-    for i in 0..count {
-        let (flag, next) = read_two(octets, place, 0, 65535)?;
-        way.flags[i] = flag as u16;
-        way.count = i + 1;
-        place = next;
-    }
-    Ok((way, place))
+    Ok((way, at))
 }
 
 // The settings of option 130 for one way.
@@ -366,65 +378,63 @@ fn sum_of(spellings: Spellings) -> u32
 }
 
 // The fields of version 1.
-fn write_plain(port: Port, out: &mut [u8], at: usize) -> usize
-    ensures { Wrote at (octets plain_format (plain_of port)) out.old out.new result }
+fn write_plain(port: Port, out: &mut Output)
+    ensures { Added out.old (octets plain_format (plain_of port)) out.new }
 {
     let low = port.lowest;
     let high = port.highest;
     let given = port.assigned;
-    let lowest = write_four(out, at, port.domain);
-    let highest = write_label(low, out, lowest);
-    let required = write_label(high, out, highest);
-    let assigned = write_octet(out, required, flag_of(port.required));
-    write_label(given, out, assigned)
+    out.four(port.domain);
+    write_label(low, out);
+    write_label(high, out);
+    out.octet(flag_of(port.required));
+    write_label(given, out);
 }
 
 // The first n flag fields.
-fn write_flags(way: Way, n: usize, out: &mut [u8], at: usize) -> usize
+fn write_flags(way: Way, n: usize, out: &mut Output)
     requires { n ≤ 256 }
-    ensures { Wrote at (flat (digits 2) (take n way.flags)) out.old out.new result }
+    ensures { Added out.old (flat (digits 2) (take n way.flags)) out.new }
 {
-    let mut place = at;
     for flag in &way.flags[..n] {
-        place = write_two(out, place, u32::from(*flag));
+        out.two(u32::from(*flag));
     }
-    place
 }
 
-fn write_way(way: Way, out: &mut [u8], at: usize) -> usize
-    ensures { Wrote at (octets (way_format true) way) out.old out.new result }
+fn write_way(way: Way, out: &mut Output)
+    ensures { Added out.old (octets (way_format true) way) out.new }
 {
     let n = count_used(way.count, 256);
-    let highest = write_octet(out, at, way.lowest as u32);
-    let count = write_octet(out, highest, way.highest as u32);
-    let flags = write_two(out, count, n as u32);
-    write_flags(way, n, out, flags)
+    out.octet(u32::from(way.lowest));
+    out.octet(u32::from(way.highest));
+    out.two(n as u32);
+    write_flags(way, n, out);
 }
 
 // The fields that version 2 adds.
-fn write_later(port: Port, out: &mut [u8], at: usize) -> usize
-    ensures { Wrote at (octets (later_format port.domain port.lowest port.highest) (later_of port)) out.old out.new result }
+fn write_later(port: Port, out: &mut Output)
+    ensures { Added out.old (octets (later_format port.domain port.lowest port.highest) (later_of port)) out.new }
 {
     let basic = port.basic;
     let given = port.default;
-    let receiving = write_octet(out, at, flag_of(basic.on));
-    let sending = write_way(basic.receiving, out, receiving);
-    let spellings = write_way(basic.sending, out, sending);
-    let unlabelled = write_octet(out, spellings, sum_of(port.spellings));
-    let default = write_octet(out, unlabelled, flag_of(port.unlabelled));
-    write_label(given, out, default)
+    out.octet(flag_of(basic.on));
+    write_way(basic.receiving, out);
+    write_way(basic.sending, out);
+    out.octet(sum_of(port.spellings));
+    out.octet(flag_of(port.unlabelled));
+    write_label(given, out);
 }
 
-// Writes a port of version 3 where there is room for all of it, and tells the place after it; else nothing, and the place that was given.
-pub fn write_port(port: Port, out: &mut [u8], at: usize) -> usize
-    ensures { Writes at (octets (port_format 3) port) out.old out.new result }
+// Writes a port of version 3 where there is room for all of it; else nothing.
+pub fn write_port(port: Port, out: &mut Output)
+    ensures { Adds out.old (octets (port_format 3) port) out.new }
 {
-    if !has_room(out.len(), at, port_size(port)) {
-        return at;
+    if !has_room(out.octets.len(), out.end, port_size(port)) {
+        return;
     }
-    let later = write_plain(port, out, at);
-    let strict = write_later(port, out, later);
-    write_octet(out, strict, flag_of(port.strict))
+    write_plain(port, out);
+    write_later(port, out);
+    out.octet(flag_of(port.strict));
 }
 
 // How many octets the settings of option 130 have for one way.

@@ -5,17 +5,14 @@ ghost use Rattle.std.specs.Prelude.{◌/◌, ◌≡◌, true, false, cond, [], �
 ghost use Rattle.table_levels.specs.Levels.{pair, no_pair};
 ghost use Rattle.table.specs.Table.{row, rows_from, row_numbers, rising, targets_apart};
 ghost use Rattle.table.specs.Renumbering.{LentTable, no_renumbering};
-ghost use Rattle.file_format.specs.Format.{ReadsAs, Reads, many, got, bad, read_at, octets, written, Writes, Wrote};
+ghost use Rattle.file_format.specs.Format.{ReadsAs, Reads, Fills, many, got, bad, read_at, digits, octets, written, Adds, Added};
 ghost use Rattle.file_format.specs.Laws.{flat};
 ghost use Rattle.file_format.specs.Places.{Filled};
 ghost use Rattle.file_table.specs.TableFormat.{most_pairs, most_rows, pair_format, next_least, row_format, with_row, table_format, head_of, fields_of, found_table};
-ghost use Rattle.file_table.specs.Stages.{row_alone, ReadsRows, RowsAlone, kept_fields, pair_octets, row_octets};
+ghost use Rattle.file_table.specs.Stages.{row_alone, ReadsRows, RowsAlone, kept_fields, pair_octets};
 
-use file_format::{
-    count_used, has_room, read_four, read_octet, read_two, write_four, write_numbers, write_octet,
-    write_two,
-};
-use table::{MAX_ROWS, Renumbering, Row, Table, row_at, rows_sound};
+use file_format::{Output, count_used, has_room, read_four, read_octet, read_two, write_numbers};
+use table::{Renumbering, Row, Table, rows_sound};
 use table_levels::{LevelPair, MAX_PAIRS};
 
 // The numbers of the most rows.
@@ -53,7 +50,24 @@ fn read_pair(octets: &[u8], at: usize, first: u32, second: u32) -> Result<(Level
     Ok((pair, at))
 }
 
-// The level pairs of a table; they are put in their places as they are read.
+// Level pairs, into the lent places; the place after them, or the place to blame.
+fn fill_pairs(octets: &[u8], at: usize, pairs: &mut [LevelPair]) -> Result<usize, usize>
+    ensures { Fills (many pair_format next_least (length pairs.old) (0, 0)) octets.now at pairs.new result }
+{
+    let mut place = at;
+    let mut first: u32 = 0;
+    let mut second: u32 = 0;
+    for pair in pairs.iter_mut() {
+        let (read, next) = read_pair(octets, place, first, second)?;
+        *pair = read;
+        first = u32::from(read.levels[0]) + 1;
+        second = u32::from(read.levels[1]) + 1;
+        place = next;
+    }
+    Ok(place)
+}
+
+// The level pairs of a table.
 fn read_pairs(
     octets: &[u8],
     at: usize,
@@ -63,18 +77,9 @@ fn read_pairs(
     ensures read { ReadsAs (many pair_format next_least count (0, 0)) (take count) octets.now at result }
     ensures filled { IfOk result (λ p. Filled 256 no_pair count p.0) }
 {
-    let mut levels = [LevelPair { levels: [0u8; 2] }; 256];
-    let mut place = at;
-    let mut first: u32 = 0;
-    let mut second: u32 = 0;
-    for i in 0..count {
-        let (pair, next) = read_pair(octets, place, first, second)?;
-        levels[i] = pair;
-        first = u32::from(pair.levels[0]) + 1;
-        second = u32::from(pair.levels[1]) + 1;
-        place = next;
-    }
-    Ok((levels, place))
+    let mut levels = [LevelPair { levels: [0u8; 2] }; MAX_PAIRS];
+    let at = fill_pairs(octets, at, &mut levels[..count])?;
+    Ok((levels, at))
 }
 
 // How far a range goes on after its first number.
@@ -218,49 +223,41 @@ pub fn read_table(
 }
 
 // The first n level pairs.
-fn write_pairs(renumbering: Renumbering, n: usize, out: &mut [u8], at: usize) -> usize
+fn write_pairs(renumbering: Renumbering, n: usize, out: &mut Output)
     requires { n ≤ 256 }
-    ensures { Wrote at (flat pair_octets (take n renumbering.levels)) out.old out.new result }
+    ensures { Added out.old (flat pair_octets (take n renumbering.levels)) out.new }
 {
-    let mut place = at;
     for pair in &renumbering.levels[..n] {
-        place = write_octet(out, place, u32::from(pair.levels[0]));
-        place = write_octet(out, place, u32::from(pair.levels[1]));
+        out.octet(u32::from(pair.levels[0]));
+        out.octet(u32::from(pair.levels[1]));
     }
-    place
 }
 
-// The first n rows.
-fn write_rows(rows: &[u16], n: usize, out: &mut [u8], at: usize) -> usize
-    requires { n ≤ length (rows_from rows.now) }
-    ensures { Wrote at (flat row_octets (take n (rows_from rows.now))) out.old out.new result }
+// Rows, each as its three numbers.
+fn write_rows(rows: &[u16], out: &mut Output)
+    ensures { Added out.old (flat (digits 2) rows.now) out.new }
 {
-    let mut place = at;
-    for i in 0..n {
-        let row = row_at(rows, i);
-        place = write_two(out, place, u32::from(row.low));
-        place = write_two(out, place, u32::from(row.high));
-        place = write_two(out, place, u32::from(row.target));
+    for number in rows {
+        out.two(u32::from(*number));
     }
-    place
 }
 
-// Writes a table of version 3 with its rows where there is room for all of it, and tells the place after it; else nothing, and the place that was given.
-pub fn write_table(renumbering: Renumbering, rows: &[u16], out: &mut [u8], at: usize) -> usize
-    ensures { Writes at (octets (table_format 3) (fields_of (record { item = renumbering; rows = rows.now }))) out.old out.new result }
+// Writes a table of version 3 with its rows where there is room for all of it; else nothing.
+pub fn write_table(renumbering: Renumbering, rows: &[u16], out: &mut Output)
+    ensures { Adds out.old (octets (table_format 3) (fields_of (record { item = renumbering; rows = rows.now }))) out.new }
 {
-    if !has_room(out.len(), at, table_size(renumbering, rows)) {
-        return at;
+    if !has_room(out.octets.len(), out.end, table_size(renumbering, rows)) {
+        return;
     }
     let table = renumbering.table;
     let n = count_used(table.pairs, 256);
     let m = count_used(rows.len() / 3, 1024);
-    let to = write_four(out, at, table.from);
-    let pairs = write_four(out, to, table.to);
-    let first = write_two(out, pairs, n as u32);
-    let count = write_pairs(renumbering, n, out, first);
-    let next = write_two(out, count, m as u32);
-    write_rows(rows, m, out, next)
+    out.four(table.from);
+    out.four(table.to);
+    out.two(n as u32);
+    write_pairs(renumbering, n, out);
+    out.two(m as u32);
+    write_rows(&rows[..m * 3], out);
 }
 
 // How many octets a table of version 3 has with its rows.

@@ -15,9 +15,10 @@ use Rattle.table.specs.Renumbering.{LentTable}
 use Rattle.table.proofs.Renumberings.{out_table}
 use Rattle.table_choose.specs.Tables.{share, tables_from}
 use Rattle.table_choose.proofs.Laws.{part_is, rest_is}
-use Rattle.file_format.specs.Format.{digits, in_turn, octets, alike, same, Wrote}
+use Rattle.file_format.specs.declared.Output.{Output}
+use Rattle.file_format.specs.Format.{digits, in_turn, octets, alike, same, Wrote, Added}
 use Rattle.file_format.specs.Laws.{flat}
-use Rattle.file_format.proofs.Writing.{flat_turn, writes_then, writes_none}
+use Rattle.file_format.proofs.Writing.{flat_turn, added_then, added_none}
 use Rattle.file_port.specs.PortFormat.{port_format}
 use Rattle.file_table.specs.TableFormat.{table_format, fields_of}
 use Rattle.file_set.specs.declared.Set.{Set}
@@ -51,10 +52,10 @@ pub none_left : (ts : List Renumbering) (i : ℕ) (ns : List ℕ) → length ts 
 none_left ts i ns h = ap (λ (z : List Renumbering). tables_from z ns) (drop_of_length-le ts {i = i} h)
 
 -- the rest that is to be written, after what was written
-pub record Goes (at : ℕ) (whole rest out out' : List ℕ) (next : ℕ) : Type 0 where
+pub record Goes (before : Output) (whole rest : List ℕ) (after : Output) : Type 0 where
   pub done : List ℕ
   pub split : whole ≡ done ++ rest
-  pub wrote : Wrote at done out out' next
+  pub wrote : Added before done after
 
 flat_map : {A C : Type 0} (g : C → List ℕ) (f : A → C) (xs : List A) → flat g (map f xs) ≡ flat (λ x. g (f x)) xs
 flat_map g f [] = refl
@@ -103,16 +104,18 @@ pub file_length : (s : Set) (rows : List ℕ) → length (file_octets 3 s rows) 
 file_length s rows = rw file_octets_lem (omega arith)
 
 -- all fields written one after the other are the file
-pub fields_written : (s : Set) (rows : List ℕ) → Parts s rows → {out out' : List ℕ} {next : ℕ}
-    → Wrote 0
+pub fields_written : (s : Set) (rows : List ℕ) → Parts s rows → {a b : Output}
+    → Added a
     ((digits 2 (total_of 3 s rows) ++ digits 1 3)
     ++ ((digits 1 s.portcount ++ flat port_octets (take s.portcount s.ports)) ++ (digits 1 s.tablecount ++ flat table_octets (tables_from (take s.tablecount s.tables) rows))))
-    out out' next
-    → total_of 3 s rows ≤ length out → out' ≡ paint 0 (file_octets 3 s rows) out
-fields_written s rows p {out} {out'} {next} w h =
-    let v : Wrote 0 (file_octets 3 s rows) out out' next =
-    subst (λ (xs : List ℕ). Wrote 0 xs out out' next) (sym (file_octets_lem s rows ∙ ap (λ (k : List ℕ). (digits 2 (total_of 3 s rows) ++ digits 1 3) ++ k) (set_octets s rows p))) w in
-    (v.wrote (omega (arith, file_length s rows))).0
+    b
+    → Added a (file_octets 3 s rows) b
+fields_written s rows p {a} {b} w =
+    subst (λ (xs : List ℕ). Added a xs b) (sym (file_octets_lem s rows ∙ ap (λ (k : List ℕ). (digits 2 (total_of 3 s rows) ++ digits 1 3) ++ k) (set_octets s rows p))) w
+
+-- where there is room for it, the file stands at the head of the output
+pub file_there : (s : Set) (rows out out' : List ℕ) (n : ℕ) → Wrote 0 (file_octets 3 s rows) out out' n → total_of 3 s rows ≤ length out → out' ≡ paint 0 (file_octets 3 s rows) out
+file_there s rows out out' n w h = (w.wrote (omega (arith, file_length s rows))).0
 
 -- a turn of the loops over the tables
 module _ (ts : List Renumbering) (i : ℕ) (ns : List ℕ) (at end : ℕ) (l : i < length ts) (a : at ≤ length ns)
@@ -129,18 +132,16 @@ module _ (ts : List Renumbering) (i : ℕ) (ns : List ℕ) (at end : ℕ) (l : i
   pub size_turn : (whole size k : ℕ) → whole ≡ size + length (flat table_octets (tables_from (drop i ts) (drop at ns))) → k ≡ length (table_octets this) → whole ≡ size + k + length others
   size_turn whole size k w q = let m : length (flat table_octets (tables_from (drop i ts) (drop at ns))) ≡ length (table_octets this) + length others = ap length flat_next ∙ length-append (table_octets this) others in omega arith
 
-  pub goes_turn : {place p m : ℕ} {whole out out₁ out₂ : List ℕ} → Goes place whole (flat table_octets (tables_from (drop i ts) (drop at ns))) out out₁ p → Wrote p (table_octets this) out₁ out₂ m
-      → Goes place whole others out out₂ m
+  pub goes_turn : {a b c : Output} {whole : List ℕ} → Goes a whole (flat table_octets (tables_from (drop i ts) (drop at ns))) b → Added b (table_octets this) c → Goes a whole others c
   goes_turn g w =
       record {
         done = g.done ++ table_octets this;
         split = g.split ∙ ap (λ (z : List ℕ). g.done ++ z) flat_next ∙ sym (append_assoc g.done (table_octets this) others);
-        wrote = writes_then g.wrote w;
+        wrote = added_then g.wrote w;
       }
 
-pub goes_ends : {place p : ℕ} {whole rest out out₁ : List ℕ} → Goes place whole rest out out₁ p → rest ≡ [] → Wrote place whole out out₁ p
-goes_ends {place} {p} {whole} {rest} {out} {out₁} g e =
-    subst (λ (z : List ℕ). Wrote place z out out₁ p) (sym (g.split ∙ ap (λ (z : List ℕ). g.done ++ z) e ∙ append-nil g.done)) g.wrote
+pub goes_ends : {a b : Output} {whole rest : List ℕ} → Goes a whole rest b → rest ≡ [] → Added a whole b
+goes_ends {a} {b} {whole} {rest} g e = subst (λ (z : List ℕ). Added a z b) (sym (g.split ∙ ap (λ (z : List ℕ). g.done ++ z) e ∙ append-nil g.done)) g.wrote
 
-pub goes_begins : (place : ℕ) (whole out : List ℕ) → Goes place whole whole out out place
-goes_begins place whole out = record { done = []; split = refl; wrote = writes_none }
+pub goes_begins : {a : Output} {whole : List ℕ} → Goes a whole whole a
+goes_begins = record { done = []; split = refl; wrote = added_none }

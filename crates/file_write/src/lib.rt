@@ -2,16 +2,15 @@
 #![tactic(auto)]
 
 ghost use Rattle.std.specs.Prelude.{◌≡◌, true, cond, ◌+◌, ◌-◌, ◌*◌, ◌≤◌, leb, length, take};
-ghost use Rattle.lists.specs.Lists.{paint};
 ghost use Rattle.table_choose.specs.Tables.{tables_from};
-ghost use Rattle.file_format.specs.Format.{Wrote};
+ghost use Rattle.file_format.specs.Format.{Added};
 ghost use Rattle.file_format.specs.Laws.{flat};
 ghost use Rattle.file_set.specs.Set.{set_sound};
 ghost use Rattle.file_read.specs.File.{total_of, file_octets};
 ghost use Rattle.file_write.specs.Stages.{port_octets, table_octets};
 ghost use Rattle.file_write.specs.Written.{written_of, file_output};
 
-use file_format::{write_octet, write_two};
+use file_format::Output;
 use file_port::{port_size, write_port};
 use file_set::{MAX_PORTS, Set, set_sound};
 use file_table::{table_size, write_table};
@@ -48,7 +47,11 @@ pub fn write_file(set: Set, rows: &[u16], out: &mut [u8]) -> Result<usize, Write
     if out.len() < total {
         return Err(WriteError::Short);
     }
-    write_fields(set, rows, total, out);
+    let mut file = Output {
+        octets: out,
+        end: 0,
+    };
+    write_fields(set, rows, total, &mut file);
     Ok(total)
 }
 
@@ -101,52 +104,42 @@ fn tables_size(tables: [Renumbering; MAX_TABLES], n: usize, rows: &[u16]) -> usi
     size
 }
 
-// The fields of a file whose set is sound and for which there is room.
-fn write_fields(set: Set, rows: &[u16], total: usize, out: &mut [u8])
-    requires { (set_sound set rows.now ≡ true) × (total ≡ total_of 3 set rows.now) × (total ≤ 61440) × (total ≤ length out.old) }
-    ensures { out.new ≡ paint 0 (file_octets 3 set rows.now) out.old }
+// The fields of the file of a sound set, which has so many octets.
+fn write_fields(set: Set, rows: &[u16], total: usize, out: &mut Output)
+    requires { (set_sound set rows.now ≡ true) × (total ≡ total_of 3 set rows.now) × (total ≤ 61440) }
+    ensures { Added out.old (file_octets 3 set rows.now) out.new }
 {
     let held = set.ports;
     let kept = set.tables;
     let n = set.portcount;
     let m = set.tablecount;
-    let version = write_two(out, 0, total as u32);
-    let count = write_octet(out, version, 3);
-    let first = write_octet(out, count, n as u32);
-    let ports = write_ports(held, n, out, first);
-    let tables = write_octet(out, ports, m as u32);
-    write_tables(kept, m, rows, out, tables);
+    out.two(total as u32);
+    out.octet(3);
+    out.octet(n as u32);
+    write_ports(held, n, out);
+    out.octet(m as u32);
+    write_tables(kept, m, rows, out);
 }
 
 // The first n ports.
-fn write_ports(ports: [Port; MAX_PORTS], n: usize, out: &mut [u8], at: usize) -> usize
+fn write_ports(ports: [Port; MAX_PORTS], n: usize, out: &mut Output)
     requires { n ≤ 16 }
-    ensures { Wrote at (flat port_octets (take n ports)) out.old out.new result }
+    ensures { Added out.old (flat port_octets (take n ports)) out.new }
 {
-    let mut place = at;
     for port in &ports[..n] {
-        place = write_port(*port, out, place);
+        write_port(*port, out);
     }
-    place
 }
 
 // The first n tables, each with its part of the rows.
-fn write_tables(
-    tables: [Renumbering; MAX_TABLES],
-    n: usize,
-    rows: &[u16],
-    out: &mut [u8],
-    at: usize,
-) -> usize
+fn write_tables(tables: [Renumbering; MAX_TABLES], n: usize, rows: &[u16], out: &mut Output)
     requires { n ≤ 8 }
-    ensures { Wrote at (flat table_octets (tables_from (take n tables) rows.now)) out.old out.new result }
+    ensures { Added out.old (flat table_octets (tables_from (take n tables) rows.now)) out.new }
 {
-    let mut place = at;
     let mut from: usize = 0;
     for renumbering in &tables[..n] {
         let end = end_of(from, renumbering.table.count, rows.len());
-        place = write_table(*renumbering, &rows[from..end], out, place);
+        write_table(*renumbering, &rows[from..end], out);
         from = end;
     }
-    place
 }

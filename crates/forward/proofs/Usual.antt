@@ -16,7 +16,7 @@ use Rattle.label_keys.specs.Range.{look_of, look_under, runs_between, answered}
 use Rattle.option.specs.declared.Spellings.{Spellings}
 use Rattle.basic.specs.declared.Way.{Way}
 use Rattle.basic.specs.Alone.{BasicRead}
-use Rattle.decision.specs.declared.Verdict.{Verdict}
+use Rattle.decision.specs.Verdict.{Verdict}
 use Rattle.arrive.proofs.First.{before_none}
 use Rattle.forward_leave.specs.Departure.{sent_by}
 use Rattle.forward_write.specs.Sending.{area_written}

@@ -11,9 +11,9 @@ ghost use Rattle.table.specs.Table.{lent};
 ghost use Rattle.forward_rules.specs.Forward.{forwarding_of, forward_of, output_of};
 ghost use Rattle.forward_leave.specs.Departure.{held_by_range};
 
-use area::{bad_area, walk_area};
+use area::{bad_area, option_at, walk_area};
 use decision::{
-    Decision, Facts, HEADER_OCTETS, NETWORK_PROHIBITED, Verdict, barred, conclude, faulty, go_on,
+    Decision, Facts, HEADER_OCTETS, NETWORK_PROHIBITED, Passed, Verdict, barred, conclude, faulty,
     missing, silent,
 };
 use forward_any::forward_any;
@@ -121,17 +121,17 @@ fn read_usual(port: Port, area: &[u8], at: usize, keys: &mut [u32; 120]) -> Verd
     requires usual { usual_port port ≡ true }
     ensures { ArrivesAt (Some at) port area.now 9 keys.old keys.new result }
 {
-    let next = at + 1;
-    let n = area[next] as usize;
-    let end = at + n;
-    match read_keys(&area[at..end], port.domain, &mut keys[..]) {
+    match read_keys(option_at(area, at), port.domain, &mut keys[..]) {
         Err(fault) => faulty(fault.number, (HEADER_OCTETS + (at + fault.at)) as u8),
         Ok(held) => {
-            let arrived = go_on(held.level, held.count);
-            if !lies_usual(arrived, port.lowest, port.highest, &keys[..]) {
+            let passed = Passed {
+                level: held.level,
+                count: held.count,
+            };
+            if !lies_usual(passed, port.lowest, port.highest, &keys[..]) {
                 return barred(14, NETWORK_PROHIBITED);
             }
-            arrived
+            Ok(passed)
         }
     }
 }
@@ -141,21 +141,19 @@ fn hold_usual(crossed: Verdict, lowest: Label, highest: Label, keys: &[u32]) -> 
     requires { (lowest.count ≡ 0) × (highest.count ≤ 1) }
     ensures { result ≡ held_by_range crossed lowest highest keys.now }
 {
-    if crossed.number != 0 {
-        return crossed;
-    }
-    if !lies_usual(crossed, lowest, highest, keys) {
+    let passed = crossed?;
+    if !lies_usual(passed, lowest, highest, keys) {
         return barred(17, NETWORK_PROHIBITED);
     }
-    crossed
+    Ok(passed)
 }
 
-// Whether a verdict's level and keys lie in a range from no categories to those of at most one run: what a first look leaves open lies outside.
-fn lies_usual(verdict: Verdict, lowest: Label, highest: Label, keys: &[u32]) -> bool
+// Whether a level and keys lie in a range from no categories to those of at most one run: what a first look leaves open lies outside.
+fn lies_usual(passed: Passed, lowest: Label, highest: Label, keys: &[u32]) -> bool
     requires { (lowest.count ≡ 0) × (highest.count ≤ 1) }
-    ensures { result ≡ held_between lowest highest verdict keys.now }
+    ensures { result ≡ held_between lowest highest passed keys.now }
 {
-    match look_between(keys, verdict.count, verdict.level, lowest, highest) {
+    match look_between(keys, passed.count, passed.level, lowest, highest) {
         Look::Within => true,
         Look::Outside => false,
         Look::Open => false,

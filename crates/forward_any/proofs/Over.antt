@@ -9,7 +9,7 @@ use lib.Dec.{eqb}
 use lib.ListN.{length, take, drop, length-take}
 use lib.Seq.{take-append-le, take-take}
 use borrow.Author.Tests.{eq-eqb}
-use Rattle.std.specs.Prelude.{Err}
+use Rattle.std.specs.Prelude.{Ok, Err}
 use Rattle.lists.specs.Lists.{copied}
 use Rattle.label.specs.declared.Run.{Run}
 use Rattle.label.specs.Runs.{spaced}
@@ -25,8 +25,8 @@ use Rattle.renumber.specs.Renumber.{image_runs}
 use Rattle.renumber_keys.specs.Carry.{CarryAnswer, carried_as, carried_to, carried_keys, carry_of}
 use Rattle.renumber_keys.proofs.Carrying.{label_runs_lem, carry_checked, carry_unsound, carried_yes, carried_runs, image_spaced}
 use Rattle.forward_rules.specs.Crossing.{Crossing, stays, partner, has_numbers, number_check, leaving_level, leaving_runs}
-use Rattle.decision.specs.declared.Verdict.{Verdict}
-use Rattle.decision.specs.Verdict.{stopped, going}
+use Rattle.decision.specs.declared.Passed.{Passed}
+use Rattle.decision.specs.Verdict.{Verdict, passed_with, stopped, going}
 use Rattle.forward_cross.specs.Crossed.{numbered_by}
 
 -- Past check 16: the keys stand for the whole set with which the datagram leaves.
@@ -35,9 +35,12 @@ pub record Over (x : Crossing) (keys : List ℕ) : Type 0 where
   pub stands : key_runs (take (length (leaving_runs x)) keys) ≡ leaving_runs x
   pub gaps : spaced 0 (leaving_runs x) ≡ true
 
--- what is said then
+-- what passes then
+abbrev pub leaving_passed : Crossing → Passed
+leaving_passed x = passed_with (leaving_level x) (length (leaving_runs x))
+
 abbrev pub leaving_verdict : Crossing → Verdict
-leaving_verdict x = going (leaving_level x) (length (leaving_runs x))
+leaving_verdict x = Ok (leaving_passed x)
 
 -- With equal domains the keys that arrived are those that leave.
 module _ (x : Crossing) (w : well_formed x.label ≡ true) (same : x.domain ≡ x.leaving.domain) (own far keys : List ℕ)

@@ -27,10 +27,10 @@ use Rattle.port.specs.Port.{port_sound, lowest_out, highest_out}
 use Rattle.port.proofs.Laws.{sound}
 use Rattle.table.specs.Table.{table_sound}
 use Rattle.renumber_keys.specs.Carry.{CarryAnswer, image_of, carried_keys, carry_of}
-use Rattle.decision.specs.declared.Verdict.{Verdict}
-use Rattle.decision.specs.Decision.{Refusal, silenced, done}
+use Rattle.decision.specs.declared.Refusal.{Refusal}
+use Rattle.decision.specs.Decision.{silenced, done}
 use Rattle.arrive.specs.Checks.{silent, barred, when, first_of, basic_in, arriving_basic, missing_basic_check, basic_passes, arriving_label, range_check, arrival_checks}
-use Rattle.decision.specs.Verdict.{verdict_of, stopped, concluded}
+use Rattle.decision.specs.Verdict.{Verdict, passed_with, verdict_of, stopped, stopped_by, concluded}
 use Rattle.arrive.specs.Verdict.{arrival_of, Arrives}
 use Rattle.area.specs.Area.{bad_area, walk_of, octets_at}
 use Rattle.basic.specs.Alone.{BasicRead}
@@ -47,7 +47,7 @@ use Rattle.forward_leave.specs.Departure.{recorded_by, sent_by, held_by_range}
 use Rattle.forward_cross.specs.Crossed.{tabled_by, numbered_by, crossed_by, crossed_keys}
 use Rattle.forward_cross.proofs.Laws.{crossed_same, crossed_refused, crossed_carried}
 use Rattle.forward_write.specs.Sending.{has_room_for, fitted_by, put_count, put_front, kept_by, area_count, area_written}
-use Rattle.forward_any.proofs.Over.{Over, leaving_verdict, stays_verdict, stays_over, unsound_verdict, numberless_verdict, carried_verdict_lem, carried_over}
+use Rattle.forward_any.proofs.Over.{Over, leaving_passed, leaving_verdict, stays_verdict, stays_over, unsound_verdict, numberless_verdict, carried_verdict_lem, carried_over}
 use Rattle.forward_rules.proofs.Forwards.{reach_checks, reach_arrival, reach_late, records_test, forward_area, forward_room, forward_record, forward_arrival, forward_number, forward_range, forward_spelling, forward_none, forward_refused, forward_written, kept_fits}
 
 -- 21 of the leaving port, by what a second walk found
@@ -112,43 +112,39 @@ module _ (f : Forwarding) (own own' far far' out out' : List ℕ) (a r u c h v :
   -- crossing, case by case
   same_is : f.arriving.domain ≡ f.leaving.domain → (c ≡ u) × (far' ≡ copied own' far)
   same_is e =
-      let q = crossed_same u f.arriving.domain f.leaving.domain f.table f.levels own' far e in
+      let q = crossed_same f.arriving.domain f.leaving.domain f.table f.levels own' far u e in
       (s.crosses ∙ q.0, s.crossed ∙ q.1)
 
-  tabled_is : (f.arriving.domain ≡ f.leaving.domain → ⊥) → (u.number ≡ 0 → ⊥) → c ≡ tabled_by u f.table f.levels
-  tabled_is e n = s.crosses ∙ (crossed_refused u f.arriving.domain f.leaving.domain f.table f.levels own' far e n).0
+  tabled_is : (f.arriving.domain ≡ f.leaving.domain → ⊥) → (y : Refusal) → u ≡ answer (some y) → c ≡ tabled_by y f.table f.levels
+  tabled_is n y e =
+      s.crosses
+      ∙ ap (λ (q : Verdict). crossed_by q f.arriving.domain f.leaving.domain f.table f.levels own' (length far)) e
+      ∙ (crossed_refused f.arriving.domain f.leaving.domain f.table f.levels own' far y n).0
 
   -- a refusal goes through the later stages as it is
-  fit_refused : (y : Refusal) → h ≡ answer (some y) → (y.number ≡ 0 → ⊥) → v ≡ answer (some y)
+  fit_refused : (y : Refusal) → h ≡ answer (some y) → v ≡ answer (some y)
   unfolding fitted_by
-  fit_refused y e z =
-      s.fits 0
-      ∙ ap (λ (q : Verdict). cond (eqb q.number 0) (cond (leb q.count 120 && (f.leaving.unlabelled || has_room_for (length_of (keys_spelled f.leaving.spellings 0 q.level (take q.count far'))) kept)) q (stopped 18 3 9 0)) q) e
-      ∙ rw (ne_eqb y.number 0 z)
+  fit_refused y e = s.fits 0 ∙ ap (λ (q : Verdict). fitted_by f.leaving.unlabelled f.leaving.spellings 0 q kept far') e
 
-  unwritten : (v.number ≡ 0 → ⊥) → out' ≡ out
+  unwritten : (y : Refusal) → v ≡ answer (some y) → out' ≡ out
   unfolding area_written
-  unwritten n = s.writes ∙ rw (ne_eqb v.number 0 n)
+  unwritten y e = s.writes ∙ ap (λ (q : Verdict). area_written q f.leaving.unlabelled f.leaving.spellings f.leaving.domain kept f.area far' out) e
 
-  last : (y : Refusal) → v ≡ answer (some y) → (y.number ≡ 0 → ⊥) → first_of (forward_checks f) ≡ some y → Answers
-  last y e z g =
-      let n : v.number ≡ 0 → ⊥ = λ q. z (ap (λ (t : Verdict). t.number) (sym e) ∙ q) in
+  last : (y : Refusal) → v ≡ answer (some y) → first_of (forward_checks f) ≡ some y → Answers
+  last y e g =
       let w = forward_refused f y out g in (
         ap (λ (t : Verdict). concluded t f.leaving.domain (silenced f.facts) count far') e
-            ∙ concluded_refused y label.level label.count f.leaving.domain count (silenced f.facts) far' z
+            ∙ concluded_refused y label.level label.count f.leaving.domain count (silenced f.facts) far'
             ∙ w.0,
-        unwritten n ∙ w.1,
+        unwritten y e ∙ w.1,
       )
 
-  hold_refused : (y : Refusal) → c ≡ answer (some y) → (y.number ≡ 0 → ⊥) → h ≡ answer (some y)
+  hold_refused : (y : Refusal) → c ≡ answer (some y) → h ≡ answer (some y)
   unfolding held_by_range
-  hold_refused y e z =
-      s.held
-      ∙ ap (λ (q : Verdict). cond (eqb q.number 0) (cond (held_between (lowest_out f.leaving) (highest_out f.leaving) q far') q (stopped 17 3 9 0)) q) e
-      ∙ rw (ne_eqb y.number 0 z)
+  hold_refused y e = s.held ∙ ap (λ (q : Verdict). held_by_range q (lowest_out f.leaving) (highest_out f.leaving) far') e
 
-  refused_over : (y : Refusal) → c ≡ answer (some y) → (y.number ≡ 0 → ⊥) → first_of (forward_checks f) ≡ some y → Answers
-  refused_over y e z g = last y (fit_refused y (hold_refused y e z) z) z g
+  refused_over : (y : Refusal) → c ≡ answer (some y) → first_of (forward_checks f) ≡ some y → Answers
+  refused_over y e g = last y (fit_refused y (hold_refused y e)) g
 
   -- 21 of the leaving port, by what the option means
   abbrev walked : Option (List ℕ)
@@ -162,29 +158,23 @@ module _ (f : Forwarding) (own own' far far' out out' : List ℕ) (a r u c h v :
   sent_is = s.sent
 
   -- a refusal before 14 goes on as it is
-  closed : (y : Refusal) → (y.number ≡ 0 → ⊥) → (y.number ≡ 14 → ⊥) → (o : Option Refusal) → before_range (answer (some y)) o ≡ answer (some y)
-  closed y z k o = rw (ne_eqb y.number 0 z, ne_eqb y.number 14 k)
+  closed : (y : Refusal) → (y.number ≡ 14 → ⊥) → (o : Option Refusal) → before_range (answer (some y)) o ≡ answer (some y)
+  closed y k o = rw (ne_eqb y.number 14 k)
 
-  sent_closed : (y : Refusal) → r ≡ answer (some y) → (y.number ≡ 0 → ⊥) → (y.number ≡ 14 → ⊥) → u ≡ answer (some y)
-  sent_closed y e z k = sent_is ∙ ap (λ (w : Verdict). before_range w sent_check) e ∙ closed y z k sent_check
+  sent_closed : (y : Refusal) → r ≡ answer (some y) → (y.number ≡ 14 → ⊥) → u ≡ answer (some y)
+  sent_closed y e k = sent_is ∙ ap (λ (w : Verdict). before_range w sent_check) e ∙ closed y k sent_check
 
   -- 1 and 2 before the table
-  early : (y : Refusal) → r ≡ answer (some y) → (y.number ≡ 0 → ⊥) → y.number ≤ 2 → c ≡ answer (some y)
+  early : (y : Refusal) → r ≡ answer (some y) → y.number ≤ 2 → c ≡ answer (some y)
   unfolding tabled_by
-  early y x z t = go (eqb f.arriving.domain f.leaving.domain) refl
+  early y x t = go (eqb f.arriving.domain f.leaving.domain) refl
     where
       e : u ≡ answer (some y)
-      e = sent_closed y x z (λ k. omega arith)
-
-      n : u.number ≡ 0 → ⊥
-      n q = z (ap (λ (w : Verdict). w.number) (sym e) ∙ q)
+      e = sent_closed y x (λ k. omega arith)
 
       go : (b : Bool) → eqb f.arriving.domain f.leaving.domain ≡ b → c ≡ answer (some y)
       go true q = (same_is (eqb-true _ _ q)).0 ∙ e
-      go false q =
-          tabled_is (eqb-false _ _ q) n
-          ∙ ap (λ (w : Verdict). cond (leb w.number 2 || table_sound f.table f.levels) w (stopped 2 0 0 0)) e
-          ∙ rw (le-leb y.number 2 t)
+      go false q = tabled_is (eqb-false _ _ q) y e ∙ rw (le-leb y.number 2 t)
 
   -- what is ready, of what arrived
   ready_of : (o : Option Refusal) → a ≡ answer o → r ≡ recorded_by (answer o) f.room (port_sound f.leaving)
@@ -197,7 +187,7 @@ module _ (f : Forwarding) (own own' far far' out out' : List ℕ) (a r u c h v :
   by_area : bad_area f.area ≡ true → Answers
   unfolding arrival_of
   by_area e =
-      refused_over (silent 1) (early (silent 1) (ready_of (some (silent 1)) (s.arrives.answer ∙ rw e) ∙ one_ready) (λ z. omega arith) (omega arith)) (λ z. omega arith) (forward_area f e)
+      refused_over (silent 1) (early (silent 1) (ready_of (some (silent 1)) (s.arrives.answer ∙ rw e) ∙ one_ready) (omega arith)) (forward_area f e)
 
   module _ (sized : bad_area f.area ≡ false) where
     two_is : port_sound f.arriving ≡ false → a ≡ answer (some (silent 2))
@@ -209,25 +199,25 @@ module _ (f : Forwarding) (own own' far far' out out' : List ℕ) (a r u c h v :
     past_is p = s.arrives.answer ∙ rw (sized, le-ltb (length own) 120 s.own_room, p)
 
     -- what arrived has not the number 1
-    not_one : eqb a.number 1 ≡ false
+    not_one : stopped_by 1 a ≡ false
     not_one = go (port_sound f.arriving) refl
       where
-        late : (o : Option Refusal) → Late o → eqb (answer o).number 1 ≡ false
+        late : (o : Option Refusal) → Late o → stopped_by 1 (answer o) ≡ false
         late none t = refl
         late (some y) t = ne_eqb y.number 1 (λ z. omega arith)
 
-        go : (b : Bool) → port_sound f.arriving ≡ b → eqb a.number 1 ≡ false
-        go true p = ap (λ (w : Verdict). eqb w.number 1) (past_is p) ∙ late (first_of (arrival_checks f.arriving f.area 9)) (arrival_late f.arriving f.area 9)
-        go false p = ap (λ (w : Verdict). eqb w.number 1) (two_is p)
+        go : (b : Bool) → port_sound f.arriving ≡ b → stopped_by 1 a ≡ false
+        go true p = ap (stopped_by 1) (past_is p) ∙ late (first_of (arrival_checks f.arriving f.area 9)) (arrival_late f.arriving f.area 9)
+        go false p = ap (stopped_by 1) (two_is p)
 
     by_room : f.room < 40 → Answers
     unfolding recorded_by
     by_room t =
-        refused_over (silent 1) (early (silent 1) (s.ready ∙ rw (not_one, lt-ltb f.room 40 t)) (λ z. omega arith) (omega arith)) (λ z. omega arith) (forward_room f sized t)
+        refused_over (silent 1) (early (silent 1) (s.ready ∙ rw (not_one, lt-ltb f.room 40 t)) (omega arith)) (forward_room f sized t)
 
     module _ (long : 40 ≤ f.room) where
       by_two : r ≡ stopped 2 0 0 0 → records_test f ≡ false → Answers
-      by_two e t = refused_over (silent 2) (early (silent 2) e (λ z. omega arith) (omega arith)) (λ z. omega arith) (forward_record f sized long t)
+      by_two e t = refused_over (silent 2) (early (silent 2) e (omega arith)) (forward_record f sized long t)
 
       ready_is : (b : Bool) → port_sound f.leaving ≡ b → r ≡ cond b a (stopped 2 0 0 0)
       unfolding recorded_by
@@ -264,7 +254,7 @@ module _ (f : Forwarding) (own own' far far' out out' : List ℕ) (a r u c h v :
             let range = range_check f.arriving f.area 9 ∷ [] in
             let x : first_of (before ++ range) ≡ some y = first_append before range ∙ rw e in
             let z : first_of (before ++ (leaving_basic_check f ∷ range)) ≡ some y = first_append before (leaving_basic_check f ∷ range) ∙ rw e in
-            sent_closed y (ready_past ∙ ap answer x) g.0 g.1 ∙ sym (ap answer z)
+            sent_closed y (ready_past ∙ ap answer x) g ∙ sym (ap answer z)
 
         missed : f.arriving.basic.on ≡ true → arriving_basic f.arriving f.area ≡ none → u ≡ answer (first_of (reach_checks f))
         unfolding missing_basic_check
@@ -287,11 +277,11 @@ module _ (f : Forwarding) (own own' far far' out out' : List ℕ) (a r u c h v :
         reached_past = by_basic f.arriving.basic.on (arriving_basic f.arriving f.area) refl refl
 
         -- 3 to 21 and 14, where the records are sound
-        by_arrival : (y : Refusal) → records_test f ≡ true → first_of (reach_checks f) ≡ some y → 3 ≤ y.number → c ≡ answer (some y) → Answers
-        by_arrival y t e n g = refused_over y g (λ z. omega arith) (forward_arrival f sized long t y e)
+        by_arrival : (y : Refusal) → records_test f ≡ true → first_of (reach_checks f) ≡ some y → c ≡ answer (some y) → Answers
+        by_arrival y t e g = refused_over y g (forward_arrival f sized long t y e)
 
-        same_refused : (y : Refusal) → same_domain f ≡ true → first_of (reach_checks f) ≡ some y → 3 ≤ y.number → Answers
-        same_refused y d e n = by_arrival y (rw (p, q, d)) e n ((same_is (eqb-true _ _ d)).0 ∙ reached_past ∙ ap answer e)
+        same_refused : (y : Refusal) → same_domain f ≡ true → first_of (reach_checks f) ≡ some y → Answers
+        same_refused y d e = by_arrival y (rw (p, q, d)) e ((same_is (eqb-true _ _ d)).0 ∙ reached_past ∙ ap answer e)
 
         other_refused : (y : Refusal) → same_domain f ≡ false → first_of (reach_checks f) ≡ some y → 3 ≤ y.number → Answers
         unfolding tabled_by
@@ -300,40 +290,34 @@ module _ (f : Forwarding) (own own' far far' out out' : List ℕ) (a r u c h v :
             ready_some : u ≡ answer (some y)
             ready_some = reached_past ∙ ap answer e
 
-            number : u.number ≡ 0 → ⊥
-            number z = absurd (omega (arith, ap (λ (w : Verdict). w.number) ready_some))
-
             tabled : (b : Bool) → table_sound f.table f.levels ≡ b → c ≡ cond b (answer (some y)) (stopped 2 0 0 0)
-            tabled b t =
-                tabled_is (eqb-false _ _ d) number
-                ∙ ap (λ (w : Verdict). cond (leb w.number 2 || table_sound f.table f.levels) w (stopped 2 0 0 0)) ready_some
-                ∙ rw (lt-leb y.number 2 (omega arith), t)
+            tabled b t = tabled_is (eqb-false _ _ d) y ready_some ∙ rw (lt-leb y.number 2 (omega arith), t)
 
             go : (b : Bool) → table_sound f.table f.levels ≡ b → Answers
-            go true t = by_arrival y (rw (p, q, d, t)) e n (tabled true t)
-            go false t = refused_over (silent 2) (tabled false t) (λ z. omega arith) (forward_record f sized long (rw (p, q, d, t)))
+            go true t = by_arrival y (rw (p, q, d, t)) e (tabled true t)
+            go false t = refused_over (silent 2) (tabled false t) (forward_record f sized long (rw (p, q, d, t)))
 
         -- past 16
         module _ (t : records_test f ≡ true) (e : first_of (reach_checks f) ≡ none) (over : Over x far') (crossed : c ≡ leaving_verdict x) where
           abbrev runs : List Run
           runs = leaving_runs x
 
-          held_is : held_between (lowest_out f.leaving) (highest_out f.leaving) (leaving_verdict x) far' ≡ set_in_range (lowest_out f.leaving) (highest_out f.leaving) (leaving_level x) runs
+          held_is : held_between (lowest_out f.leaving) (highest_out f.leaving) (leaving_passed x) far' ≡ set_in_range (lowest_out f.leaving) (highest_out f.leaving) (leaving_level x) runs
           held_is =
               let g = (sound f.leaving q).out in
-              held_in_set (lowest_out f.leaving) (highest_out f.leaving) (leaving_verdict x) far' g.low_formed g.high_formed (rw over.stands over.gaps)
+              held_in_set (lowest_out f.leaving) (highest_out f.leaving) (leaving_passed x) far' g.low_formed g.high_formed (rw over.stands over.gaps)
               ∙ ap (set_in_range (lowest_out f.leaving) (highest_out f.leaving) (leaving_level x)) over.stands
 
           held_of : (b : Bool) → set_in_range (lowest_out f.leaving) (highest_out f.leaving) (leaving_level x) runs ≡ b → h ≡ cond b (leaving_verdict x) (stopped 17 3 9 0)
           unfolding held_by_range
           held_of b g =
               s.held
-              ∙ ap (λ (w : Verdict). cond (eqb w.number 0) (cond (held_between (lowest_out f.leaving) (highest_out f.leaving) w far') w (stopped 17 3 9 0)) w) crossed
+              ∙ ap (λ (w : Verdict). held_by_range w (lowest_out f.leaving) (highest_out f.leaving) far') crossed
               ∙ rw (held_is ∙ g)
 
           by_range : set_in_range (lowest_out f.leaving) (highest_out f.leaving) (leaving_level x) runs ≡ false → Answers
           by_range g =
-              last (barred 17 9) (fit_refused (barred 17 9) (held_of false g) (λ z. omega arith)) (λ z. omega arith) (forward_range f sized long t e over.numbers g)
+              last (barred 17 9) (fit_refused (barred 17 9) (held_of false g)) (forward_range f sized long t e over.numbers g)
 
           module _ (g : set_in_range (lowest_out f.leaving) (highest_out f.leaving) (leaving_level x) runs ≡ true) where
             h_is : h ≡ leaving_verdict x
@@ -349,7 +333,7 @@ module _ (f : Forwarding) (own own' far far' out out' : List ℕ) (a r u c h v :
 
             by_many : leb (length runs) 120 ≡ false → Answers
             by_many m =
-                last (barred 18 9) (v_is ∙ rw m) (λ z. omega arith) (forward_spelling f sized long t e over.numbers g (rw (lt-ltb 120 (length runs) (leb-false _ _ m))))
+                last (barred 18 9) (v_is ∙ rw m) (forward_spelling f sized long t e over.numbers g (rw (lt-ltb 120 (length runs) (leb-false _ _ m))))
 
             module _ (few : length runs ≤ 120) where
               abbrev spelling : Option (List ℕ)
@@ -375,7 +359,7 @@ module _ (f : Forwarding) (own own' far far' out out' : List ℕ) (a r u c h v :
 
               by_spelling : no_room (leaving_option x) (kept_of f.area) ≡ true → Answers
               by_spelling n =
-                  last (barred 18 9) (v_of ∙ rw n) (λ z. omega arith) (forward_spelling f sized long t e over.numbers g (rw (le-ltb 120 (length runs) few, n)))
+                  last (barred 18 9) (v_of ∙ rw n) (forward_spelling f sized long t e over.numbers g (rw (le-ltb 120 (length runs) few, n)))
 
               by_done : no_room (leaving_option x) (kept_of f.area) ≡ false → Answers
               unfolding label_from area_count area_written
@@ -423,7 +407,7 @@ module _ (f : Forwarding) (own own' far far' out out' : List ℕ) (a r u c h v :
           own_stands : key_runs (take label.count own') ≡ used label
           own_stands =
               let a_is : a ≡ answer none = past_is p ∙ ap answer (reach_arrival f e) in
-              ap (λ (w : Verdict). key_runs (take w.count own')) (sym a_is) ∙ s.arrives.stands (ap (λ (w : Verdict). w.number) a_is)
+              rw a_is at s.arrives.stands
 
           far_long : 120 ≤ length far
           far_long = omega (arith, s.far_room)
@@ -438,26 +422,28 @@ module _ (f : Forwarding) (own own' far far' out out' : List ℕ) (a r u c h v :
           module _ (d : same_domain f ≡ false) where
             carried : (g : CarryAnswer) × (g ≡ carry_of (used label) label.level f.table f.levels (length far)) × (c ≡ numbered_by g (eqb f.table.from f.arriving.domain) (eqb f.table.to f.leaving.domain)) × (far' ≡ carried_keys g (image_of f.table (used label)) far)
             carried =
-                let k = crossed_carried u f.arriving.domain f.leaving.domain f.table f.levels own' far (eqb-false _ _ d) (ap (λ (w : Verdict). w.number) ready_none) in
-                let n : key_runs (take u.count own') ≡ used label = ap (λ (w : Verdict). key_runs (take w.count own')) ready_none ∙ own_stands in
-                let l : u.level ≡ label.level = ap (λ (w : Verdict). w.level) ready_none in (
+                let k = crossed_carried f.arriving.domain f.leaving.domain f.table f.levels own' far (passed_with label.level label.count) (eqb-false _ _ d) in (
                   carry_of (used label) label.level f.table f.levels (length far),
                   refl,
                   s.crosses
+                      ∙ ap (λ (w : Verdict). crossed_by w f.arriving.domain f.leaving.domain f.table f.levels own' (length far)) ready_none
                       ∙ k.0
-                      ∙ (λ i. numbered_by (carry_of (n i) (l i) f.table f.levels (length far)) (eqb f.table.from f.arriving.domain) (eqb f.table.to f.leaving.domain)),
-                  s.crossed ∙ k.1 ∙ (λ i. carried_keys (carry_of (n i) (l i) f.table f.levels (length far)) (image_of f.table (n i)) far),
+                      ∙ ap (λ (rs : List Run). numbered_by (carry_of rs label.level f.table f.levels (length far)) (eqb f.table.from f.arriving.domain) (eqb f.table.to f.leaving.domain)) own_stands,
+                  s.crossed
+                      ∙ ap (λ (w : Verdict). crossed_keys w f.arriving.domain f.leaving.domain f.table f.levels own' far) ready_none
+                      ∙ k.1
+                      ∙ ap (λ (rs : List Run). carried_keys (carry_of rs label.level f.table f.levels (length far)) (image_of f.table rs) far) own_stands,
                 )
 
             by_table : (b : Bool) → table_sound f.table f.levels ≡ b → Answers
             by_table false t =
-                refused_over (silent 2) (carried.2 ∙ unsound_verdict x d arrived_held.formed far far' s.far_rows carried.0 carried.1 t) (λ z. omega arith)
+                refused_over (silent 2) (carried.2 ∙ unsound_verdict x d arrived_held.formed far far' s.far_rows carried.0 carried.1 t)
                 (forward_record f sized long (rw (p, q, d, t)))
             by_table true t = by_numbers (has_numbers x) refl
               where
                 by_numbers : (b : Bool) → has_numbers x ≡ b → Answers
                 by_numbers false n =
-                    refused_over (barred 16 9) (carried.2 ∙ numberless_verdict x d arrived_held.formed far far' s.far_rows carried.0 carried.1 t n) (λ z. omega arith)
+                    refused_over (barred 16 9) (carried.2 ∙ numberless_verdict x d arrived_held.formed far far' s.far_rows carried.0 carried.1 t n)
                     (forward_number f sized long (rw (p, q, d, t)) e (rw (d, n)))
                 by_numbers true n =
                     passed_over (rw (p, q, d, t)) e
@@ -473,7 +459,7 @@ module _ (f : Forwarding) (own own' far far' out out' : List ℕ) (a r u c h v :
         by_first (some y) e n = go (same_domain f) refl
           where
             go : (b : Bool) → same_domain f ≡ b → Answers
-            go true d = same_refused y d e n
+            go true d = same_refused y d e
             go false d = other_refused y d e n
 
       by_ports : (b d : Bool) → port_sound f.arriving ≡ b → port_sound f.leaving ≡ d → Answers

@@ -9,6 +9,7 @@ use borrow.Author.Tests.{leb-true, leb-false}
 use lib.ListN.{length, get_or, take, drop, length-drop, length-append, take-append-drop, drop_of_length-le}
 use lib.Seq.{take_all, take_at, drop_at, drop-drop, length-take-le}
 use Rattle.decision.specs.declared.Decision.{Decision}
+use Rattle.decision.specs.declared.Facts.{Facts}
 use Rattle.forward_rules.specs.Crossing.{Forwarding}
 use Rattle.forward_rules.specs.Forward.{forwarding_of, forward_of, output_of}
 use Rattle.forward_batch.specs.Batch.{Gateway, facts_in, area_in, with_head, forwarding_in, slot_of, batch_of}
@@ -29,23 +30,23 @@ area_cut r k e small large =
     let long : length (drop 8 r) ≡ 56 = simp length-drop (omega arith) in
     rw eight (area_by (drop 8 r) (get_or r 5 0) k long small large (leb (get_or r 5 0) 56) refl)
 
-abbrev cut : Gateway → List ℕ → List ℕ → ℕ → Forwarding
-cut g r area room = forwarding_of g.arriving g.leaving g.table g.levels (facts_in r) area room
+abbrev cut : Gateway → Facts → List ℕ → ℕ → Forwarding
+cut g fs area room = forwarding_of g.arriving g.leaving g.table g.levels fs area room
 
-pub one : (g : Gateway) (r s : List ℕ) (k : ℕ) (d : Decision) (ys last : List ℕ) → length r ≡ 64 → length s ≡ 64 → (get_or r 5 0 ≤ 56 → k ≡ get_or r 5 0) → (56 ≤ get_or r 5 0 → k ≡ 56)
-    → d ≡ forward_of (cut g r (take ((8 + k) - 8) (drop 8 r)) (length (take (length s - 24) (drop 24 s))))
-    → ys ≡ output_of (cut g r (take ((8 + k) - 8) (drop 8 r)) (length (take (length s - 24) (drop 24 s)))) (take (length s - 24) (drop 24 s))
+pub one : (g : Gateway) (r s : List ℕ) (fs : Facts) (k : ℕ) (d : Decision) (ys last : List ℕ) → length r ≡ 64 → length s ≡ 64 → fs ≡ facts_in r → (get_or r 5 0 ≤ 56 → k ≡ get_or r 5 0) → (56 ≤ get_or r 5 0 → k ≡ 56)
+    → d ≡ forward_of (cut g fs (take ((8 + k) - 8) (drop 8 r)) (length (take (length s - 24) (drop 24 s))))
+    → ys ≡ output_of (cut g fs (take ((8 + k) - 8) (drop 8 r)) (length (take (length s - 24) (drop 24 s)))) (take (length s - 24) (drop 24 s))
     → last ≡ with_head d (take 24 s ++ (ys ++ drop (length s - 24) (drop 24 s)))
     → last ≡ slot_of g r s
 unfolding slot_of
-one g r s k d ys last er es small large e₁ e₂ e₃ =
+one g r s fs k d ys last er es ef small large e₁ e₂ e₃ =
     let room : length (drop 24 s) ≡ 40 = simp length-drop (omega arith) in
     let tail : take (length s - 24) (drop 24 s) ≡ drop 24 s = take_all (length s - 24) (drop 24 s) (omega arith) in
     let short : length (drop 24 s) ≤ length s - 24 = omega arith in
     let over : drop (length s - 24) (drop 24 s) ≡ [] = drop_of_length-le (drop 24 s) short in
     let area : take ((8 + k) - 8) (drop 8 r) ≡ area_in r = area_cut r k er small large in
-    let same : cut g r (take ((8 + k) - 8) (drop 8 r)) (length (take (length s - 24) (drop 24 s))) ≡ forwarding_in g r
-    = ap (λ (a : List ℕ). cut g r a (length (take (length s - 24) (drop 24 s)))) area ∙ ap (λ (n : ℕ). cut g r (area_in r) n) (ap length tail ∙ room) in
+    let same : cut g fs (take ((8 + k) - 8) (drop 8 r)) (length (take (length s - 24) (drop 24 s))) ≡ forwarding_in g r
+    = (λ i. cut g (ef i) (area i) (length (tail i))) ∙ ap (λ (n : ℕ). cut g (facts_in r) (area_in r) n) room in
     e₃
     ∙ ap (λ (x : Decision). with_head x (take 24 s ++ (ys ++ drop (length s - 24) (drop 24 s)))) (e₁ ∙ ap forward_of same)
     ∙ ap (λ (zs : List ℕ). with_head (forward_of (forwarding_in g r)) (take 24 s ++ zs)) (ap (λ (zs : List ℕ). ys ++ zs) over ∙ append-nil ys

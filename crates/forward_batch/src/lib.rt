@@ -7,7 +7,7 @@
 ghost use Rattle.std.specs.Prelude.{◌≡◌, true, ◌≤◌, ◌*◌, length};
 ghost use Rattle.port.specs.Port.{port_sound};
 ghost use Rattle.table.specs.Table.{lent};
-ghost use Rattle.forward_batch.specs.Batch.{slot_count, with_head, slot_of, batch_of};
+ghost use Rattle.forward_batch.specs.Batch.{facts_in, slot_count, with_head, slot_of, batch_of};
 ghost use Rattle.forward_batch.specs.Stages.{Slotted, Batched};
 
 use basic::Way;
@@ -218,13 +218,7 @@ fn forward_slot(
     requires datagram_len { (length datagram.now ≡ 64) × (length slot.old ≡ 64) }
     ensures { Slotted near lows.now highs.now given.now receives.now beyond least.now most.now only.now sends.now (lent table rows.now) levels datagram.now slot.old slot.new × (length slot.new ≡ 64) }
 {
-    let facts = Facts {
-        error: datagram[0] != 0,
-        group: datagram[1] != 0,
-        link: datagram[2] != 0,
-        fragment: datagram[3] != 0,
-        source: datagram[4] != 0,
-    };
+    let facts = read_facts(datagram);
     let end = 8 + capped(datagram[5]);
     let d = forward_gates(
         near,
@@ -291,13 +285,7 @@ fn forward_one(
     requires { (length datagram.now ≡ 64) × (length slot.old ≡ 64) }
     ensures { (slot.new ≡ slot_of (record { arriving = arriving; leaving = leaving; table = lent table rows.now; levels = levels }) datagram.now slot.old) × (length slot.new ≡ 64) }
 {
-    let facts = Facts {
-        error: datagram[0] != 0,
-        group: datagram[1] != 0,
-        link: datagram[2] != 0,
-        fragment: datagram[3] != 0,
-        source: datagram[4] != 0,
-    };
+    let facts = read_facts(datagram);
     let end = 8 + capped(datagram[5]);
     let d = forward(
         arriving,
@@ -310,6 +298,20 @@ fn forward_one(
         &mut slot[24..],
     );
     put_head(d, slot);
+}
+
+// The five facts of a record.
+fn read_facts(datagram: &[u8]) -> Facts
+    requires { length datagram.now ≡ 64 }
+    ensures { result ≡ facts_in datagram.now }
+{
+    Facts {
+        error: datagram[0] != 0,
+        group: datagram[1] != 0,
+        link: datagram[2] != 0,
+        fragment: datagram[3] != 0,
+        source: datagram[4] != 0,
+    }
 }
 
 // An area's length, at most what a record holds.

@@ -5,12 +5,12 @@ use Rattle.label_keys.specs.Keys.{key_runs}
 use Rattle.table.specs.Table.{Lent, table_sound}
 use Rattle.renumber_keys.specs.declared.CarryError.TheVariants.{Unsound, NoNumber}
 use Rattle.renumber_keys.specs.Carry.{CarryAnswer, image_of, carried_keys, carry_of}
-use Rattle.decision.specs.declared.Verdict.{Verdict}
-use Rattle.decision.specs.Verdict.{stopped, going}
+use Rattle.decision.specs.declared.Refusal.{Refusal}
+use Rattle.decision.specs.Verdict.{Verdict, stopped, going}
 
 -- 2 of the table, before 3 to 21
-unfoldable pub tabled_by : Verdict → Lent → List (List ℕ) → Verdict
-tabled_by r table levels = cond (leb r.number 2 || table_sound table levels) r (stopped 2 0 0 0)
+unfoldable pub tabled_by : Refusal → Lent → List (List ℕ) → Verdict
+tabled_by r table levels = cond (leb r.number 2 || table_sound table levels) (Err r) (stopped 2 0 0 0)
 
 -- 2 of the table, then 16; `from` and `to` say whether the table's domains are the two ports'
 unfoldable pub numbered_by : CarryAnswer → Bool → Bool → Verdict
@@ -20,16 +20,14 @@ numbered_by (Ok c) from to = cond (from && to) (going c.level c.count) (stopped 
 
 -- with equal domains the verdict stays; with others the table is looked at, and carries the keys where no check applies
 unfoldable pub crossed_by : Verdict → ℕ → ℕ → Lent → List (List ℕ) → List ℕ → ℕ → Verdict
-crossed_by r domain leaving table levels own room =
-    cond (eqb domain leaving) r
-    (cond (eqb r.number 0)
-    (numbered_by (carry_of (key_runs (take r.count own)) r.level table levels room) (eqb table.from domain) (eqb table.to leaving))
-    (tabled_by r table levels))
+crossed_by (Ok p) domain leaving table levels own room =
+    cond (eqb domain leaving) (Ok p)
+    (numbered_by (carry_of (key_runs (take p.count own)) p.level table levels room) (eqb table.from domain) (eqb table.to leaving))
+crossed_by (Err r) domain leaving table levels own room = cond (eqb domain leaving) (Err r) (tabled_by r table levels)
 
 -- the far keys then: with equal domains as many of the own as there is room for
 unfoldable pub crossed_keys : Verdict → ℕ → ℕ → Lent → List (List ℕ) → List ℕ → List ℕ → List ℕ
-crossed_keys r domain leaving table levels own far =
+crossed_keys (Ok p) domain leaving table levels own far =
     cond (eqb domain leaving) (copied own far)
-    (cond (eqb r.number 0)
-    (carried_keys (carry_of (key_runs (take r.count own)) r.level table levels (length far)) (image_of table (key_runs (take r.count own))) far)
-    far)
+    (carried_keys (carry_of (key_runs (take p.count own)) p.level table levels (length far)) (image_of table (key_runs (take p.count own))) far)
+crossed_keys (Err r) domain leaving table levels own far = cond (eqb domain leaving) (copied own far) far

@@ -5,7 +5,7 @@ ghost use Rattle.std.specs.Prelude.{◌≡◌, length};
 ghost use Rattle.table.specs.Table.{lent};
 ghost use Rattle.forward_cross.specs.Crossed.{tabled_by, numbered_by, crossed_by, crossed_keys};
 
-use decision::{NETWORK_PROHIBITED, Verdict, barred, go_on, silent};
+use decision::{NETWORK_PROHIBITED, Refusal, Verdict, barred, go_on, silent};
 use lists::copy_list;
 use renumber_keys::{Carried, CarryError, carry};
 use table::{Table, table_sound};
@@ -31,25 +31,27 @@ pub fn cross(
         copy_list(own, far);
         return arrived;
     }
-    if arrived.number != 0 {
-        return check_table(arrived, table, rows, levels);
+    match arrived {
+        Err(refusal) => check_table(refusal, table, rows, levels),
+        Ok(passed) => {
+            // carrying checks the table itself
+            let carried = carry(own, passed.count, passed.level, table, rows, levels, far);
+            number_over(carried, from == domain, to == leaving)
+        }
     }
-    // carrying checks the table itself
-    let carried = carry(own, arrived.count, arrived.level, table, rows, levels, far);
-    number_over(carried, from == domain, to == leaving)
 }
 
 // Check 2 of the table, where another check applies: before 3 to 21.
-fn check_table(arrived: Verdict, table: Table, rows: &[u16], levels: Levels) -> Verdict
-    ensures { result ≡ tabled_by arrived (lent table rows.now) levels }
+fn check_table(refusal: Refusal, table: Table, rows: &[u16], levels: Levels) -> Verdict
+    ensures { result ≡ tabled_by refusal (lent table rows.now) levels }
 {
-    if arrived.number <= 2 {
-        return arrived;
+    if refusal.number <= 2 {
+        return Err(refusal);
     }
     if !table_sound(table, rows, levels) {
         return silent(2);
     }
-    arrived
+    Err(refusal)
 }
 
 // What carrying the label over says: 2 of the table, then 16, also for a table of other domains.

@@ -11,9 +11,8 @@ use Rattle.port.specs.Port.{port_sound, lowest_out, highest_out}
 use Rattle.table.specs.Table.{Lent, table_sound}
 use Rattle.decision.specs.declared.Decision.{Decision}
 use Rattle.decision.specs.declared.Facts.{Facts}
-use Rattle.decision.specs.declared.Verdict.{Verdict}
 use Rattle.decision.specs.Decision.{silenced}
-use Rattle.decision.specs.Verdict.{concluded}
+use Rattle.decision.specs.Verdict.{Verdict, concluded}
 use Rattle.arrive.specs.Checks.{basic_in}
 use Rattle.arrive.specs.Stages.{basic_read}
 use Rattle.forward_leave.specs.Departure.{recorded_by, sent_by, held_by_range}

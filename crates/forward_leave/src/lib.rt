@@ -9,17 +9,16 @@ ghost use Rattle.arrive.specs.Stages.{before_range, basic_read};
 ghost use Rattle.forward_leave.specs.Departure.{recorded_by, sent_by, held_by_range};
 
 use area::AREA_OCTETS;
-use arrive::{find_basic, is_open};
+use arrive::{find_basic, held_between, is_open, stopped_by};
 use basic::{Way, passes_way};
 use decision::{NETWORK_PROHIBITED, Verdict, barred, silent};
 use label::Label;
-use label_keys::{Look, look_between, runs_between};
 
 // Check 1 of the output, and 2 of the leaving port: before 3 to 21 of what arrived.
 pub fn check_leaving(arrived: Verdict, room: usize, sound: bool) -> Verdict
     ensures { result ≡ recorded_by arrived room sound }
 {
-    if arrived.number == 1 {
+    if stopped_by(arrived, 1) {
         return arrived;
     }
     if room < AREA_OCTETS {
@@ -56,7 +55,7 @@ pub fn hold_sending(ready: Verdict, from: bool, on: bool, sending: Way, area: &[
 pub fn bar_basic(ready: Verdict) -> Verdict
     ensures { result ≡ before_range ready (some (barred 21 9)) }
 {
-    if !is_open(ready.number) {
+    if !is_open(ready) {
         return ready;
     }
     barred(21, NETWORK_PROHIBITED)
@@ -73,27 +72,14 @@ pub fn hold_leaving(
 ) -> Verdict
     ensures { result ≡ held_by_range crossed (cond unlabelled default lowest) (cond unlabelled default highest) keys.now }
 {
-    if unlabelled {
-        return hold_between(crossed, default, default, keys);
+    let passed = crossed?;
+    let held = if unlabelled {
+        held_between(passed, default, default, keys)
+    } else {
+        held_between(passed, lowest, highest, keys)
+    };
+    if !held {
+        return barred(17, NETWORK_PROHIBITED);
     }
-    hold_between(crossed, lowest, highest, keys)
-}
-
-// Check 17, of the whole set: a first look at the range, and a pass where it leaves the answer open.
-fn hold_between(crossed: Verdict, lowest: Label, highest: Label, keys: &[u32]) -> Verdict
-    ensures { result ≡ held_by_range crossed lowest highest keys.now }
-{
-    if crossed.number != 0 {
-        return crossed;
-    }
-    match look_between(keys, crossed.count, crossed.level, lowest, highest) {
-        Look::Within => crossed,
-        Look::Outside => barred(17, NETWORK_PROHIBITED),
-        Look::Open => {
-            if !runs_between(keys, crossed.count, lowest, highest) {
-                return barred(17, NETWORK_PROHIBITED);
-            }
-            crossed
-        }
-    }
+    crossed
 }

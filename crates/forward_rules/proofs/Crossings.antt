@@ -27,7 +27,7 @@ use Rattle.renumber.specs.Renumber.{renumbered_as, image_runs, fitted, when_numb
 use Rattle.renumber.specs.Theorems as far
 use Rattle.renumber_keys.proofs.Carrying.{image_spaced}
 use Rattle.renumber.proofs.Theorems.{held_label, carrying}
-use Rattle.decision.specs.Decision.{Refusal}
+use Rattle.decision.specs.declared.Refusal.{Refusal}
 use Rattle.arrive.specs.Checks.{barred, when, first_of}
 use Rattle.arrive.proofs.First.{Real, real_first, real_when, first_none, when_none, not_false_yes}
 use Rattle.forward_rules.specs.Crossing.{Crossing, stays, partner, has_numbers, number_check, leaving_level, leaving_runs, leaving_check, leaving_label, crossing_checks}

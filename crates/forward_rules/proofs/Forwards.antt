@@ -21,7 +21,8 @@ use Rattle.area_leaving.specs.Kept.{kept_of, round_up, leaving_of, rest_count, r
 use Rattle.area_leaving.proofs.Laws.{kept_most, rest_counted, rest_whole}
 use Rattle.port.specs.Port.{port_sound, lowest_out, highest_out}
 use Rattle.table.specs.Table.{table_sound}
-use Rattle.decision.specs.Decision.{Refusal, silenced, refused, done}
+use Rattle.decision.specs.declared.Refusal.{Refusal}
+use Rattle.decision.specs.Decision.{silenced, refused, done}
 use Rattle.area.specs.Area.{bad_area}
 use Rattle.arrive.specs.Checks.{silent, barred, when, first_of, arriving_basic, basic_passes, arriving_label, range_check, arrival_checks}
 use Rattle.arrive.proofs.First.{or_else, first_append, first_none, none_first, when_none, Real, real_first, real_when, not_false_yes, real_else, Late, late_first, late_when, late_real, late_else}

@@ -14,7 +14,7 @@ use Rattle.table.specs.Table.{Lent, used_rows, table_sound}
 use Rattle.table_levels.specs.Levels.{Partner, partner_of, known, level_or0}
 use Rattle.table.specs.Numbers.{numbered}
 use Rattle.renumber.specs.Renumber.{image_runs}
-use Rattle.decision.specs.Decision.{Refusal}
+use Rattle.decision.specs.declared.Refusal.{Refusal}
 use Rattle.area.specs.Area.{bad_area}
 use Rattle.arrive.specs.Checks.{silent, barred, when, arriving_basic, basic_passes, arriving_label}
 

@@ -7,7 +7,8 @@ use Rattle.port.specs.declared.Port.{Port}
 use Rattle.table.specs.Table.{Lent}
 use Rattle.decision.specs.declared.Facts.{Facts}
 use Rattle.decision.specs.declared.Decision.{Decision}
-use Rattle.decision.specs.Decision.{Refusal, silenced, decided}
+use Rattle.decision.specs.declared.Refusal.{Refusal}
+use Rattle.decision.specs.Decision.{silenced, decided}
 use Rattle.arrive.specs.Checks.{first_of, option_checks, range_check}
 use Rattle.forward_rules.specs.Crossing.{Forwarding, sizes, records, leaving_basic_check, number_check, leaving_check, spelling_check, crossing, leaving_label, leaving_option}
 

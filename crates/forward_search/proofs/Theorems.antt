@@ -1,6 +1,6 @@
 -- The theorem of `specs/Theorems.antt`.
 use mathlib.Core.Path.{◌≡◌, refl, sym, ◌∙◌, ap}
-use mathlib.Core.Bool.{Bool, true, false, cond, ◌&&◌, ◌||◌}
+use mathlib.Core.Bool.{Bool, true, false, cond, ◌&&◌}
 use mathlib.Core.List.{List, ◌++◌, map}
 use Prim.Native.Nat.{ℕ, ◌+◌, ◌%◌, ◌≤◌}
 use native.Mathlib.Omega.{arith}
@@ -9,8 +9,8 @@ use native.Mathlib.Nat.{mod-eq_of_lt}
 use lib.Dec.{leb, eqb}
 use lib.ListN.{length, take, drop, get_or, length-append, length-take, length-drop, drop_of_length-le, take-append-drop}
 use lib.Seq.{take_all, drop_at}
-use borrow.Author.Tests.{leb-true, eq-eqb, eqb-true}
-use Rattle.std.specs.Prelude.{Option, None, Some}
+use borrow.Author.Tests.{leb-true}
+use Rattle.std.specs.Prelude.{Option, None, Some, Ok, Err, IsOk, IfOk}
 use Rattle.lists.specs.Lists.{copied}
 use Rattle.label.proofs.Bools.{never, and_right, or_true_right}
 use Rattle.table_levels.proofs.Partners.{missing_not}
@@ -20,8 +20,9 @@ use Rattle.label_keys.specs.Keys.{key_runs, run_key}
 use Rattle.table_levels.specs.Levels.{Partner, partner_of, partner_number, partner_from, known, level_or0}
 use Rattle.table.specs.Table.{Lent, used_rows, table_sound}
 use Rattle.table.specs.Numbers.{numbered}
-use Rattle.decision.specs.declared.Verdict.{Verdict}
-use Rattle.decision.specs.Verdict.{stopped}
+use Rattle.decision.specs.declared.Passed.{Passed}
+use Rattle.decision.specs.declared.Refusal.{Refusal}
+use Rattle.decision.specs.Verdict.{Verdict, stopped}
 use Rattle.renumber_keys.specs.Carry.{CarryAnswer, image_of, label_runs, carried_as, carried_keys, carry_of}
 use Rattle.renumber_partners.specs.Partners.{partners_in}
 use Rattle.renumber_partners.proofs.Theorems.{partners_listed}
@@ -30,7 +31,7 @@ use Rattle.renumber_search.specs.Theorems.{carried_where}
 use Rattle.renumber_search.proofs.Carries.{search_carries}
 use Rattle.forward_cross.specs.Crossed.{tabled_by, numbered_by, crossed_by, crossed_keys}
 use Rattle.forward_search.specs.Acts.{carried_verdict, leads, crossed_acts, acts_keys}
-use Rattle.forward_search.specs.Theorems.{acts, keys, ActsCross}
+use Rattle.forward_search.specs.Theorems.{acts, keys, Crosses, ActsCross}
 
 -- what the search and the partner say together
 partner_small : (v : ℕ) → partner_from v ≡ Some v → leb v 255 ≡ true
@@ -85,98 +86,117 @@ found_numbered : (b : Bool) (x : Option ℕ) (n m : ℕ) → x ≡ cond b (Some 
 found_numbered true x n m e w = refl
 found_numbered false x n m e w = absurd (missing_not m (sym e ∙ w))
 
--- the ways of a verdict
-same_ways : {A : Type 0} (b z : Bool) (r x y t : A) → (z ≡ true → x ≡ y) → t ≡ r → cond b r (cond z x r) ≡ cond b r (cond z y t)
-same_ways true z r x y t h e = refl
-same_ways false true r x y t h e = h refl
-same_ways false false r x y t h e = sym e
+-- both ways are one
+both : {A : Type 0} (b : Bool) (x : A) → x ≡ cond b x x
+both true x = refl
+both false x = refl
 
-module _ (r : Verdict) (domain leaving : ℕ) (t : Lent) (ls : List (List ℕ)) (own was far : List ℕ) (s : table_sound t ls ≡ true) (long : 256 ≤ length was) (small : r.level ≤ 255)
-    (formed : r.number ≡ 0 → label_runs (key_runs (take r.count own)) ≡ true) (room : 120 + t.count ≤ length far) where
-  abbrev runs : List Run
-  runs = key_runs (take r.count own)
+module _ (domain leaving : ℕ) (t : Lent) (ls : List (List ℕ)) (own was far : List ℕ) (s : table_sound t ls ≡ true) where
+  abbrev runs : Passed → List Run
+  runs q = key_runs (take q.count own)
 
-  abbrev p : Partner
-  p = partner_of (take t.pairs ls) r.level
+  abbrev p : Passed → Partner
+  p q = partner_of (take t.pairs ls) q.level
 
   abbrev partners : List ℕ
   partners = partners_in (take t.pairs ls) was
 
-  abbrev to : ℕ
-  to = get_or partners r.level 256
+  abbrev to : Passed → ℕ
+  to q = get_or partners q.level 256
 
   abbrev there : Bool
   there = eqb t.from domain && eqb t.to leaving
 
-  abbrev found : Option ℕ
-  found = searched_of (used_rows t) runs (length far)
+  abbrev found : Passed → Option ℕ
+  found q = searched_of (used_rows t) (runs q) (length far)
 
-  number_is : to ≡ partner_number p
-  number_is = partners_listed.number (take t.pairs ls) was r.level long small
+  -- of what passed
+  module _ (q : Passed) (long : 256 ≤ length was) (small : q.level ≤ 255) (formed : label_runs (runs q) ≡ true) (room : 120 + t.count ≤ length far) where
+    number_is : to q ≡ partner_number (p q)
+    number_is = partners_listed.number (take t.pairs ls) was q.level long small
 
-  partner_is : partner_from to ≡ p
-  partner_is = partners_listed.partner t ls was r.level s long small
+    partner_is : partner_from (to q) ≡ p q
+    partner_is = partners_listed.partner t ls was q.level s long small
 
-  carried_is : r.number ≡ 0 → carry_of runs r.level t ls (length far) ≡ carried_where p found
-  carried_is n = search_carries.carried t ls runs r.level (length far) s (formed n) room
+    carried_is : carry_of (runs q) q.level t ls (length far) ≡ carried_where (p q) (found q)
+    carried_is = search_carries.carried t ls (runs q) q.level (length far) s formed room
 
-  same_verdict : acts r domain leaving t ls own was far ≡ crossed_by r domain leaving t ls own (length far)
-  unfolding crossed_acts crossed_by tabled_by
-  same_verdict =
-      let w : (leb r.number 2 || table_sound t ls) ≡ true = or_true_right (leb r.number 2) s in
-      same_ways (eqb domain leaving) (eqb r.number 0) r
-      (cond (leads r there partners) (carried_verdict found to) (stopped 16 3 9 0))
-      (numbered_by (carry_of runs r.level t ls (length far)) (eqb t.from domain) (eqb t.to leaving))
-      (cond (leb r.number 2 || table_sound t ls) r (stopped 2 0 0 0))
-      (λ e. sym (ap (λ (c : CarryAnswer). numbered_by c (eqb t.from domain) (eqb t.to leaving)) (carried_is (eqb-true _ _ e)) ∙ numbered_search p to found (eqb t.from domain) (eqb t.to leaving) number_is partner_is))
-      (rw w)
+    passed_verdict : acts (Ok q) domain leaving t ls own was far ≡ crossed_by (Ok q) domain leaving t ls own (length far)
+    unfolding crossed_acts crossed_by
+    passed_verdict =
+        ap (cond (eqb domain leaving) (Ok q))
+        (sym (ap (λ (c : CarryAnswer). numbered_by c (eqb t.from domain) (eqb t.to leaving)) carried_is ∙ numbered_search (p q) (to q) (found q) (eqb t.from domain) (eqb t.to leaving) number_is partner_is))
 
-  -- the keys where the search was made and found every category's number
-  found_keys : (n : ℕ) → r.number ≡ 0 → leb to 255 ≡ true → found ≡ Some n → (keys : List ℕ) → keys ≡ searched_keys (used_rows t) runs far
-      → keys ≡ carried_keys (carry_of runs r.level t ls (length keys)) (image_of t runs) keys
-  found_keys k n l w keys e =
-      let z : length keys ≡ length far = ap length e ∙ search_carries.sized (used_rows t) runs far in
-      let q : known p ≡ true = ap known (sym partner_is) ∙ rw l in
-      let c : carry_of runs r.level t ls (length keys) ≡ carried_as (level_or0 p) k = ap (carry_of runs r.level t ls) z ∙ carried_is n ∙ where_ok p found k q w in
-      let a = search_carries.carries t ls runs s (formed n) in
-      let m : numbered (used_rows t) runs ≡ true = found_numbered (numbered (used_rows t) runs) found (length (image_of t runs)) k (a.answer (length far) room) w in
-      let h : take (length (image_of t runs)) keys ≡ map run_key (image_of t runs) = ap (take (length (image_of t runs))) e ∙ a.keys far room m in
-      sym (take-append-drop (length (image_of t runs)) keys)
-      ∙ ap (λ (x : List ℕ). x ++ drop (length (image_of t runs)) keys) h
-      ∙ sym (carried_keys_lem (image_of t runs) keys (carry_of runs r.level t ls (length keys)) _ c)
+    -- the keys where the search was made and found every category's number
+    found_keys : (n : ℕ) → leb (to q) 255 ≡ true → found q ≡ Some n → (keys : List ℕ) → keys ≡ searched_keys (used_rows t) (runs q) far
+        → keys ≡ carried_keys (carry_of (runs q) q.level t ls (length keys)) (image_of t (runs q)) keys
+    found_keys n l w keys e =
+        let z : length keys ≡ length far = ap length e ∙ search_carries.sized (used_rows t) (runs q) far in
+        let k : known (p q) ≡ true = ap known (sym partner_is) ∙ rw l in
+        let c : carry_of (runs q) q.level t ls (length keys) ≡ carried_as (level_or0 (p q)) n = ap (carry_of (runs q) q.level t ls) z ∙ carried_is ∙ where_ok (p q) (found q) n k w in
+        let a = search_carries.carries t ls (runs q) s formed in
+        let m : numbered (used_rows t) (runs q) ≡ true = found_numbered (numbered (used_rows t) (runs q)) (found q) (length (image_of t (runs q))) n (a.answer (length far) room) w in
+        let h : take (length (image_of t (runs q))) keys ≡ map run_key (image_of t (runs q)) = ap (take (length (image_of t (runs q)))) e ∙ a.keys far room m in
+        sym (take-append-drop (length (image_of t (runs q))) keys)
+        ∙ ap (λ (x : List ℕ). x ++ drop (length (image_of t (runs q))) keys) h
+        ∙ sym (carried_keys_lem (image_of t (runs q)) keys (carry_of (runs q) q.level t ls (length keys)) _ c)
 
-  same_keys : (acts r domain leaving t ls own was far).number ≡ 0 → keys r domain leaving t ls own was far ≡ crossed_keys r domain leaving t ls own (keys r domain leaving t ls own was far)
-  unfolding crossed_acts acts_keys crossed_keys
-  same_keys = go (eqb domain leaving) (eqb r.number 0) (leads r there partners) found refl refl refl
-    where
-      at : (b z l : Bool) → List ℕ
-      at b z l = cond b (copied own far) (cond z (cond l (searched_keys (used_rows t) runs far) far) far)
+    passed_keys : IsOk (acts (Ok q) domain leaving t ls own was far)
+        → keys (Ok q) domain leaving t ls own was far ≡ crossed_keys (Ok q) domain leaving t ls own (keys (Ok q) domain leaving t ls own was far)
+    unfolding crossed_acts acts_keys crossed_keys
+    passed_keys = go (eqb domain leaving) (leads q there partners) (found q) refl refl
+      where
+        at : (b l : Bool) → List ℕ
+        at b l = cond b (copied own far) (cond l (searched_keys (used_rows t) (runs q) far) far)
 
-      go : (b z l : Bool) (w : Option ℕ) → eqb r.number 0 ≡ z → leads r there partners ≡ l → found ≡ w
-          → (cond b r (cond z (cond l (carried_verdict w to) (stopped 16 3 9 0)) r)).number ≡ 0
-          → at b z l ≡ cond b (copied own (at b z l)) (cond z (carried_keys (carry_of runs r.level t ls (length (at b z l))) (image_of t runs) (at b z l)) (at b z l))
-      go true z l w ez el ew h = copied_twice own far
-      go false true true (Some n) ez el ew h = found_keys n (eqb-true _ _ ez) (and_right there _ el) ew (searched_keys (used_rows t) runs far) refl
-      go false true true None ez el ew h = absurd (omega arith)
-      go false true false w ez el ew h = absurd (omega arith)
-      go false false l w ez el ew h = absurd (never (sym (eq-eqb _ _ h) ∙ ez))
+        go : (b l : Bool) (w : Option ℕ) → leads q there partners ≡ l → found q ≡ w
+            → IsOk (cond b (Ok q) (cond l (carried_verdict w (to q)) (stopped 16 3 9 0)))
+            → at b l ≡ cond b (copied own (at b l)) (carried_keys (carry_of (runs q) q.level t ls (length (at b l))) (image_of t (runs q)) (at b l))
+        go true l w el ew h = copied_twice own far
+        go false true (Some n) el ew h = found_keys n (and_right there _ el) ew (searched_keys (used_rows t) (runs q) far) refl
+        go false true None el ew h = absurd (never (sym h))
+        go false false w el ew h = absurd (never (sym h))
 
-  same_sized : length (keys r domain leaving t ls own was far) ≡ length far
-  unfolding acts_keys
-  same_sized = go (eqb domain leaving) (eqb r.number 0) (leads r there partners)
-    where
-      go : (b z l : Bool) → length (cond b (copied own far) (cond z (cond l (searched_keys (used_rows t) runs far) far) far)) ≡ length far
-      go true z l = copied_sized own far
-      go false true true = search_carries.sized (used_rows t) runs far
-      go false true false = refl
-      go false false l = refl
+    passed_sized : length (keys (Ok q) domain leaving t ls own was far) ≡ length far
+    unfolding acts_keys
+    passed_sized = go (eqb domain leaving) (leads q there partners)
+      where
+        go : (b l : Bool) → length (cond b (copied own far) (cond l (searched_keys (used_rows t) (runs q) far) far)) ≡ length far
+        go true l = copied_sized own far
+        go false true = search_carries.sized (used_rows t) (runs q) far
+        go false false = refl
+
+  -- of a refusal
+  module _ (r : Refusal) where
+    refused_verdict : acts (Err r) domain leaving t ls own was far ≡ crossed_by (Err r) domain leaving t ls own (length far)
+    unfolding crossed_acts crossed_by tabled_by
+    refused_verdict = rw (or_true_right (leb r.number 2) s) (both (eqb domain leaving) (Err r))
+
+    refused_keys : IsOk (acts (Err r) domain leaving t ls own was far)
+        → keys (Err r) domain leaving t ls own was far ≡ crossed_keys (Err r) domain leaving t ls own (keys (Err r) domain leaving t ls own was far)
+    unfolding crossed_acts
+    refused_keys h = absurd (never (sym h))
+
+    refused_sized : length (keys (Err r) domain leaving t ls own was far) ≡ length far
+    unfolding acts_keys
+    refused_sized = go (eqb domain leaving)
+      where
+        go : (b : Bool) → length (cond b (copied own far) far) ≡ length far
+        go true = copied_sized own far
+        go false = refl
+
+crosses : (r : Verdict) (domain leaving : ℕ) (t : Lent) (ls : List (List ℕ)) (own was far : List ℕ) → table_sound t ls ≡ true → 256 ≤ length was → IfOk r (λ q. q.level ≤ 255)
+    → IfOk r (λ q. label_runs (key_runs (take q.count own)) ≡ true) → 120 + t.count ≤ length far → Crosses r domain leaving t ls own was far
+crosses (Ok q) d l t ls own was far s a v f h = record {
+  verdict = passed_verdict d l t ls own was far s q a v f h;
+  far_keys = passed_keys d l t ls own was far s q a v f h;
+  sized = passed_sized d l t ls own was far s q a v f h;
+}
+crosses (Err r) d l t ls own was far s a v f h = record {
+  verdict = refused_verdict d l t ls own was far s r;
+  far_keys = refused_keys d l t ls own was far s r;
+  sized = refused_sized d l t ls own was far s r;
+}
 
 pub acts_cross : ActsCross
-acts_cross =
-    record {
-      crosses = λ r d l t ls own was far s a v f h. record {
-        verdict = same_verdict r d l t ls own was far s a v f h;
-        far_keys = same_keys r d l t ls own was far s a v f h;
-        sized = same_sized r d l t ls own was far s a v f h;
-      };
-    }
+acts_cross = record { crosses = crosses }

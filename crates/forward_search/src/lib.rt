@@ -31,15 +31,13 @@ pub fn cross_checked(
         copy_list(own, far);
         return arrived;
     }
-    if arrived.number != 0 {
-        return arrived;
-    }
-    let to = partner_at(partners, arrived.level);
+    let passed = arrived?;
+    let to = partner_at(partners, passed.level);
     let known = to <= 255;
     if !(there & known) {
         return barred(16, NETWORK_PROHIBITED);
     }
-    verdict_of(carry_rows(own, arrived.count, rows, far), to)
+    verdict_of(carry_rows(own, passed.count, rows, far), to)
 }
 
 // What the search says, of a level with a partner.

@@ -16,10 +16,10 @@ use option_write::write_keys;
 pub fn kept_by(held: Verdict, area: &[u8]) -> usize
     ensures { result ≡ kept_by held area.now }
 {
-    if held.number != 0 {
-        return 0;
+    match held {
+        Err(_) => 0,
+        Ok(_) => count_kept(area),
     }
-    count_kept(area)
 }
 
 // Check 18: a label holds the set, it has a spelling among the permitted ones, and the options have room. Toward unlabelled hosts nothing is spelled, and
@@ -33,22 +33,20 @@ pub fn fit(
 ) -> Verdict
     ensures { (d : ℕ) → result ≡ fitted_by unlabelled permitted d held kept keys.now }
 {
-    if held.number != 0 {
-        return held;
-    }
-    let n = held.count;
+    let passed = held?;
+    let n = passed.count;
     if Label::MAX_RUNS < n {
         return barred(18, NETWORK_PROHIBITED);
     }
     if unlabelled {
-        return held;
+        return Ok(passed);
     }
     let m = n.min(keys.len());
     let size = keys_length(&keys[..m], permitted);
     if !has_room(size, kept) {
         return barred(18, NETWORK_PROHIBITED);
     }
-    held
+    Ok(passed)
 }
 
 // Whether there is an option of this size, and 40 octets hold it and the kept ones.
@@ -78,21 +76,21 @@ pub fn write_area(
     ensures value { result ≡ area_count verdict unlabelled permitted domain kept area.now keys.now out.old }
     ensures out_after { out.new ≡ area_written verdict unlabelled permitted domain kept area.now keys.now out.old }
 {
-    if verdict.number != 0 {
-        return 0;
+    match verdict {
+        Err(_) => 0,
+        Ok(passed) => {
+            let n = passed.count.min(keys.len());
+            let size = put_option(
+                unlabelled,
+                &keys[..n],
+                permitted,
+                domain,
+                passed.level,
+                &mut out[..],
+            );
+            write_rest(area, size, kept, &mut out[..])
+        }
     }
-    let n = verdict.count.min(keys.len());
-    let level = verdict.level;
-    let size = put_option(
-        unlabelled,
-        &keys[..n],
-        permitted,
-        domain,
-        level,
-        &mut out[..],
-    );
-    let count = write_rest(area, size, kept, &mut out[..]);
-    count
 }
 
 // Writes the option to the front of the output and returns its length; nothing toward unlabelled hosts.

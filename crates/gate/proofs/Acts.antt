@@ -3,10 +3,10 @@ use mathlib.Core.Path.{◌≡◌, refl, sym, ◌∙◌, ap, subst}
 use mathlib.Core.Bool.{Bool, true, false, cond, not, ◌||◌}
 use mathlib.Core.List.{List, [], ◌∷◌, ◌++◌, map}
 use mathlib.Core.Option.{Option, none, some}
-use Prim.Native.Nat.{ℕ, ◌+◌, ◌-◌, ◌*◌, ◌/◌, ◌%◌, ◌≤◌, ◌<◌}
+use Prim.Native.Nat.{ℕ, ◌+◌, ◌*◌, ◌/◌, ◌%◌, ◌≤◌, ◌<◌}
 use native.Mathlib.Omega.{arith}
 use lib.Dec.{ltb, eqb}
-use lib.ListN.{length, get_or, take, drop, length-map}
+use lib.ListN.{length, take, drop, length-map}
 use lib.Seq.{take_at}
 use borrow.Author.Tests.{eq-eqb, ne_eqb, le-leb, lt-leb, le-ltb}
 use Rattle.lists.specs.Lists.{copied}
@@ -20,23 +20,20 @@ use Rattle.label_keys.specs.Range.{answered, look_of, runs_between}
 use Rattle.option_read.specs.Reading.{Reading}
 use Rattle.option_read.specs.Keys.{KeyReading}
 use Rattle.option_read.specs.Reading.{reading_for}
-use Rattle.option_read.specs.Keys.{keyed, labelled, key_reading_for, keys_after, ReadsKeys}
+use Rattle.option_read.specs.Keys.{keyed, labelled, key_reading_for, ReadsKeys}
 use Rattle.option_slack.specs.Strict.{stops_slack}
 use Rattle.option_slack.proofs.Strict.{strict_else, strict_stops}
 use Rattle.std.specs.Prelude.{Ok, Err, Some, None}
 use Rattle.area.specs.Kinds.{Place, Walk, places, fault}
 use Rattle.area.specs.Area.{bad_area, walk_of}
-use Rattle.area.proofs.Laws.{area_refused, off_nowhere, slice_is}
+use Rattle.area.proofs.Laws.{off_nowhere}
 use Rattle.port.specs.declared.Port.{Port}
-use Rattle.decision.specs.declared.Verdict.{Verdict}
-use Rattle.decision.specs.Decision.{Refusal}
-use Rattle.decision.specs.Verdict.{verdict_of, stopped, going}
+use Rattle.decision.specs.declared.Refusal.{Refusal}
+use Rattle.decision.specs.Verdict.{Verdict, passed_with, verdict_of, stopped, going}
 use Rattle.arrive.specs.Checks.{faulty, barred, when, first_of, walk_at, walk_check, place_in, option_at, read_at, required_by, required_check, option_by, option_check, bad_basic_check, arriving_basic, missing_basic_check, basic_range_check, label_by, arriving_label}
-use Rattle.arrive.specs.Verdict.{keys_by}
 use Rattle.arrive.specs.Stages.{basic_checks, before_range, held_between}
-use Rattle.arrive.proofs.First.{Early, early_first, between, before_none, before_zero}
-use Rattle.arrive.proofs.Arrival.{arrival_early, basic_real}
-use Rattle.forward_leave.specs.Departure.{held_by_range}
+use Rattle.arrive.proofs.First.{Early, early_first, between, before_none, before_ok}
+use Rattle.arrive.proofs.Arrival.{arrival_early}
 use Rattle.gate.specs.Acts.{label_between, outside, acts_checks, acts_of, acts_keys, Acts}
 use Rattle.gate.specs.Stages.{place_acts, ActsAt}
 
@@ -51,7 +48,7 @@ key_back (k ∷ ks) =
     λ i. e i ∷ t i
 
 pub acts_required : (p : Port) (area keys : List ℕ) (code : ℕ) → p.required ≡ true → ActsAt None p area code keys keys (stopped 6 12 1 134)
-acts_required p area keys code e = record { answer = rw e; left = rw e; stands = λ z h. absurd (omega arith) }
+acts_required p area keys code e = record { answer = rw e; left = rw e; stands = tt }
 
 -- the assigned label, given by its keys
 module _ (p : Port) (area keys : List ℕ) (code : ℕ) (d v : ℕ) (given : List ℕ) (is : p.assigned ≡ label_of d v (key_runs given)) (e : p.required ≡ false) (room : 120 ≤ length keys) where
@@ -76,7 +73,7 @@ module _ (p : Port) (area keys : List ℕ) (code : ℕ) (d v : ℕ) (given : Lis
       record {
         answer = going_is;
         left = rw (e, is) (sym (over_keys h));
-        stands = λ z w. absurd (omega (arith, rw (is, count_is) at w));
+        stands = λ w. absurd (omega (arith, rw (is, count_is) at w));
       }
 
   pub acts_assigned : (keys' : List ℕ) → length given ≤ 120 → keys' ≡ copied given keys → ActsAt None p area code keys keys' (going v (length given))
@@ -84,26 +81,23 @@ module _ (p : Port) (area keys : List ℕ) (code : ℕ) (d v : ℕ) (given : Lis
       record {
         answer = going_is;
         left = rw (e, is) (w ∙ sym (fit_keys h));
-        stands = λ z q.
+        stands = λ q.
             rw (is, used_of d v (key_runs given))
             (ap key_runs (ap (take (length given)) (w ∙ copied_whole given keys (omega arith)) ∙ take_at given (drop (length given) keys) (length given) refl));
       }
 
 -- 2. The option is read into keys.
 module _ (p : Port) (area keys keys' : List ℕ) (at code : ℕ) (r : KeyReading)
-    (is : ReadsKeys p.domain (take (at + get_or area (at + 1) 0 - at) (drop at area)) keys keys' r) (room : 120 ≤ length keys) where
+    (is : ReadsKeys p.domain (option_at at area) keys keys' r) (room : 120 ≤ length keys) where
   abbrev whole : Reading
   whole = labelled p.domain r keys'
 
-  left_is : keys' ≡ keys_by (Some at) p area keys
-  left_is = is.left ∙ ap (λ (o : List ℕ). keys_after p.domain o keys) (slice_is at area)
-
   answer_is : r ≡ keyed (reading_for p.domain (option_at at area))
   unfolding key_reading_for
-  answer_is = (rw (le-ltb (length keys) 120 room) at is.answer) ∙ ap (λ (o : List ℕ). keyed (reading_for p.domain o)) (slice_is at area)
+  answer_is = rw (le-ltb (length keys) 120 room) at is.answer
 
   reading_is : whole ≡ reading_for p.domain (option_at at area)
-  reading_is = is.reading room ∙ ap (reading_for p.domain) (slice_is at area)
+  reading_is = is.reading room
 
   -- the checks, by what was read at a port that may be strict and for its domain
   abbrev read_acts : Bool → Reading → Reading → Verdict
@@ -115,10 +109,10 @@ module _ (p : Port) (area keys keys' : List ℕ) (at code : ℕ) (r : KeyReading
 
   -- whether 23 decides
   abbrev stops : Bool
-  stops = stops_slack p.strict r.number (take (at + get_or area (at + 1) 0 - at) (drop at area))
+  stops = stops_slack p.strict r.number (option_at at area)
 
   stops_is : (b : Bool) → stops ≡ b → stops_slack p.strict (reading_for p.domain (option_at at area)).number (option_at at area) ≡ b
-  stops_is b e = (λ i. stops_slack p.strict (sym reading_is i).number (sym (slice_is at area) i)) ∙ e
+  stops_is b e = rw (← reading_is) e
 
   pub acts_slack : stops ≡ true → ActsAt (Some at) p area code keys keys' (stopped 23 12 0 (20 + (at + 10)))
   acts_slack e =
@@ -126,8 +120,8 @@ module _ (p : Port) (area keys keys' : List ℕ) (at code : ℕ) (r : KeyReading
         answer = sym
             (ap (λ (x : Reading). read_acts (outside (Some at) p area) x (reading_for p.domain (option_at at area)))
             (strict_stops p.strict p.domain (option_at at area) (stops_is true e)));
-        left = left_is;
-        stands = λ z w. absurd (omega arith);
+        left = is.left;
+        stands = tt;
       }
 
   strict_is : stops ≡ false → read_at p (option_at at area) ≡ reading_for p.domain (option_at at area)
@@ -139,15 +133,15 @@ module _ (p : Port) (area keys keys' : List ℕ) (at code : ℕ) (r : KeyReading
       record {
         answer = sym q ∙ ap (λ (x : Reading). read_acts (outside (Some at) p area) x x) reading_is
             ∙ sym (ap (λ (x : Reading). read_acts (outside (Some at) p area) x (reading_for p.domain (option_at at area))) (strict_is passed));
-        left = left_is;
-        stands = λ z w. absurd (h z);
+        left = is.left;
+        stands = tt;
       }
 
   module _ (passed : stops ≡ false) (z : r.number ≡ 0) where
     used_is : used whole.label ≡ key_runs (take r.count keys')
     used_is = used_of (cond (eqb r.number 0) p.domain 0) r.level (key_runs (take r.count keys'))
 
-    held_is : held_between p.lowest p.highest (going r.level r.count) keys' ≡ label_between p.lowest p.highest (label_by (Some at) p area)
+    held_is : held_between p.lowest p.highest (passed_with r.level r.count) keys' ≡ label_between p.lowest p.highest (label_by (Some at) p area)
     held_is =
         ap (λ (rs : List Run). answered (look_of p.lowest p.highest r.level rs) (runs_between p.lowest p.highest rs)) (sym used_is)
         ∙ ap (λ (x : Reading). label_between p.lowest p.highest x.label) reading_is
@@ -158,19 +152,19 @@ module _ (p : Port) (area keys keys' : List ℕ) (at code : ℕ) (r : KeyReading
     number_is : eqb (read_at p (option_at at area)).number 0 ≡ true
     number_is = ap (λ (x : Reading). eqb x.number 0) (strict_is passed ∙ sym reading_is) ∙ eq-eqb r.number 0 z
 
-    pub acts_held : (b : Bool) → b ≡ held_between p.lowest p.highest (going r.level r.count) keys'
+    pub acts_held : (b : Bool) → b ≡ held_between p.lowest p.highest (passed_with r.level r.count) keys'
         → ActsAt (Some at) p area code keys keys' (cond b (going r.level r.count) (stopped 14 3 code 0))
     acts_held true e =
         record {
           answer = counted ∙ sym (rw (number_is, sym (e ∙ held_is)));
-          left = left_is;
-          stands = λ w h. sym used_is ∙ ap (λ (x : Reading). used x.label) reading_is;
+          left = is.left;
+          stands = λ h. sym used_is ∙ ap (λ (x : Reading). used x.label) reading_is;
         }
     acts_held false e =
         record {
           answer = sym (rw (number_is, sym (e ∙ held_is)));
-          left = left_is;
-          stands = λ w h. absurd (omega arith);
+          left = is.left;
+          stands = tt;
         }
 
 -- 3. Check 1, the walk, and 19 to 21 between.
@@ -195,7 +189,7 @@ label_early p area code l b e =
 module _ (p : Port) (area keys : List ℕ) (code : ℕ) where
   pub acts_sized : (bad_area area || ltb (length keys) 120) ≡ true → Acts p area code keys keys (stopped 1 0 0 0)
   unfolding acts_of acts_keys
-  acts_sized e = record { answer = rw e; left = rw e; stands = λ z h. absurd (omega arith) }
+  acts_sized e = record { answer = rw e; left = rw e; stands = tt }
 
   module _ (sized : (bad_area area || ltb (length keys) 120) ≡ false) where
     pub acts_walked : (n at : ℕ) → walk_at p area ≡ Err (fault n at) → Acts p area code keys keys (stopped n 12 0 (20 + at))
@@ -204,7 +198,7 @@ module _ (p : Port) (area keys : List ℕ) (code : ℕ) where
         record {
           answer = rw (sized, acts_walk p area code n at e);
           left = rw (sized, e);
-          stands = λ z h. absurd (omega (arith, (area_refused p.basic.on area n at e).0));
+          stands = tt;
         }
 
     acts_between : (l b : Place) (keys' : List ℕ) (r : Verdict) → walk_at p area ≡ Ok (places l b) → ActsAt l p area code keys keys' r
@@ -224,9 +218,7 @@ module _ (p : Port) (area keys : List ℕ) (code : ℕ) where
         record {
           answer = rw (sized, a.1) g;
           left = rw (sized, e) w.left;
-          stands = λ z h.
-              (let q : before_range r o ≡ r = before_zero r o (basic_real b p.basic.on p.basic.receiving area code) z in
-              rw (q, a.1) (w.stands (ap (λ (x : Verdict). x.number) (sym q) ∙ z) (rw a.1 at h)));
+          stands = before_ok r o _ (rw a.1 w.stands);
         }
 
     -- where the port does not read option 130 there is none
@@ -244,21 +236,3 @@ module _ (p : Port) (area keys : List ℕ) (code : ℕ) where
         subst (Acts p area code keys keys')
         (ap (λ (t : Bool). before_range r (first_of (basic_checks b t p.basic.receiving area code))) f ∙ sym g)
         (acts_between l b keys' r e w)
-
--- 4. Check 17 toward a gate.
-
-pub held_stays : (r : Verdict) (lowest highest : Label) (keys : List ℕ) → (r.number ≡ 0 → ⊥) → r ≡ held_by_range r lowest highest keys
-unfolding held_by_range
-held_stays r lowest highest keys n = rw (ne_eqb r.number 0 n)
-
-held_answer : (r : Verdict) (lowest highest : Label) (keys : List ℕ) (b : Bool) → r.number ≡ 0 → b ≡ held_between lowest highest r keys → cond b r (stopped 17 3 9 0) ≡ held_by_range r lowest highest keys
-unfolding held_by_range
-held_answer r lowest highest keys b z e = ap (λ (t : Bool). cond t r (stopped 17 3 9 0)) e ∙ sym (rw (eq-eqb r.number 0 z))
-
-pub held_only : (r : Verdict) (u : Bool) (only lowest highest : Label) (keys : List ℕ) (b : Bool) → r.number ≡ 0 → u ≡ true → b ≡ held_between only only r keys
-    → cond b r (stopped 17 3 9 0) ≡ held_by_range r (cond u only lowest) (cond u only highest) keys
-held_only r u only lowest highest keys b z t e = held_answer r only only keys b z e ∙ sym (ap (λ (x : Bool). held_by_range r (cond x only lowest) (cond x only highest) keys) t)
-
-pub held_within : (r : Verdict) (u : Bool) (only lowest highest : Label) (keys : List ℕ) (b : Bool) → r.number ≡ 0 → u ≡ false → b ≡ held_between lowest highest r keys
-    → cond b r (stopped 17 3 9 0) ≡ held_by_range r (cond u only lowest) (cond u only highest) keys
-held_within r u only lowest highest keys b z t e = held_answer r lowest highest keys b z e ∙ sym (ap (λ (x : Bool). held_by_range r (cond x only lowest) (cond x only highest) keys) t)

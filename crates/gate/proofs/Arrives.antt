@@ -3,7 +3,7 @@ use mathlib.Core.Path.{◌≡◌, refl, sym, ◌∙◌, ap}
 use mathlib.Core.Bool.{Bool, true, false, cond, not, ◌||◌}
 use mathlib.Core.List.{List, [], ◌∷◌, ◌++◌}
 use mathlib.Core.Option.{Option, none, some}
-use Prim.Native.Nat.{ℕ, ◌+◌, ◌<◌}
+use Prim.Native.Nat.{ℕ, ◌+◌, ◌≤◌, ◌<◌}
 use native.Mathlib.Omega.{arith}
 use lib.Dec.{ltb, eqb}
 use lib.ListN.{length, get_or}
@@ -17,7 +17,7 @@ use Rattle.option.proofs.Octets.{octets_part}
 use Rattle.option_read.specs.Reading.{reading_for}
 use Rattle.option_read.proofs.Theorems.{reads}
 use Rattle.option_slack.proofs.Strict.{strictly_reads}
-use Rattle.std.specs.Prelude.{Ok, Err, Some, None}
+use Rattle.std.specs.Prelude.{Ok, Err, IfOk, Some, None}
 use Rattle.area.specs.Kinds.{Place, Walk}
 use Rattle.area.specs.declared.Kind.TheVariants.{Cipso}
 use Rattle.area.specs.Area.{bad_area, placed_within, WholeAt}
@@ -25,14 +25,13 @@ use Rattle.area.proofs.Laws.{sound_placed}
 use Rattle.port.specs.declared.Port.{Port}
 use Rattle.port.specs.Port.{port_sound}
 use Rattle.port.proofs.Laws.{sound}
-use Rattle.decision.specs.declared.Verdict.{Verdict}
-use Rattle.decision.specs.Decision.{Refusal}
-use Rattle.decision.specs.Verdict.{verdict_of}
+use Rattle.decision.specs.declared.Passed.{Passed}
+use Rattle.decision.specs.declared.Refusal.{Refusal}
+use Rattle.decision.specs.Verdict.{Verdict, verdict_of}
 use Rattle.arrive.specs.Checks.{silent, barred, when, first_of, walk_at, option_at, read_at, required_by, option_by, label_by, arriving_label, arrival_checks}
 use Rattle.arrive.specs.Verdict.{keys_walked, arrival_of, arrival_keys, Arrives}
 use Rattle.arrive.specs.Stages.{basic_checks}
-use Rattle.arrive.proofs.First.{Real}
-use Rattle.arrive.proofs.Arrival.{arrival_refused, arrival_placed, arrival_real, arrival_held, placed_framed}
+use Rattle.arrive.proofs.Arrival.{arrival_refused, arrival_placed, arrival_held, placed_framed}
 use Rattle.gate.specs.Acts.{label_between, outside, acts_checks, acts_of, acts_keys, Acts}
 use Rattle.gate.proofs.Acts.{acts_walk, acts_placed}
 
@@ -80,15 +79,15 @@ module _ (p : Port) (area : List ℕ) (code : ℕ) (s : port_sound p ≡ true) (
       go (Ok m) e =
           (acts_placed p area code m.label m.basic e).0 ∙ at_place m.label m.basic (sound_placed p.basic.on area m.label m.basic e).0 ∙ sym (arrival_placed p area code m.label m.basic e).0
 
-  none_of : (o : Option Refusal) (v n : ℕ) → Real o → (verdict_of o v n).number ≡ 0 → o ≡ none
-  none_of none v n h z = refl
-  none_of (some x) v n h z = absurd (h z)
+  -- where no check applies, the label has at most 120 runs
+  stands_if : (o : Option Refusal) (v n : ℕ) (P : Passed → Type 0) → (o ≡ none → (arriving_label p area).count ≤ 120)
+      → IfOk (verdict_of o v n) (λ q. (arriving_label p area).count ≤ 120 → P q) → IfOk (verdict_of o v n) P
+  stands_if none v n P f h = h (f refl)
+  stands_if (some x) v n P f h = tt
 
-  -- where no check applies
-  none_applies : (t : Bool) (v n : ℕ) → (verdict_of (first_of (when t (silent 1) ∷ acts_checks p area code)) v n).number ≡ 0 → first_of (arrival_checks p area code) ≡ none
-  none_applies true v n z = absurd (omega arith)
-  none_applies false v n z =
-      none_of (first_of (arrival_checks p area code)) v n (arrival_real p area code) (ap (λ (o : Option Refusal). (verdict_of o v n).number) (sym same_checks) ∙ z)
+  few : (t : Bool) → first_of (when t (silent 1) ∷ acts_checks p area code) ≡ none → (arriving_label p area).count ≤ 120
+  few true e = let z : ◌≡◌ {A = ℕ} 0 1 = cc in absurd (omega arith)
+  few false e = (formed (arriving_label p area) (arrival_held p area code s (sym same_checks ∙ e)).formed).held
 
   same_answer : (t u : Bool) (v n : ℕ) → u ≡ true
       → verdict_of (first_of (when t (silent 1) ∷ acts_checks p area code)) v n ≡ verdict_of (first_of (when t (silent 1) ∷ when (not u) (silent 2) ∷ arrival_checks p area code)) v n
@@ -105,7 +104,5 @@ module _ (p : Port) (area : List ℕ) (code : ℕ) (s : port_sound p ≡ true) (
       record {
         answer = a.answer ∙ same_answer t (port_sound p) v n s;
         left = a.left ∙ sym (ap (λ (u : Bool). cond t keys (cond u (keys_walked (walk_at p area) p area keys) keys)) s);
-        stands = λ z.
-            (let held = arrival_held p area code s (none_applies t v n (sym (ap (λ (x : Verdict). x.number) a.answer) ∙ z)) in
-            a.stands z (formed (arriving_label p area) held.formed).held);
+        stands = rw a.answer (stands_if (first_of (when t (silent 1) ∷ acts_checks p area code)) v n _ (few t) (rw a.answer at a.stands));
       }

@@ -6,12 +6,11 @@ use Rattle.label.specs.declared.Label.{Label}
 use Rattle.label.specs.Label.{used}
 use Rattle.label_keys.specs.Keys.{key_runs}
 use Rattle.label_keys.specs.Range.{answered, look_of, runs_between}
-use Rattle.std.specs.Prelude.{Some, None}
+use Rattle.std.specs.Prelude.{IfOk, Some, None}
 use Rattle.area.specs.Kinds.{Place}
 use Rattle.port.specs.declared.Port.{Port}
-use Rattle.decision.specs.declared.Verdict.{Verdict}
-use Rattle.decision.specs.Decision.{Refusal}
-use Rattle.decision.specs.Verdict.{verdict_of}
+use Rattle.decision.specs.declared.Refusal.{Refusal}
+use Rattle.decision.specs.Verdict.{Verdict, verdict_of}
 use Rattle.area.specs.Area.{bad_area}
 use Rattle.arrive.specs.Checks.{silent, barred, when, first_of, walk_at, place_in, walk_check, required_check, option_check, bad_basic_check, missing_basic_check, basic_range_check, label_by, arriving_label}
 use Rattle.arrive.specs.Verdict.{keys_walked}
@@ -48,4 +47,4 @@ acts_keys port area keys = cond (bad_area area || ltb (length keys) 120) keys (k
 pub record Acts (port : Port) (area : List ℕ) (code : ℕ) (keys keys' : List ℕ) (r : Verdict) : Type 0 where
   pub answer : r ≡ acts_of port area code (length keys)
   pub left : keys' ≡ acts_keys port area keys
-  pub stands : r.number ≡ 0 → (arriving_label port area).count ≤ 120 → key_runs (take r.count keys') ≡ used (arriving_label port area)
+  pub stands : IfOk r (λ p. (arriving_label port area).count ≤ 120 → key_runs (take p.count keys') ≡ used (arriving_label port area))

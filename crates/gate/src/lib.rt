@@ -5,17 +5,16 @@
 ghost use Rattle.std.specs.Prelude.{◌≡◌, true, cond, List, [], ℕ, ◌≤◌, length, Some};
 ghost use Rattle.area.specs.Area.{walk_of, octets_at, placed_within, WholeAt};
 ghost use Rattle.area.specs.declared.Kind.TheVariants.{Basic, Cipso};
-ghost use Rattle.basic.specs.Alone.{basic_reading};
 ghost use Rattle.basic.specs.Settings.{among, passes_way};
 ghost use Rattle.port.specs.Port.{lowest_out, highest_out};
-ghost use Rattle.arrive.specs.Checks.{first_of, basic_in, option_at};
+ghost use Rattle.arrive.specs.Checks.{first_of, basic_in};
 ghost use Rattle.arrive.specs.Stages.{basic_checks, before_range, basic_read};
 ghost use Rattle.forward_leave.specs.Departure.{sent_by, held_by_range};
 ghost use Rattle.gate.specs.Gate.{gate_of, way_of, port_in};
 ghost use Rattle.gate.specs.Acts.{Acts};
 ghost use Rattle.gate.specs.Stages.{ActsAt};
 
-use area::{bad_area, walk_area};
+use area::{bad_area, option_at, walk_area};
 use arrive::{find_basic, is_open};
 use basic::{BAD_BASIC, BASIC_TYPE, BasicReading, at_most, read_basic};
 use decision::{
@@ -158,11 +157,9 @@ fn read_at(
     requires in_bounds { 120 ≤ length keys.old }
     ensures { (given only receives sends : List ℕ) → ActsAt (Some at) (port_in gate lows.now highs.now given only receives sends) area.now code keys.old keys.new result }
 {
-    let next = at + 1;
-    let n = area[next] as usize;
-    let end = at + n;
-    let read = read_keys(&area[at..end], gate.domain, &mut keys[..]);
-    if stops_slack(gate.strict, read, &area[at..end]) {
+    let octets = option_at(area, at);
+    let read = read_keys(octets, gate.domain, &mut keys[..]);
+    if stops_slack(gate.strict, read, octets) {
         return faulty(23, (HEADER_OCTETS + (at + CATEGORIES_AT)) as u8);
     }
     match read {
@@ -198,13 +195,13 @@ fn check_basic(
     requires placed_in { placed_within Basic place area.now }
     ensures { result ≡ before_range arrived (first_of (basic_checks place true (way_of low high fields.now) area.now code)) }
 {
-    if !is_open(arrived.number) {
+    if !is_open(arrived) {
         return arrived;
     }
     match place {
         None => missing(20, BASIC_TYPE),
         Some(at) => {
-            let Some(read) = read_basic_at(area, at) else {
+            let Some(read) = read_basic(option_at(area, at)) else {
                 return faulty(BAD_BASIC, (HEADER_OCTETS + at) as u8);
             };
             if !passes_fields(low, high, fields, read.level, read.flags) {
@@ -213,17 +210,6 @@ fn check_basic(
             arrived
         }
     }
-}
-
-// Reads the option 130 at an octet.
-fn read_basic_at(area: &[u8], at: usize) -> Option<BasicReading>
-    requires { WholeAt Basic area.now at }
-    ensures { result ≡ basic_reading (option_at at area.now) }
-{
-    let next = at + 1;
-    let n = area[next] as usize;
-    let end = at + n;
-    read_basic(&area[at..end])
 }
 
 // Check 21 of the leaving gate, which comes before 14; `from` and `on` say whether the arriving and the leaving one read option 130.
@@ -264,32 +250,29 @@ pub fn hold_gate(
 ) -> Verdict
     ensures { (given receives sends : List ℕ) → result ≡ held_by_range crossed (lowest_out (port_in gate lows.now highs.now given only.now receives sends)) (highest_out (port_in gate lows.now highs.now given only.now receives sends)) keys.now }
 {
-    if crossed.number != 0 {
-        return crossed;
-    }
-    if gate.unlabelled {
-        if !lies_between(
+    let passed = crossed?;
+    let held = if gate.unlabelled {
+        lies_between(
             keys,
-            crossed.count,
-            crossed.level,
+            passed.count,
+            passed.level,
             gate.only,
             only,
             gate.only,
             only,
-        ) {
-            return barred(17, NETWORK_PROHIBITED);
-        }
-        return crossed;
-    }
-    if !lies_between(
-        keys,
-        crossed.count,
-        crossed.level,
-        gate.low,
-        lows,
-        gate.high,
-        highs,
-    ) {
+        )
+    } else {
+        lies_between(
+            keys,
+            passed.count,
+            passed.level,
+            gate.low,
+            lows,
+            gate.high,
+            highs,
+        )
+    };
+    if !held {
         return barred(17, NETWORK_PROHIBITED);
     }
     crossed

@@ -9,7 +9,8 @@ use borrow.Author.Tests.{le-ltb}
 use lib.ListN.{length, take, drop, replicate, length-append, length-replicate}
 use lib.Seq.{take-append-le}
 use Rattle.decision.specs.declared.Decision.{Decision}
-use Rattle.decision.specs.Decision.{Refusal, silenced, decided}
+use Rattle.decision.specs.declared.Refusal.{Refusal}
+use Rattle.decision.specs.Decision.{silenced, decided}
 use Rattle.area.specs.Area.{bad_area}
 use Rattle.area_leaving.specs.Kept.{kept_of, leaving_of}
 use Rattle.arrive.specs.Checks.{silent, when, first_of, option_checks, range_check}

@@ -151,7 +151,7 @@ impl From<Run> for u32 {
     ghost from_gives = { λ r k. k ≡ r.low * 65536 + r.high };
 
     fn from(run: Run) -> u32 {
-        (run.low as u32) * Run::KEY_FACTOR + (run.high as u32)
+        u32::from(run.low) * Run::KEY_FACTOR + u32::from(run.high)
     }
 }
 
@@ -269,6 +269,7 @@ fn runs_formed(label: Label) -> bool
     let mut good = true;
     let mut floor: u32 = 0;
     for &run in &label.runs[..label.count] {
+        // by `as`: behind a call a proof does not see that the sum below has room
         let low = run.low as u32;
         let high = run.high as u32;
         good = good & (floor <= low) & (low <= high);
@@ -300,7 +301,7 @@ fn all_unused(places: &[Run]) -> bool
 pub fn word(run: Run) -> u32
     ensures { result ≡ run.low + run.high * 65536 }
 {
-    run.low as u32 + (run.high as u32) * Run::KEY_FACTOR
+    u32::from(run.low) + u32::from(run.high) * Run::KEY_FACTOR
 }
 
 // Whether some used run covers the category.

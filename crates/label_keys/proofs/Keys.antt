@@ -19,7 +19,7 @@ use Rattle.label_keys.specs.Keys.{key_run, key_runs, run_key, label_from}
 use Rattle.label.proofs.Bools.{less_or}
 use Rattle.label.proofs.Canon.{Below, spaced_below, below_weaken}
 use Rattle.label.proofs.Labels.{with_run_of}
-use Rattle.label.proofs.Steps.{next, next_used, used_up}
+use Rattle.label.proofs.Steps.{next}
 
 -- runs below 65536, spaced or not, as keys are these runs
 pub keys_back : (rs : List Run) → Below 65536 rs → key_runs (map run_key rs) ≡ rs
@@ -41,13 +41,6 @@ take_min n l =
     (λ w. let e : min n (length l) ≡ n = omega arith in rw e)
     (λ w. let e : min n (length l) ≡ length l = omega arith in rw e (take-length l ∙ sym (take_all n l w)))
     (less_or n (length l))
-
--- the run that a key at a place stands for
-pub next_run : (ks : List ℕ) (n i : ℕ) → i < n → n ≤ length ks → key_runs (drop i (take n ks)) ≡ key_run (get_or ks i 0) ∷ key_runs (drop (i + 1) (take n ks))
-next_run ks n i h k = ap key_runs (next_used 0 ks n i h k)
-
-pub runs_up : (ks : List ℕ) (n i : ℕ) → n ≤ i → key_runs (drop i (take n ks)) ≡ []
-runs_up ks n i h = ap key_runs (used_up ks n i h)
 
 -- one above the highest category: the last key's
 pub top_last : (ks : List ℕ) (m : ℕ) → m < length ks → top_of (key_runs (take (suc m) ks)) ≡ get_or ks m 0 % 65536 + 1

@@ -33,13 +33,13 @@ pub fn touches(first: bool, next: u32, x: u16) -> bool
     if first {
         return false;
     }
-    next == x as u32
+    next == u32::from(x)
 }
 
 // Tag 5: a top below its bottom, or not below the limit, which 65535 never is; the category after the top may be the limit.
 pub fn bad_pair(top: u16, bottom: u16, limit: u16) -> bool
     ensures { result ≡ (ltb top bottom || ltb limit (top + 1)) }
 {
-    let next = (top as u32) + 1;
-    (top < bottom) | ((limit as u32) < next)
+    let next = u32::from(top) + 1;
+    (top < bottom) | (u32::from(limit) < next)
 }

@@ -1,13 +1,12 @@
--- Laws of writing over a list.
-use Prim.Native.Nat.{ℕ, zero, suc, ◌+◌, ◌-◌, ◌≤◌, ◌<◌, min}
+-- Laws of writing over a list, and of its chunks.
+use Prim.Native.Nat.{ℕ, zero, suc, ◌+◌, ◌-◌, ◌*◌, ◌≤◌, ◌<◌}
 use mathlib.Core.Path.{◌≡◌, refl, sym, ap, ◌∙◌}
 use mathlib.Core.List.{List, [], ◌∷◌, ◌++◌, append_assoc}
-use native.Mathlib.Nat.{add_assoc, add-zero}
-use native.Mathlib.Numerals.{add-one}
-use native.Mathlib.Decide.{dec_le}
+use native.Mathlib.Nat.{add_assoc, add-zero, zero-mul, suc-mul}
 use native.Mathlib.Omega.{arith}
-use lib.ListN.{length, get_or, set, take, drop, replicate, length-drop, length-append, drop_of_length-le, take-append-drop}
-use lib.Seq.{take_all, take-nil, take-suc, drop-cons, set_at, append_snoc, length-take-le, drop-drop, take_at, drop_at, drop-append-le}
+use lib.ListN.{length, get_or, take, drop, replicate, length-drop, length-append, take-append-drop}
+use lib.Seq.{take_all, take-nil, length-take-le, drop-drop, take_at, drop_at, drop-append-le}
+use Rattle.std.specs.Simd.{first_chunks}
 use Rattle.lists.specs.Lists.{paint, copied}
 
 -- the part of a list from a place on
@@ -22,20 +21,6 @@ drop_take (suc n) zero l = let e : suc n - zero ≡ suc n = omega arith in rw e
 drop_take (suc n) (suc at) [] = sym (take-nil (suc n - suc at))
 drop_take (suc n) (suc at) (x ∷ l) = let e : suc n - suc at ≡ n - at = omega arith in rw e (drop_take n at l)
 
--- a turn of a loop that copies
-pub copy_more : (s d : List ℕ) (i : ℕ) → i < length s → i < length d
-    → set (take i s ++ drop i d) i (get_or s i 0) ≡ take (i + 1) s ++ drop (i + 1) d
-copy_more s d i hs hd =
-    rw (add-one, take-suc s i 0, drop-cons d i 0)
-    (set_at (take i s) (get_or d i 0) (drop (suc i) d) (get_or s i 0) i (length-take-le i s (omega arith))
-    ∙ sym (append_snoc (take i s) (get_or s i 0) (drop (suc i) d)))
-
-pub copied_least : (s d : List ℕ) (n : ℕ) → n ≡ min (length s) (length d) → take n s ++ drop n d ≡ copied s d
-copied_least s d n e = elim (dec_le (length s) (length d)) [
-  | yes u ↦ (let q : n ≡ length s = omega arith in rw (q, take_all (length s) s (omega arith), take_all (length d) s u))
-  | no u ↦ (let q : n ≡ length d = omega arith in rw (q, drop_of_length-le d {i = length d} (omega arith), drop_of_length-le d {i = length s} (omega arith)))
-]
-
 -- all of the first list, where the other has room for it
 pub copied_whole : (s d : List ℕ) → length s ≤ length d → copied s d ≡ s ++ drop (length s) d
 copied_whole s d h = rw (take_all (length d) s h)
@@ -45,15 +30,6 @@ pub copied_first : (n : ℕ) (s d : List ℕ) → n ≤ length s → n ≤ lengt
 copied_first n s d h k =
     let e : length (take n s) ≡ n = length-take-le n s h in
     copied_whole (take n s) d (omega arith) ∙ ap (λ (i : ℕ). take n s ++ drop i d) e
-
--- a turn of a loop that fills with zeros
-pub zero_more : (out : List ℕ) (i : ℕ) → i < length out → set (replicate i 0 ++ drop i out) i 0 ≡ replicate (i + 1) 0 ++ drop (i + 1) out
-zero_more out i h = rw (add-one i) (go out i h)
-  where
-    go : (l : List ℕ) (k : ℕ) → k < length l → set (replicate k 0 ++ drop k l) k 0 ≡ replicate (suc k) 0 ++ drop (suc k) l
-    go [] k u = absurd (omega arith)
-    go (x ∷ l) zero u = refl
-    go (x ∷ l) (suc k) u = ap (λ (z : List ℕ). 0 ∷ z) (go l k (omega arith))
 
 -- Writing over a list, in two goes.
 pub paint_two : (w : ℕ) (xs ys out : List ℕ) → w + length xs ≤ length out
@@ -106,3 +82,15 @@ pub back_copied : (w : ℕ) (xs out part : List ℕ) → w + length xs ≤ lengt
 back_copied w xs out part h e =
     let l : length (take (length out - w) (drop w out)) ≡ length out - w = length-take-le (length out - w) (drop w out) (rw length-drop (omega arith)) in
     back_written w (length out) out part xs h (omega arith) (e ∙ copied_whole xs (take (length out - w) (drop w out)) (omega arith))
+
+-- A list cut into chunks of n: the chunk at a place.
+pub chunk_at : (n k : ℕ) (l : List ℕ) (i : ℕ) (d : List ℕ) → i < k → get_or (first_chunks n k l) i d ≡ take n (drop (i * n) l)
+chunk_at n zero l i d h = absurd (omega arith)
+chunk_at n (suc k) l zero d h = rw (zero-mul n)
+chunk_at n (suc k) l (suc i) d h =
+    let e : i * n + n ≡ suc i * n = sym (suc-mul i n) in
+    chunk_at n k (drop n l) i d (omega arith) ∙ ap (take n) (drop-drop (i * n) n l ∙ ap (λ (j : ℕ). drop j l) (omega (arith, e)))
+
+pub chunk_in : (n k : ℕ) (l : List ℕ) (cs : List (List ℕ)) (i : ℕ) (d : List ℕ) → cs ≡ first_chunks n k l → length cs ≡ k → i < length cs
+    → get_or cs i d ≡ take n (drop (i * n) l)
+chunk_in n k l cs i d e m h = ap (λ (x : List (List ℕ)). get_or x i d) e ∙ chunk_at n k l i d (omega arith)

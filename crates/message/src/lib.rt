@@ -86,8 +86,9 @@ fn fill_check(out: &mut [u8], size: usize)
     ensures { out.new ≡ check_set (checksum_of (take size out.old)) out.old }
 {
     let check = make_checksum(&out[..size]);
-    out[CHECK_AT] = (check / 256) as u8;
-    out[CHECK_LOW_AT] = (check % 256) as u8;
+    let [high, low] = check.to_be_bytes();
+    out[CHECK_AT] = high;
+    out[CHECK_LOW_AT] = low;
 }
 
 // Reads a message that reports a refusal: its parts, or none for any other octets.
@@ -151,7 +152,7 @@ fn is_message(octets: &[u8]) -> bool
 fn length_by(octet: u8) -> usize
     ensures { (result ≡ 4 * (octet % 16)) × (result ≤ 60) }
 {
-    4 * ((octet % 16) as usize)
+    4 * usize::from(octet % 16)
 }
 
 fn three_zeros(a: u8, b: u8, c: u8) -> bool
@@ -166,14 +167,8 @@ fn right_check(octets: &[u8]) -> bool
     ensures { result ≡ eqb (check_in octets.now) (checksum_of (blanked octets.now)) }
 {
     let sum = add_octets(add_octets(0, &octets[..2]), &octets[4..]);
-    let check = widen(octets[CHECK_AT]) * 256 + widen(octets[CHECK_LOW_AT]);
+    let check = u16::from_be_bytes([octets[CHECK_AT], octets[CHECK_LOW_AT]]);
     check == 65535 - sum
-}
-
-fn widen(x: u8) -> u16
-    ensures { (result ≡ x) × (result < 256) }
-{
-    x as u16
 }
 
 // Whether the octets are a whole header with at most eight data octets behind it.

@@ -36,12 +36,12 @@ pub enum BuildError {
     Short,
 }
 
-impl BuildError {
-    // The number of the refusal.
-    pub fn number(self) -> u8
-        ensures { result ≡ number_of self }
-    {
-        match self {
+// The number of the refusal.
+impl From<BuildError> for u8 {
+    ghost from_gives = { λ e n. n ≡ number_of e };
+
+    fn from(error: BuildError) -> u8 {
+        match error {
             BuildError::Unsound => 2,
             BuildError::Short => 24,
         }

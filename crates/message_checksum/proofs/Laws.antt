@@ -3,14 +3,13 @@ use Prim.Native.Nat.{ℕ, zero, suc, ◌+◌, ◌-◌, ◌*◌, ◌%◌, ◌≤�
 use mathlib.Core.Path.{◌≡◌, refl, sym, ap, ◌∙◌}
 use mathlib.Core.List.{List, [], ◌∷◌, ◌++◌}
 use mathlib.Core.Bool.{Bool, true, false, cond}
-use native.Mathlib.Nat.{add-zero, zero-mul, suc-mul}
+use native.Mathlib.Nat.{add-zero}
 use native.Mathlib.Numerals.{add-one}
 use native.Mathlib.Omega.{arith}
 use borrow.Author.Tests.{lt-ltb, le-ltb, ltb-true, ltb-false, eqb-true, eqb-false, ne_eqb}
 use lib.Dec.{ltb, eqb}
 use lib.ListN.{length, get_or, take, drop}
 use lib.Seq.{drop-drop, get_or-drop, get_or-take}
-use Rattle.std.specs.Simd.{first_chunks}
 use Rattle.option.specs.Option.{Octets}
 use Rattle.message_checksum.specs.Checksum.{words_in, ones_add, ones_from, ones_sum, checksum_of}
 use Rattle.message_checksum.specs.Stages.{folded}
@@ -108,18 +107,6 @@ words_cut (x ∷ y ∷ l) (suc k) = let e : 2 * suc k ≡ suc (suc (2 * k)) = om
 pub ones_append : (ws vs : List ℕ) (s : ℕ) → ones_from s (ws ++ vs) ≡ ones_from (ones_from s ws) vs
 ones_append [] vs s = refl
 ones_append (w ∷ ws) vs s = ones_append ws vs (ones_add s w)
-
--- a chunk of n octets
-pub chunk_at : (n k : ℕ) (l : List ℕ) (i : ℕ) (d : List ℕ) → i < k → get_or (first_chunks n k l) i d ≡ take n (drop (i * n) l)
-chunk_at n zero l i d h = absurd (omega arith)
-chunk_at n (suc k) l zero d h = rw (zero-mul n)
-chunk_at n (suc k) l (suc i) d h =
-    let e : i * n + n ≡ suc i * n = sym (suc-mul i n) in
-    chunk_at n k (drop n l) i d (omega arith) ∙ ap (take n) (drop-drop (i * n) n l ∙ ap (λ (j : ℕ). drop j l) (omega (arith, e)))
-
-pub chunk_in : (n k : ℕ) (l : List ℕ) (cs : List (List ℕ)) (i : ℕ) (d : List ℕ) → cs ≡ first_chunks n k l → length cs ≡ k → i < length cs
-    → get_or cs i d ≡ take n (drop (i * n) l)
-chunk_in n k l cs i d e m h = ap (λ (x : List (List ℕ)). get_or x i d) e ∙ chunk_at n k l i d (omega arith)
 
 -- the word of a chunk of two
 pub pair_word : (l p : List ℕ) (i w : ℕ) → p ≡ take 2 (drop i l) → w ≡ get_or p 0 0 * 256 + get_or p 1 0 → w ≡ get_or l i 0 * 256 + get_or l (i + 1) 0

@@ -57,5 +57,5 @@ fn fold(s: u32) -> u16
 fn word(high: u8, low: u8) -> u32
     ensures { (result ≡ high * 256 + low) × (result ≤ 65535) }
 {
-    u32::from(high) * 256 + u32::from(low)
+    u32::from(u16::from_be_bytes([high, low]))
 }

@@ -8,7 +8,7 @@ ghost use Rattle.option.specs.Option.{domain_of, valid};
 ghost use Rattle.option_read.specs.Reading.{framed};
 ghost use Rattle.message_reply.specs.Reply.{reply_at, reply_of};
 
-use area::walk_open;
+use area::{option_at, walk_open};
 use option_read::read_keys;
 
 // What is copied: `count` octets from a place of the area on, none where the header has no option 134.
@@ -37,11 +37,12 @@ fn copy_at(area: &[u8], at: usize) -> Option<Copied>
     requires { WholeAt Cipso area.now at }
     ensures { result ≡ reply_at (Some at) area.now }
 {
-    let next = at + 1;
-    let n = area[next] as usize;
-    let end = at + n;
-    if is_valid(&area[at..end]) {
-        return Some(Copied { at, count: n });
+    let octets = option_at(area, at);
+    if is_valid(octets) {
+        return Some(Copied {
+            at,
+            count: octets.len(),
+        });
     }
     None // nothing is sent
 }

@@ -31,9 +31,6 @@ capped_over n h = rw (lt-leb n 15 h)
 pub capped_is : (n : ℕ) → min n 16 ≡ capped n
 capped_is n = elim (dec_le n 15) [ yes u ↦ omega (arith, capped_low n u) | no u ↦ omega (arith, capped_over n (omega arith)) ]
 
-pub capped_most : (n : ℕ) → capped n ≤ 16
-capped_most n = elim (dec_le n 15) [ yes u ↦ rw (le-leb n 15 u) (omega arith) | no u ↦ rw (lt-leb n 15 (omega arith)) (omega arith) ]
-
 -- a size over 30 is never taken, whatever it is
 over : (p : Spellings) (a b b' c : ℕ) → 30 < b → 30 < b' → least_form p a b c ≡ least_form p a b' c
 unfolding least_form
@@ -143,14 +140,6 @@ top_last (r ∷ []) zero e = refl
 top_last (r ∷ []) (suc k) e = absurd (omega arith)
 top_last (r ∷ s ∷ rs) zero e = absurd (omega arith)
 top_last (r ∷ s ∷ rs) (suc k) e = top_last (s ∷ rs) k (omega arith)
-
--- pairs have an even number of octets
-pub pairs_even : (n low : ℕ) → (4 * n - cond (eqb low 0) 2 0) % 2 ≡ 0
-pairs_even n low = go (eqb low 0)
-  where
-    go : (b : Bool) → (4 * n - cond b 2 0) % 2 ≡ 0
-    go true = omega arith
-    go false = omega arith
 
 pub choice_none : (p : Spellings) (rs : List Run) → length rs ≡ 0 → least_form p 0 0 0 ≡ form_for p rs
 unfolding form_for

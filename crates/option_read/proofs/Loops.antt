@@ -85,17 +85,6 @@ pass_bitmap b was keys n h room e =
       stands = keys_back (bitmap_runs b) (bitmap_below b h);
     }
 
--- no octets have no runs
-pub pass_none : (b was : List ℕ) → length b ≡ 0 → PassOver 1 b was was (Ok 0)
-pass_none b was z =
-    let none : bitmap_runs b ≡ [] = ap (λ (n : ℕ). set_runs (bit_at b) (8 * n)) z in
-    record {
-      answer = rw (le-ltb (length b) (length b) (omega arith)) (ap (λ (rs : List Run). Ok (length rs)) (sym none));
-      held = omega arith;
-      left = ap (λ (rs : List Run). at_front (map run_key rs) was) (sym none);
-      stands = rw none refl;
-    }
-
 -- What a pass tells: where the first bad one begins, or that none is bad.
 module _ {t : ℕ} {b keys keys' : List ℕ} where
   pub bad_of : (p : ℕ) → PassOver t b keys keys' (Err p) → (p ≡ bad_place t b) × (p < length b)

@@ -111,7 +111,7 @@ fn good_length(tag: u8, size: usize, n: usize) -> bool
 fn length_in(x: u8) -> usize
     ensures { (result ≡ x) × (result < 256) }
 {
-    x as usize
+    usize::from(x)
 }
 
 // The domain: four octets from octets[2] on, big-endian.

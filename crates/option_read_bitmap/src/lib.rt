@@ -40,12 +40,6 @@ fn widen(x: u8) -> u32
     u32::from(x)
 }
 
-fn place_of(x: u8) -> usize
-    ensures { (result ≡ x) × (result < 256) }
-{
-    usize::from(x)
-}
-
 // Bit k of an octet, counted from the top.
 fn bit_of(x: u32, k: usize) -> u32
     requires { (x < 256) × (k < 8) }
@@ -184,7 +178,7 @@ fn add_octet(
             bit: 0,
         };
     }
-    let place = place_of(octet);
+    let place = usize::from(octet);
     let entry = entries[place];
     if last.bit + x == 256 {
         let key = last.key + 8;

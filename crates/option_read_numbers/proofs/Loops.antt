@@ -12,7 +12,7 @@ use Rattle.std.specs.Prelude.{Ok, Err}
 use native.Mathlib.Numerals.{add-one}
 use Rattle.label.specs.declared.Run.{Run}
 use Rattle.label.specs.Runs.{push_run, top_of}
-use Rattle.label.proofs.Bools.{less_or, same_leb, never}
+use Rattle.label.proofs.Bools.{less_or, same_leb}
 use Rattle.label.proofs.Push.{push_length, push_some, push_top}
 use borrow.Author.Tests.{eq-eqb, ne_eqb, le-leb, lt-leb, lt-ltb, le-ltb}
 use Rattle.option.specs.Index.{range_runs, first_true, number_at, bad_number, bad_pair, pairs_of, top_at, bottom_at}
@@ -101,11 +101,6 @@ module _ {was keys : List ℕ} {rs : List Run} {last : Last} (s : Stands was rs 
   pub pass_bad : (place : ℕ) → place ≡ bad → bad < end → Passes true all bad end was keys (Err place)
   pass_bad place p f =
       record { answer = rw (lt-ltb bad end f) (ap (λ (n : ℕ). Err n) p); left = left-is; held = tt; stands = λ q. stands-is }
-
--- What does not fit is not read.
-pub pass_none : (fit : Bool) (rs : List Run) (bad end : ℕ) (keys : List ℕ) → fit ≡ false → Passes fit rs bad end keys keys (Err 0)
-pass_none fit rs bad end keys e =
-    rw e (record { answer = refl; left = refl; held = tt; stands = λ q. absurd (never (sym q)) })
 
 -- What fits: at most 30 octets, and room for 15 keys.
 pub record Fits (n m : ℕ) : Type 0 where

@@ -8,7 +8,7 @@ use native.Mathlib.Omega.{arith}
 use lib.Dec.{leb, eqb}
 use lib.ListN.{length, get_or, take, drop, length-drop, drop_of_length-le}
 use lib.Seq.{get_or-drop, drop-drop, take_all, take-nil}
-use borrow.Author.Tests.{leb-true, leb-false, ne_eqb}
+use borrow.Author.Tests.{leb-false, ne_eqb}
 use Rattle.label.proofs.Bools.{never, less_or}
 use Rattle.option.specs.Option.{tag_of, tag_length_of, numbers_in}
 use Rattle.option.specs.Index.{number_at}
@@ -84,10 +84,6 @@ zero_even (t ∷ b ∷ u ∷ xs) e h =
     let n : length (t ∷ b ∷ u ∷ xs) - 1 ≡ suc (suc (length (u ∷ xs) - 1)) = omega arith in
     zero_even (u ∷ xs) (omega arith) (omega arith) ∙ ap (λ (k : ℕ). eqb (get_or (t ∷ b ∷ u ∷ xs) k 0) 0) (sym n)
 
-pub zero_none : (xs : List ℕ) → length xs ≡ 0 → zero_written xs ≡ false
-zero_none [] e = refl
-zero_none (x ∷ xs) e = absurd (omega arith)
-
 -- The tag's own categories.
 pub part_is : (o : List ℕ) (size end : ℕ) → size ≡ tag_length_of o → end ≡ 10 + cond (leb (size - 4) (length o - 10)) (size - 4) (length o - 10)
     → take (end - 10) (drop 10 o) ≡ categories_in o
@@ -135,18 +131,3 @@ five_is o e = rw e
 pub other_is : (o : List ℕ) → (tag_of o ≡ 1 → ⊥) → (tag_of o ≡ 5 → ⊥) → slack o ≡ false
 unfolding slack slack_body
 other_is o n m = rw (ne_eqb (tag_of o) 1 n, ne_eqb (tag_of o) 5 m)
-
--- where they end
-pub end_is : (size n r : ℕ) → 10 ≤ n → (size - 4 ≤ n - 10 → r ≡ 10 + (size - 4)) → (n - 10 < size - 4 → r ≡ n) → r ≡ 10 + cond (leb (size - 4) (n - 10)) (size - 4) (n - 10)
-end_is size n r l f g = go (leb (size - 4) (n - 10)) refl
-  where
-    go : (b : Bool) → leb (size - 4) (n - 10) ≡ b → r ≡ 10 + cond b (size - 4) (n - 10)
-    go true p = f (leb-true _ _ p)
-    go false p = g (leb-false _ _ p) ∙ omega arith
-
-pub end_within : (size n r : ℕ) → 10 ≤ n → r ≡ 10 + cond (leb (size - 4) (n - 10)) (size - 4) (n - 10) → (10 ≤ r) × (r ≤ n)
-end_within size n r l e = go (leb (size - 4) (n - 10)) refl e
-  where
-    go : (b : Bool) → leb (size - 4) (n - 10) ≡ b → r ≡ 10 + cond b (size - 4) (n - 10) → (10 ≤ r) × (r ≤ n)
-    go true p q = let h : size - 4 ≤ n - 10 = leb-true _ _ p in (omega arith, omega arith)
-    go false p q = (omega arith, omega arith)

@@ -25,12 +25,12 @@ pub enum SpellError {
     Unspelled,
 }
 
-impl SpellError {
-    // The number of the refusal.
-    pub fn number(self) -> u8
-        ensures { result ≡ number_of self }
-    {
-        match self {
+// The number of the refusal.
+impl From<SpellError> for u8 {
+    ghost from_gives = { λ e n. n ≡ number_of e };
+
+    fn from(error: SpellError) -> u8 {
+        match error {
             SpellError::Short => 1,
             SpellError::IllFormed => 2,
             SpellError::Unspelled => 18,
@@ -137,9 +137,8 @@ fn answer(count: usize) -> Result<usize, SpellError>
 }
 
 // The label's first 16 places as keys.
-fn front_keys(label: Label, keys: &mut [u32])
-    requires { length keys.old ≡ 16 }
-    ensures { (key_runs keys.new ≡ take 16 label.runs) × (length keys.new ≡ 16) }
+fn front_keys(label: Label, keys: &mut [u32; FEW_RUNS])
+    ensures { key_runs keys.new ≡ take 16 label.runs }
 {
     for i in 0..FEW_RUNS {
         let run = label.runs[i];
@@ -159,8 +158,8 @@ fn unused_after_few(label: Label) -> bool
 }
 
 // The form of the first 16 places by their keys: n are used.
-fn few_formed(keys: &[u32], n: usize) -> bool
-    requires { (n ≤ 16) × (length keys.now ≡ 16) }
+fn few_formed(keys: &[u32; FEW_RUNS], n: usize) -> bool
+    requires { n ≤ 16 }
     ensures { result ≡ (spaced 0 (key_runs (take n keys.now)) && unused (key_runs (drop n keys.now))) }
 {
     let mut good = true;
@@ -179,8 +178,8 @@ fn few_formed(keys: &[u32], n: usize) -> bool
 }
 
 // The form of a label's runs, as crate `label` looks at it, and their keys, in one pass: the label is copied once.
-fn runs_formed(label: Label, keys: &mut [u32]) -> bool
-    requires { (label.count ≤ 120) × (120 ≤ length keys.old) }
+fn runs_formed(label: Label, keys: &mut [u32; Label::MAX_RUNS]) -> bool
+    requires { label.count ≤ 120 }
     ensures { (result ≡ (spaced 0 (used label) && unused (drop label.count label.runs))) × (keys.new ≡ map run_key (used label) ++ drop label.count keys.old) }
 {
     let n = label.count;

@@ -3,7 +3,7 @@ use Prim.Native.Nat.{ℕ, zero, suc, ◌+◌, ◌-◌, ◌≤◌}
 use mathlib.Core.Path.{◌≡◌, refl, sym, ap, ◌∙◌}
 use mathlib.Core.List.{List, [], ◌∷◌, ◌++◌, append-nil, append_assoc}
 use native.Mathlib.Omega.{arith}
-use lib.ListN.{length, set, take, drop, replicate, length-drop, length-append, drop_of_length-le, take-append-drop}
+use lib.ListN.{length, set, take, drop, replicate, length-drop, drop_of_length-le, take-append-drop}
 use lib.Seq.{drop-drop, drop_at, drop-append-le, length-take-le}
 use Rattle.lists.proofs.Laws.{tail_is, Back, back_zeroed}
 use Rattle.label.specs.declared.Run.{Run}
@@ -27,9 +27,6 @@ module _ (O W : List ℕ) (long : 40 ≤ length O) where
   -- the output with the part from octet 10 on put back
   abbrev pub Put : List ℕ
   Put = take 10 O ++ (W ++ drop (length O - 10) (drop 10 O))
-
-  pub put_long : 10 ≤ length Put
-  put_long = rw (length-append (take 10 O) (W ++ drop (length O - 10) (drop 10 O)), length-take-le 10 O (omega arith)) (omega arith)
 
   put_tail : drop 10 Put ≡ W
   put_tail =

@@ -10,7 +10,7 @@ ghost use Rattle.option.specs.Index.{numbers_out, pair_number};
 ghost use Rattle.option_write.specs.Keys.{keys_count, keys_written, keys_laid};
 ghost use Rattle.option_write.specs.Stages.{Written, head_of};
 
-use label::Run;
+use label::{AsRun, Run};
 use option::{
     ALIGNMENT_AT, BITMAP, CATEGORIES_AT, DOMAIN_AT, LENGTH_AT, LEVEL_AT, NUMBERS, OPTION_OCTETS,
     OPTION_TYPE, Spellings, TAG_LENGTH_AT, TAG_TYPE_AT,
@@ -98,19 +98,20 @@ fn write_numbers(keys: &[u32], out: &mut [u8])
         let low = *key / Run::KEY_FACTOR;
         let high = *key % Run::KEY_FACTOR;
         for x in low..high + 1 {
-            put_number(k, x, &mut out[..]);
+            put_number(k, x as u16, &mut out[..]);
             k += 1;
         }
     }
 }
 
 // Number k, in two octets.
-fn put_number(k: usize, x: u32, out: &mut [u8])
-    requires { (2 * k + 1 < length out.old) × (x < 65536) }
+fn put_number(k: usize, x: u16, out: &mut [u8])
+    requires { 2 * k + 1 < length out.old }
     ensures { (out.new ≡ set (set out.old (2 * k) (x / 256)) (2 * k + 1) (x % 256)) × (length out.new ≡ length out.old) }
 {
-    out[2 * k] = (x / 256) as u8;
-    out[2 * k + 1] = (x % 256) as u8;
+    let [high, low] = x.to_be_bytes();
+    out[2 * k] = high;
+    out[2 * k + 1] = low;
 }
 
 // Tag 5: the first m ends, from the last run to the first, each run's top and then its bottom; m is odd where the last bottom is left out.
@@ -123,27 +124,27 @@ fn write_pairs(keys: &[u32], m: usize, out: &mut [u8])
     for j in 0..pairs {
         let at = n - 1 - j;
         let key = keys[at];
-        put_number(2 * j, key % Run::KEY_FACTOR, &mut out[..]);
-        put_number(2 * j + 1, key / Run::KEY_FACTOR, &mut out[..]);
+        put_number(2 * j, key.high(), &mut out[..]);
+        put_number(2 * j + 1, key.low(), &mut out[..]);
     }
     if 2 * pairs < m {
         let at = n - 1 - pairs;
-        put_number(2 * pairs, keys[at] % Run::KEY_FACTOR, &mut out[..]);
+        put_number(2 * pairs, keys[at].high(), &mut out[..]);
     }
 }
 
 // The ten octets before the categories.
-#[tactic(auto, using(crate::proofs::Writing::head_set))]
 fn write_head(domain: u32, level: u8, tag: u8, size: usize, out: &mut [u8])
     requires { (10 ≤ length out.old) × (size ≤ 30) }
     ensures { out.new ≡ head_of domain level tag size ++ drop 10 out.old }
 {
     out[0] = OPTION_TYPE;
     out[LENGTH_AT] = (CATEGORIES_AT + size) as u8;
-    out[DOMAIN_AT] = (domain / 256 / 256 / 256) as u8;
-    out[DOMAIN_AT + 1] = (domain / 256 / 256 % 256) as u8;
-    out[DOMAIN_AT + 2] = (domain / 256 % 256) as u8;
-    out[DOMAIN_AT + 3] = (domain % 256) as u8;
+    let [first, second, third, fourth] = domain.to_be_bytes();
+    out[DOMAIN_AT] = first;
+    out[DOMAIN_AT + 1] = second;
+    out[DOMAIN_AT + 2] = third;
+    out[DOMAIN_AT + 3] = fourth;
     out[TAG_TYPE_AT] = tag;
     out[TAG_LENGTH_AT] = (4 + size) as u8;
     out[ALIGNMENT_AT] = 0;

@@ -4,8 +4,8 @@ use mathlib.Core.Bool.{true, false}
 use mathlib.Core.List.{List, [], ◌∷◌, map}
 use Prim.Native.Nat.{ℕ, ◌+◌, ◌≤◌, ◌<◌, min}
 use native.Mathlib.Omega.{arith}
-use lib.ListN.{length, take, drop, get_or, length-map, length-take, drop_of_length-le, get_or-map}
-use lib.Seq.{get_or-take, take_at}
+use lib.ListN.{length, take, drop, get_or, length-map, drop_of_length-le, get_or-map}
+use lib.Seq.{take_at}
 use borrow.Author.Tests.{le-leb, lt-leb}
 use Rattle.label.specs.declared.Run.{Run}
 use Rattle.label.specs.declared.Label.{Label}
@@ -27,15 +27,6 @@ pub no_key : (ks : List ℕ) (i : ℕ) → length ks ≤ i → drop i (key_runs 
 no_key ks i h =
     let m : length (key_runs ks) ≤ i = rw length-map h in
     drop_of_length-le (key_runs ks) {i = i} m
-
--- the same in the first n
-pub next_key : (ks : List ℕ) (n i : ℕ) → i < n → n ≤ length ks → drop i (key_runs (take n ks)) ≡ key_run (get_or ks i 0) ∷ drop (i + 1) (key_runs (take n ks))
-next_key ks n i h l =
-    let m : i < length (take n ks) = simp length-take (omega arith) in
-    key_at (take n ks) i m ∙ ap (λ (z : ℕ). key_run z ∷ drop (i + 1) (key_runs (take n ks))) (get_or-take n ks i 0 h)
-
-pub keys_up : (ks : List ℕ) (n i : ℕ) → n ≤ i → drop i (key_runs (take n ks)) ≡ []
-keys_up ks n i h = no_key (take n ks) i (simp length-take (omega arith))
 
 -- a label's runs, put at the head of a list with a place for each
 pub held_runs : (l : Label) (ks : List ℕ) → well_formed l ≡ true → 120 ≤ length ks → key_runs (take l.count (with_keys l ks)) ≡ used l

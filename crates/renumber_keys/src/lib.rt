@@ -273,8 +273,8 @@ fn piece_key(row: Row, low: u32, high: u32) -> u32
     requires { (row.low ≤ low) × (low ≤ high) × (high ≤ row.high) × (target_end row ≤ 65534) }
     ensures { result ≡ piece_key row low high }
 {
-    let target = row.target as u32;
-    let base = row.low as u32;
+    let target = u32::from(row.target);
+    let base = u32::from(row.low);
     (target + (low - base)) * 65536 + (target + (high - base))
 }
 

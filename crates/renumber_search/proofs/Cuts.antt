@@ -18,7 +18,7 @@ use Rattle.table.specs.declared.Row.{Row}
 use Rattle.table.specs.Table.{no_row}
 use Rattle.renumber_keys.specs.Stages.{piece_key}
 use Rattle.renumber_search.specs.Search.{bisect, gives_to, RunCut, cut_none, cut_last, cut_more, run_cut, Cuts, cuts_on, cuts_from, over}
-use Rattle.renumber_search.specs.Stages.{RunIsCut, RunFails, AllCut, AllFail}
+use Rattle.renumber_search.specs.Stages.{RunIsCut, RunFails, AllFail}
 use Rattle.renumber_search.proofs.Bisecting.{bisect_on}
 
 -- One number more behind those that were written
@@ -160,11 +160,6 @@ pub record AllCutting (rs : List Row) (runs : List Run) (was : List ℕ) (w i j 
 
 pub all_start : (rs : List Row) (runs : List Run) (was : List ℕ) → AllCutting rs runs was 0 0 0 was
 all_start rs runs was = record { cut = []; answer = refl; keys = refl; count = refl; few = omega arith; inside = omega arith; written = refl; sized = refl }
-
-pub all_end : (rs : List Row) (runs : List Run) (was : List ℕ) (w i j : ℕ) (far : List ℕ) → AllCutting rs runs was w i j far → drop i runs ≡ [] → AllCut (cuts_from rs 0 runs) w was far
-all_end rs runs was w i j far s e =
-    let ks : (cuts_from rs 0 runs).keys ≡ s.cut = s.keys ∙ ap (λ (z : List Run). s.cut ++ (cuts_from rs j z).keys) e ∙ append-nil s.cut in
-    record { whole = s.answer ∙ ap (λ (z : List Run). (cuts_from rs j z).whole) e; many = s.count ∙ ap length (sym ks); written = s.written ∙ ap (λ (z : List ℕ). over z was) (sym ks) }
 
 pub run_at_hand : (ks : List ℕ) (i : ℕ) → i < length ks → drop i (key_runs ks) ≡ key_run (get_or ks i 0) ∷ drop (i + 1) (key_runs ks)
 run_at_hand ks i h = next (key_run 0) (key_runs ks) i (rw length-map h) ∙ ap (λ (z : Run). z ∷ drop (i + 1) (key_runs ks)) (get_or-map key_run ks i 0)

@@ -1,11 +1,11 @@
 -- Laws of the loop that joins keys in order where they lie.
 use mathlib.Core.Path.{◌≡◌, refl, sym, ◌∙◌, ap}
 use mathlib.Core.Bool.{true, false}
-use mathlib.Core.List.{List, [], ◌∷◌, ◌++◌}
+use mathlib.Core.List.{List, [], ◌∷◌, ◌++◌, append-nil}
 use Prim.Native.Nat.{ℕ, suc, ◌+◌, ◌-◌, ◌≤◌, ◌<◌}
 use native.Mathlib.Omega.{arith}
-use lib.ListN.{length, take, drop, get_or, set, length-set, take-append-drop}
-use lib.Seq.{get_or-drop, drop-set-lt, length-take-le, append_snoc}
+use lib.ListN.{length, take, drop, get_or, set, length-set, drop_of_length-le, take-append-drop}
+use lib.Seq.{get_or-drop, drop-set-lt, length-take-le, append_snoc, take_all}
 use Rattle.std.specs.List.Sorted.{IsNonDecreasing}
 use Rattle.lists_sort.specs.Order.{Sorted, sort_keys}
 use Rattle.lists_sort.proofs.Merge.{put, sorted_self}
@@ -78,5 +78,12 @@ in_order lo [] a s = tt
 in_order lo (k ∷ ks) a s =
     (a 0 (omega arith), in_order k ks (λ i h. s 0 (suc i) 0 (omega arith) (omega arith)) (λ i j d h l. s (suc i) (suc j) d (omega arith) (omega arith)))
 
-pub stands_same : (keys : List ℕ) (n : ℕ) → IsNonDecreasing (take n keys) → keys ≡ sort_keys (take n keys) ++ drop n keys
-stands_same keys n s = sym (take-append-drop n keys) ∙ ap (λ (z : List ℕ). z ++ drop n keys) (sym (sorted_self 0 (take n keys) (in_order 0 (take n keys) (λ k h. omega arith) s)))
+pub stands_same : (keys : List ℕ) → IsNonDecreasing keys → keys ≡ sort_keys keys
+stands_same keys s = sym (sorted_self 0 keys (in_order 0 keys (λ k h. omega arith) s))
+
+-- the first of all of them are all of them
+pub all_taken : (keys : List ℕ) → take (length keys) keys ≡ keys
+all_taken keys = take_all (length keys) keys (omega arith)
+
+pub all_sorted : (keys : List ℕ) → sort_keys (take (length keys) keys) ++ drop (length keys) keys ≡ sort_keys keys
+all_sorted keys = rw (all_taken keys, drop_of_length-le keys {i = length keys} (omega arith)) (append-nil (sort_keys keys))

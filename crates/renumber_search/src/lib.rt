@@ -2,7 +2,7 @@
 // its table. Nothing is checked anew: of rows that were checked once the answer is that of `renumber_keys`.
 #![tactic(auto)]
 
-ghost use Rattle.std.specs.Prelude.{◌≡◌, ◌++◌, ◌+◌, ◌-◌, ◌*◌, ◌/◌, ◌%◌, ◌≤◌, min, length, take, drop, MatchOption};
+ghost use Rattle.std.specs.Prelude.{◌≡◌, ◌+◌, ◌-◌, ◌*◌, ◌/◌, ◌%◌, ◌≤◌, min, length, take, drop, MatchOption};
 ghost use Rattle.label_keys.specs.Keys.{key_runs};
 ghost use Rattle.table.specs.Table.{rows_from};
 ghost use Rattle.renumber_keys.specs.Stages.{join_all, piece_key};
@@ -59,9 +59,9 @@ pub fn carry_rows(own: &[u32], n: usize, rows: &[u16], far: &mut [u32]) -> Optio
     if !has_room(m, rows.len() / 3, far.len()) {
         return None;
     }
-    let k = cut_runs(own, m, rows, far)?;
-    order_keys(far, k);
-    Some(join_keys(far, k))
+    let k = cut_runs(&own[..m], rows, far)?;
+    order_keys(&mut far[..k]);
+    Some(join_keys(&mut far[..k]))
 }
 
 // Whether there is a place for each run and each row.
@@ -82,13 +82,13 @@ struct Cut {
 }
 
 // The pieces of all runs, each behind the one before, from the head of the list on, and how many they are; none where a category lies in no row.
-fn cut_runs(own: &[u32], n: usize, rows: &[u16], far: &mut [u32]) -> Option<usize>
-    requires { (n ≤ length own.now) × (n + length (rows_from rows.now) ≤ length far.old) }
-    ensures { MatchOption result (AllFail (cuts_from (rows_from rows.now) 0 (key_runs (take n own.now))) far.old far.new) (λ k. AllCut (cuts_from (rows_from rows.now) 0 (key_runs (take n own.now))) k far.old far.new) }
+fn cut_runs(own: &[u32], rows: &[u16], far: &mut [u32]) -> Option<usize>
+    requires { length own.now + length (rows_from rows.now) ≤ length far.old }
+    ensures { MatchOption result (AllFail (cuts_from (rows_from rows.now) 0 (key_runs own.now)) far.old far.new) (λ k. AllCut (cuts_from (rows_from rows.now) 0 (key_runs own.now)) k far.old far.new) }
 {
     let mut w: usize = 0;
     let mut j: usize = 0;
-    for run in &own[..n] {
+    for run in own {
         let first = find_row(rows, j, *run / 65536);
         let cut = cut_run(rows, first, *run, far, w)?;
         j = cut.row;
@@ -128,8 +128,8 @@ fn gives_to(row: Row, low: u32, high: u32) -> bool
     requires { high ≤ 65535 }
     ensures { result ≡ gives_to row low high }
 {
-    let base = row.low as u32;
-    let target = row.target as u32;
+    let base = u32::from(row.low);
+    let target = u32::from(row.target);
     if low < base {
         return false;
     }
@@ -144,27 +144,27 @@ fn piece_key(row: Row, low: u32, high: u32) -> u32
     requires { (row.low ≤ low) × (low ≤ high) × (row.target + (high - row.low) ≤ 65534) }
     ensures { result ≡ piece_key row low high }
 {
-    let target = row.target as u32;
-    let base = row.low as u32;
+    let target = u32::from(row.target);
+    let base = u32::from(row.low);
     (target + (low - base)) * 65536 + (target + (high - base))
 }
 
-// The first n keys are put in order, where they do not stand so.
-fn order_keys(keys: &mut [u32], n: usize)
-    requires { n ≤ length keys.old }
-    ensures { keys.new ≡ sort_keys (take n keys.old) ++ drop n keys.old }
+// The keys are put in order, where they do not stand so.
+fn order_keys(keys: &mut [u32])
+    ensures { keys.new ≡ sort_keys keys.old }
 {
-    if keys[..n].is_sorted() {
+    if keys.is_sorted() {
         return;
     }
+    let n = keys.len();
     sort_keys(keys, n);
 }
 
-// The first n keys, which are in order, joined where they touch, at the head of the list; the rest stays.
-fn join_keys(keys: &mut [u32], n: usize) -> usize
-    requires { n ≤ length keys.old }
-    ensures { (result ≡ length (join_all (take n keys.old))) × (keys.new ≡ over (join_all (take n keys.old)) keys.old) }
+// The keys, which are in order, joined where they touch, at the head of the list; the rest stays.
+fn join_keys(keys: &mut [u32]) -> usize
+    ensures { (result ≡ length (join_all keys.old)) × (keys.new ≡ over (join_all keys.old) keys.old) }
 {
+    let n = keys.len();
     if n == 0 {
         return 0;
     }

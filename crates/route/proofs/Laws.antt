@@ -2,14 +2,15 @@
 use mathlib.Core.Path.{◌≡◌, refl, sym, ◌∙◌, ap}
 use mathlib.Core.Bool.{Bool, true, false, ◌&&◌}
 use mathlib.Core.List.{List, [], ◌∷◌}
-use Prim.Native.Nat.{ℕ, zero, suc, ◌+◌, ◌-◌, ◌*◌, ◌/◌, ◌%◌, ◌^◌, ◌<◌, ◌≤◌}
+use Prim.Native.Nat.{ℕ, suc, ◌+◌, ◌-◌, ◌*◌, ◌/◌, ◌%◌, ◌^◌, ◌<◌, ◌≤◌}
 use native.Mathlib.Omega.{arith}
 use native.Mathlib.Nat.{add-zero, div-one, one-mul, mod-eq_of_lt, lt_of_le_of_lt, pow-le-pow_right, one-le-pow}
 use lib.Dec.{lit<}
+use Rattle.lists.proofs.Laws.{chunk_in}
 use Rattle.label.proofs.Bools.{and_left, and_right}
 use borrow.Author.Tests.{ltb-true, lt-ltb, le-ltb}
 use lib.ListN.{length, get_or, take, drop, length-drop}
-use lib.Seq.{drop-cons, drop-drop, get_or-drop, get_or-take}
+use lib.Seq.{drop-cons, get_or-drop, get_or-take}
 use Rattle.std.specs.Simd.{first_chunks}
 use Rattle.std.specs.List.{list_all}
 use Rattle.route.specs.declared.Route.{Route}
@@ -41,13 +42,6 @@ pub at_end : (ns : List ℕ) (at : ℕ) → length ns - at < 4 → routes_of (dr
 at_end ns at h = few (drop at ns) (let z : length (drop at ns) ≡ length ns - at = length-drop at ns in omega arith)
 
 -- Four numbers at a time: the chunk at a place, the route that it says, and a test of all.
-chunk_at : (k : ℕ) (l : List ℕ) (i : ℕ) (d : List ℕ) → i < k → get_or (first_chunks 4 k l) i d ≡ take 4 (drop (4 * i) l)
-chunk_at zero l i d h = absurd (omega arith)
-chunk_at (suc k) l zero d h = refl
-chunk_at (suc k) l (suc i) d h =
-    let e : 4 * i + 4 ≡ 4 * suc i = omega arith in
-    chunk_at k (drop 4 l) i d (omega arith) ∙ ap (take 4) (drop-drop (4 * i) 4 l ∙ ap (λ (j : ℕ). drop j l) (omega (arith, e)))
-
 in_chunk : (l : List ℕ) (at j : ℕ) → j < 4 → get_or (take 4 (drop at l)) j 0 ≡ get_or l (at + j) 0
 in_chunk l at j h = get_or-take 4 (drop at l) j 0 h ∙ get_or-drop at l j 0
 
@@ -57,7 +51,8 @@ chunk_route l at = rw (in_chunk l at 0 (omega arith), in_chunk l at 1 (omega ari
 pub route_of_chunk : (ns : List ℕ) (cs : List (List ℕ)) (i : ℕ) (d : List ℕ) (r : Route) → cs ≡ first_chunks 4 (length ns / 4) ns → length cs ≡ length ns / 4 → i < length cs
     → r ≡ route_at (get_or cs i d) 0 → r ≡ route_at ns (4 * i)
 route_of_chunk ns cs i d r e m h f =
-    f ∙ ap (λ (c : List ℕ). route_at c 0) (ap (λ (x : List (List ℕ)). get_or x i d) e ∙ chunk_at (length ns / 4) ns i d (omega arith)) ∙ chunk_route ns (4 * i)
+    let at : i * 4 ≡ 4 * i = omega arith in
+    f ∙ ap (λ (c : List ℕ). route_at c 0) (chunk_in 4 (length ns / 4) ns cs i d e m h ∙ ap (λ (j : ℕ). take 4 (drop j ns)) at) ∙ chunk_route ns (4 * i)
 
 pub every_chunk : (p : Route → Bool) (ns : List ℕ) → list_all (λ (c : List ℕ). p (route_at c 0)) (first_chunks 4 (length ns / 4) ns) ≡ every p (routes_of ns)
 every_chunk p [] = refl

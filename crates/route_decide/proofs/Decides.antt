@@ -12,7 +12,8 @@ use Rattle.label.proofs.Bools.{and_left, and_right}
 use Rattle.label.specs.Label.{zero_label}
 use Rattle.port.specs.declared.Port.{Port}
 use Rattle.port.specs.Port.{port_sound}
-use Rattle.decision.specs.Decision.{Refusal, silenced, decided}
+use Rattle.decision.specs.declared.Refusal.{Refusal}
+use Rattle.decision.specs.Decision.{silenced, decided}
 use Rattle.arrive.specs.Checks.{silent, barred, first_of, walk_check, required_check, option_check, bad_basic_check, missing_basic_check, basic_range_check, range_check, arrival_checks}
 use Rattle.area_leaving.specs.Kept.{kept_of}
 use Rattle.forward_rules.specs.Crossing.{sizes, records, same_domain, leaving_basic_check, number_check, leaving_check, spelling_check, crossing, leaving_label, leaving_option}

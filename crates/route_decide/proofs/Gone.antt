@@ -12,7 +12,8 @@ use Rattle.port.specs.declared.Port.{Port}
 use Rattle.port.specs.Port.{port_sound}
 use Rattle.decision.specs.declared.Facts.{Facts}
 use Rattle.decision.specs.declared.Decision.{Decision}
-use Rattle.decision.specs.Decision.{Refusal, silenced, decided}
+use Rattle.decision.specs.declared.Refusal.{Refusal}
+use Rattle.decision.specs.Decision.{silenced, decided}
 use Rattle.area.specs.Area.{bad_area}
 use Rattle.arrive.specs.Checks.{silent, when, first_of, arrival_checks}
 use Rattle.forward_rules.specs.Crossing.{Forwarding, sizes}

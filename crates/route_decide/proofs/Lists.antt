@@ -5,7 +5,8 @@ use mathlib.Core.List.{List, [], ◌∷◌, ◌++◌}
 use mathlib.Core.Option.{Option, none, some}
 use Prim.Native.Nat.{ℕ}
 use Rattle.label.specs.declared.Label.{Label}
-use Rattle.decision.specs.Decision.{Refusal, decided}
+use Rattle.decision.specs.declared.Refusal.{Refusal}
+use Rattle.decision.specs.Decision.{decided}
 use Rattle.arrive.specs.Checks.{first_of}
 use Rattle.forward_rules.specs.Forward.{written}
 

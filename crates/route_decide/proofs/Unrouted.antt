@@ -5,19 +5,20 @@ use mathlib.Core.List.{List, [], ◌∷◌, ◌++◌}
 use mathlib.Core.Option.{Option, none, some}
 use Prim.Native.Nat.{ℕ}
 use native.Mathlib.Omega.{arith}
-use lib.Dec.{ltb, eqb}
+use lib.Dec.{ltb}
 use lib.ListN.{length}
 use borrow.Author.Tests.{ne_eqb}
+use Rattle.std.specs.Prelude.{Err, is_ok}
 use Rattle.label.specs.Label.{zero_label}
 use Rattle.port.specs.declared.Port.{Port}
 use Rattle.port.specs.Port.{port_sound}
 use Rattle.decision.specs.declared.Facts.{Facts}
 use Rattle.decision.specs.declared.Decision.{Decision}
-use Rattle.decision.specs.declared.Verdict.{Verdict}
-use Rattle.decision.specs.Decision.{Refusal, silenced, refused, decided}
+use Rattle.decision.specs.declared.Refusal.{Refusal}
+use Rattle.decision.specs.Decision.{silenced, refused, decided}
 use Rattle.area.specs.Area.{bad_area}
 use Rattle.arrive.specs.Checks.{silent, when, first_of, arriving_label, arrival_checks}
-use Rattle.decision.specs.Verdict.{verdict_of, concluded}
+use Rattle.decision.specs.Verdict.{Verdict, verdict_of, stopped, stopped_by, concluded}
 use Rattle.arrive.specs.Verdict.{arrival_of, Arrives}
 use Rattle.arrive.proofs.First.{or_else, first_append, Late}
 use Rattle.arrive.proofs.Arrival.{arrival_late}
@@ -25,37 +26,28 @@ use Rattle.decision.proofs.Concluded.{concluded_refused}
 use Rattle.route_decide.specs.Routing.{no_route}
 use Rattle.route_decide.specs.Stages.{unrouted_checks, unrouted_of, unrouted_by}
 
+-- what arriving answered, by whether the output is small
+abbrev by_small : Bool → Verdict → Verdict
+by_small small r = cond (stopped_by 1 r) r (cond small (stopped 1 0 0 0) (cond (is_ok r) (stopped 22 3 0 0) r))
+
 -- over what the checks say: of the area, of the output, of the port, and the first from 3 on
 module _ (v n : ℕ) (quiet : Bool) (keys : List ℕ) where
   abbrev Said : Bool → Bool → Bool → Option Refusal → Type 0
   Said bad small sound o =
-      concluded
-      (cond (eqb (verdict_of (first_of (when bad (silent 1) ∷ when (not sound) (silent 2) ∷ o ∷ [])) v n).number 1) (verdict_of (first_of (when bad (silent 1) ∷ when (not sound) (silent 2) ∷ o ∷ [])) v n)
-      (cond small (verdict_of (some (silent 1)) 0 0)
-      (cond (eqb (verdict_of (first_of (when bad (silent 1) ∷ when (not sound) (silent 2) ∷ o ∷ [])) v n).number 0) (verdict_of (some no_route) 0 0)
-      (verdict_of (first_of (when bad (silent 1) ∷ when (not sound) (silent 2) ∷ o ∷ [])) v n))))
-      0
-      quiet
-      0
-      keys
+      concluded (by_small small (verdict_of (first_of (when bad (silent 1) ∷ when (not sound) (silent 2) ∷ o ∷ [])) v n)) 0 quiet 0 keys
       ≡ decided quiet (first_of (when (bad || small) (silent 1) ∷ when (not sound) (silent 2) ∷ or_else o (some no_route) ∷ [])) zero_label 0
 
-  by_refusal : (x : Refusal) (k m : ℕ) → (x.number ≡ 0 → ⊥) → concluded (verdict_of (some x) k m) 0 quiet 0 keys ≡ refused quiet x
-  by_refusal x k m h = concluded_refused x k m 0 0 quiet keys h
+  by_refusal : (x : Refusal) → concluded (Err x) 0 quiet 0 keys ≡ refused quiet x
+  by_refusal x = concluded_refused x 0 0 0 0 quiet keys
 
   said : (bad small sound : Bool) (o : Option Refusal) → Late o → Said bad small sound o
-  said true small sound o h = by_refusal (silent 1) v n (λ z. omega arith)
-  said false true false o h = by_refusal (silent 1) 0 0 (λ z. omega arith)
-  said false false false o h = by_refusal (silent 2) v n (λ z. omega arith)
-  said false true true none h = by_refusal (silent 1) 0 0 (λ z. omega arith)
-  said false false true none h = by_refusal no_route 0 0 (λ z. omega arith)
-  said false true true (some x) h =
-      let a : eqb x.number 1 ≡ false = ne_eqb x.number 1 (λ z. omega arith) in
-      rw a (by_refusal (silent 1) 0 0 (λ z. omega arith))
-  said false false true (some x) h =
-      let a : eqb x.number 1 ≡ false = ne_eqb x.number 1 (λ z. omega arith) in
-      let b : eqb x.number 0 ≡ false = ne_eqb x.number 0 (λ z. omega arith) in
-      rw (a, b) (by_refusal x v n (λ z. omega arith))
+  said true small sound o h = by_refusal (silent 1)
+  said false true false o h = by_refusal (silent 1)
+  said false false false o h = by_refusal (silent 2)
+  said false true true none h = by_refusal (silent 1)
+  said false false true none h = by_refusal no_route
+  said false true true (some x) h = rw (ne_eqb x.number 1 (λ z. omega arith)) (by_refusal (silent 1))
+  said false false true (some x) h = rw (ne_eqb x.number 1 (λ z. omega arith)) (by_refusal x)
 
 -- a list behind two checks is its first
 gathered : (x y : Option Refusal) (xs : List (Option Refusal)) → first_of (x ∷ y ∷ xs) ≡ first_of (x ∷ y ∷ first_of xs ∷ [])

@@ -5,7 +5,8 @@ use Rattle.port.specs.declared.Port.{Port}
 use Rattle.area_leaving.specs.Kept.{kept_of}
 use Rattle.decision.specs.declared.Facts.{Facts}
 use Rattle.decision.specs.declared.Decision.{Decision}
-use Rattle.decision.specs.Decision.{Refusal, silenced, decided}
+use Rattle.decision.specs.declared.Refusal.{Refusal}
+use Rattle.decision.specs.Decision.{silenced, decided}
 use Rattle.arrive.specs.Checks.{silent, barred, when, first_of, option_checks, range_check}
 use Rattle.forward_rules.specs.Crossing.{Forwarding, sizes, leaving_basic_check, number_check, leaving_check, spelling_check, crossing, leaving_label, leaving_option}
 use Rattle.forward_rules.specs.Forward.{option_octets, leaving_count, written}

@@ -1,16 +1,16 @@
 -- What the private functions answer; no public contract names these but for the inputs put together.
-use Rattle.std.specs.Prelude.{Bool, true, cond, not, ◌&&◌, ◌||◌, List, [], ◌∷◌, ◌++◌, ℕ, leb, ltb, eqb, take}
+use Rattle.std.specs.Prelude.{Bool, true, cond, not, ◌&&◌, ◌||◌, List, [], ◌∷◌, ◌++◌, ℕ, leb, ltb, take, is_ok}
 use Rattle.std.proofs.Math.Option.{Option}
 use Rattle.label.specs.Label.{zero_label}
 use Rattle.port.specs.declared.Port.{Port}
 use Rattle.port.specs.Port.{port_sound}
 use Rattle.decision.specs.declared.Facts.{Facts}
 use Rattle.decision.specs.declared.Decision.{Decision}
-use Rattle.decision.specs.declared.Verdict.{Verdict}
-use Rattle.decision.specs.Decision.{Refusal, silenced, decided}
+use Rattle.decision.specs.declared.Refusal.{Refusal}
+use Rattle.decision.specs.Decision.{silenced, decided}
 use Rattle.area.specs.Area.{bad_area}
 use Rattle.arrive.specs.Checks.{silent, when, first_of, arrival_checks}
-use Rattle.decision.specs.Verdict.{stopped}
+use Rattle.decision.specs.Verdict.{Verdict, stopped, stopped_by}
 use Rattle.route.specs.Route.{routes_sound}
 use Rattle.route_ports.specs.declared.Survey.{Survey}
 use Rattle.table_choose.specs.declared.Tables.{Tables}
@@ -36,4 +36,4 @@ unrouted_of a facts area room = decided (silenced facts) (first_of (unrouted_che
 
 -- what arriving answered, with 1 of the output before and 22 behind
 unfoldable pub unrouted_by : Verdict → ℕ → Verdict
-unrouted_by r room = cond (eqb r.number 1) r (cond (ltb room 40) (stopped 1 0 0 0) (cond (eqb r.number 0) (stopped 22 3 0 0) r))
+unrouted_by r room = cond (stopped_by 1 r) r (cond (ltb room 40) (stopped 1 0 0 0) (cond (is_ok r) (stopped 22 3 0 0) r))

@@ -7,8 +7,8 @@ ghost use Rattle.forward_rules.specs.Forward.{forward_of, output_of};
 ghost use Rattle.route_decide.specs.Routing.{between, routing_of, routed_output};
 ghost use Rattle.route_decide.specs.Stages.{routing_for, known_sound, unrouted_of, unrouted_by};
 
-use arrive::arrive;
-use decision::{Decision, Facts, Verdict, conclude, stop};
+use arrive::{arrive, stopped_by};
+use decision::{Decision, Facts, Verdict, conclude, silent, stop};
 use forward::forward;
 use port::Port;
 use route::{choose_route, routes_sound};
@@ -108,13 +108,13 @@ fn refuse_unrouted(a: Port, facts: Facts, area: &[u8], room: usize) -> Decision
 fn find_no_route(arrived: Verdict, room: usize) -> Verdict
     ensures { result ≡ unrouted_by arrived room }
 {
-    if arrived.number == 1 {
+    if stopped_by(arrived, 1) {
         return arrived;
     }
     if room < 40 {
-        return stop(1, 0, 0, 0);
+        return silent(1);
     }
-    if arrived.number == 0 {
+    if arrived.is_ok() {
         return stop(22, 3, 0, 0);
     }
     arrived

@@ -45,10 +45,9 @@ fn read_until(stdin: Stdin, input: &mut [u8], held: usize, n: usize) -> usize
     ensures lower_bound { (held ≤ result) × (result ≤ length input.new) }
     ensures input_len_unchanged { (length input.new ≡ length input.old) × (take held input.new ≡ take held input.old) }
 {
-    let room = input.len();
     let mut end = held;
     while end < n {
-        let got = read_once(stdin, input, end, room);
+        let got = read_once(stdin, &mut input[end..]);
         if got == 0 {
             return end;
         }
@@ -57,13 +56,11 @@ fn read_until(stdin: Stdin, input: &mut [u8], held: usize, n: usize) -> usize
     end
 }
 
-// One read into the buffer from `end` up to `to`: how many octets came, 0 at the end of the input and where the read fails. The octets before `end` stay.
-fn read_once(mut stdin: Stdin, input: &mut [u8], end: usize, to: usize) -> usize
-    requires { (end ≤ to) × (to ≤ length input.old) }
-    ensures result_bound { (end + result ≤ to) × (length input.new ≡ length input.old) }
-    ensures input_unchanged { take end input.new ≡ take end input.old }
+// One read into the places that are lent: how many octets came, 0 at the end of the input and where the read fails.
+fn read_once(mut stdin: Stdin, places: &mut [u8]) -> usize
+    ensures { result ≤ length places.old }
 {
-    stdin.read(&mut input[end..to]).unwrap_or(0)
+    stdin.read(places).unwrap_or(0)
 }
 
 // One piece of at most `most` octets behind what is held, which goes to the front: the window of the octets that came. It is empty at the end of the input, and where there is no
@@ -77,7 +74,7 @@ pub fn hold_piece(stdin: Stdin, input: &mut [u8], window: Window, most: usize) -
     input.copy_within(at..end, 0);
     let held = end - at;
     let to = held + most.min(input.len() - held);
-    let got = read_once(stdin, input, held, to);
+    let got = read_once(stdin, &mut input[held..to]);
     Window {
         at: held,
         end: held + got,

@@ -266,8 +266,8 @@ fn after_targets(row: Row) -> u32
     requires { row.low ≤ row.high }
     ensures { result ≡ target_end row + 1 }
 {
-    let low = row.low as u32;
-    let high = row.high as u32;
-    let target = row.target as u32;
+    let low = u32::from(row.low);
+    let high = u32::from(row.high);
+    let target = u32::from(row.target);
     target + (high - low) + 1
 }

@@ -1,25 +1,18 @@
 -- Laws of level pairs: one more pair, as a loop meets it.
 use mathlib.Core.Path.{◌≡◌, refl, sym, ◌∙◌, ap}
 use mathlib.Core.Bool.{Bool, true, false, cond, ◌&&◌}
-use mathlib.Core.List.{List, ◌∷◌}
-use Prim.Native.Nat.{ℕ, ◌+◌, ◌*◌, ◌-◌, ◌<◌, min}
+use mathlib.Core.List.{List}
+use Prim.Native.Nat.{ℕ, ◌+◌, ◌*◌, ◌-◌, min}
 use native.Mathlib.Omega.{arith}
 use native.Mathlib.Decide.{dec_le}
 use lib.Bits.{bit_or, or_add_and, and_le_l, and_le_r}
 use lib.Dec.{eqb}
-use lib.ListN.{length, get_or, take, drop, length-take, length-drop, drop_of_length-le}
-use lib.Seq.{get_or-take, take_all}
+use lib.ListN.{length, take, drop, length-drop, drop_of_length-le}
+use lib.Seq.{take_all}
 use borrow.Author.Tests.{eqb-true, eq-eqb}
 use Rattle.std.specs.Prelude.{None, Some}
 use Rattle.label.proofs.Bools.{and_left, and_right, same_yes, and_both}
-use Rattle.label.proofs.Steps.{next}
 use Rattle.table_levels.specs.Levels.{Partner, levels_rise, unused_pairs, levels_sound, level_numbers, pairs_sound, partner_of, sound_partner}
-
--- at a place that is there, among the first n
-pub next_there : {A : Type 0} (d : A) (l : List A) (n i : ℕ) → i < n → i < length l → drop i (take n l) ≡ get_or l i d ∷ drop (i + 1) (take n l)
-next_there d l n i h k =
-    let m : i < length (take n l) = simp length-take (omega arith) in
-    rw (next d (take n l) i m, get_or-take n l i d h)
 
 -- No more than all of them are the first n, and none is left.
 pub front_same : {A : Type 0} (l : List A) (n k : ℕ) → length l ≡ 256 → k ≡ min n 256 → take k l ≡ take n l

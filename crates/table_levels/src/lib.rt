@@ -69,5 +69,5 @@ pub fn look_levels(levels: Levels, count: usize, level: u8) -> Option<Option<u8>
 fn pair_word(a: u8, b: u8) -> u16
     ensures { result ≡ a + b * 256 }
 {
-    a as u16 + (b as u16) * 256
+    u16::from(a) + u16::from(b) * 256
 }

@@ -8,8 +8,8 @@ ghost use Rattle.table_rows.specs.Rows.{row_rises};
 pub fn row_rises(low: u16, high: u16, target: u16, floor: u32) -> bool
     ensures { result ≡ row_rises floor low high target }
 {
-    let low = low as u32;
-    let high = high as u32;
+    let low = u32::from(low);
+    let high = u32::from(high);
     if low < floor {
         return false;
     }
@@ -19,6 +19,6 @@ pub fn row_rises(low: u16, high: u16, target: u16, floor: u32) -> bool
     if 65534 < high {
         return false;
     }
-    let end = (target as u32) + (high - low);
+    let end = u32::from(target) + (high - low);
     end <= 65534
 }

@@ -33,7 +33,7 @@ sized c = rw (small c) (le-ltb (length c.args.keys.now) 120 c.if-keys-lt-MAX_RUN
 pub returns-then-not-port_sound : goal.returns-then-not-port_sound
 returns-then-not-port_sound c =
     rw c.silent-then-not-port_sound.ensures
-    (port_unsound c.args.port c.args.area.now c.args.keys.now c.args.code (sized c) (sym c.port_sound.ensures ∙ not-true _ c.if-not-port_sound.true-raw))
+    (port_unsound c.args.port c.args.area.now c.args.keys.now c.args.code (sized c) (sym c.port_sound.ensures ∙ c.if-not-port_sound.true))
 
 pub overflow_add-fault : goal.overflow_add-fault
 overflow_add-fault c = omega (arith, (area_refused c.args.port.basic.on _ c.in-Err.fault.number c.in-Err.fault.at (sym c.walk_area.ensures ∙ c.in-Err.is)).2, area_short c.args.area.now (sym c.bad_area.ensures ∙ c.if-bad_area.false))
@@ -52,7 +52,7 @@ found c = sym c.walk_area.ensures ∙ c.in-Ok.is
 
 -- the port is sound
 ported : (c : goal.After-arrive_at-arg-1) → port_sound c.args.port ≡ true
-ported c = sym c.port_sound.ensures ∙ not-false _ c.if-not-port_sound.false-raw
+ported c = sym c.port_sound.ensures ∙ c.if-not-port_sound.false
 
 pub arrive_at-arrived-requires : goal.arrive_at-arrived-requires
 arrive_at-arrived-requires c = record { area_len_bound = area_short c.args.area.now (small-After-arrive_at-arg-1 c); placed_in = (sound_placed c.args.port.basic.on _ _ _ (found c)).0; port_value = ported c; in_bounds = c.if-keys-lt-MAX_RUNS.false }
@@ -66,7 +66,7 @@ sized-Then-not-on c = rw (small-Then-not-on c) (le-ltb (length c.args.keys.now) 
 
 -- the port is sound
 ported-Then-not-on : (c : goal.Then-not-on) → port_sound c.args.port ≡ true
-ported-Then-not-on c = sym c.port_sound.ensures ∙ not-false _ c.if-not-port_sound.false-raw
+ported-Then-not-on c = sym c.port_sound.ensures ∙ c.if-not-port_sound.false
 
 -- or found it sound
 found-Then-not-on : (c : goal.Then-not-on) →
@@ -98,7 +98,7 @@ sized-After-faulty c = rw (small-After-faulty c) (le-ltb (length c.args.keys.now
 
 -- the port is sound
 ported-After-faulty : (c : goal.After-faulty) → port_sound c.args.port ≡ true
-ported-After-faulty c = sym c.port_sound.ensures ∙ not-false _ c.if-not-port_sound.false-raw
+ported-After-faulty c = sym c.port_sound.ensures ∙ c.if-not-port_sound.false
 
 -- the walk refused the area
 walked-After-faulty : (c : goal.After-faulty) →
@@ -118,7 +118,7 @@ sized-After-check_basic c = rw (small-After-check_basic c) (le-ltb (length c.arg
 
 -- the port is sound
 ported-After-check_basic : (c : goal.After-check_basic) → port_sound c.args.port ≡ true
-ported-After-check_basic c = sym c.port_sound.ensures ∙ not-false _ c.if-not-port_sound.false-raw
+ported-After-check_basic c = sym c.port_sound.ensures ∙ c.if-not-port_sound.false
 
 -- or found it sound
 found-After-check_basic : (c : goal.After-check_basic) →

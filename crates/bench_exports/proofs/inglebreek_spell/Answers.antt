@@ -43,7 +43,7 @@ pub returns-in-Err : goal.returns-in-Err
 returns-in-Err c =
     let a = c.args in
     let w = rw c.usual-permitted.ensures at c.spell_label.ensures in
-    rw c.number-number.ensures
+    rw c.from-number.ensures
     (spells_whole
     c.to_label-label.result
     (label_of_keys a.domain a.level a.runs.now)
@@ -56,4 +56,4 @@ returns-in-Err c =
     c.if-answer-lt-SPELLING_NUMBERS.false
     (told_unspelled usual c.to_label-label.result (length a.out.now) c.in-Err.error (sym c.in-Err.is ∙ w.0))
     w.1
-    (rw c.number-number.ensures at c.put_numbers-in-Err.ensures))
+    (rw c.from-number.ensures at c.put_numbers-in-Err.ensures))

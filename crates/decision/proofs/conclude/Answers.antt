@@ -1,12 +1,13 @@
 -- `decision::conclude` meets its contract.
-use mathlib.Core.Path.{◌∙◌, ap}
-use mathlib.Core.Bool.{Bool}
-use Rattle.decision.specs.Decision.{silenced}
-use Rattle.decision.specs.Stages.{reported}
-use Rattle.decision.proofs.Concluded.{concluded_by}
+use Rattle.decision.specs.Verdict.{concluded}
+use Rattle.decision.proofs.Concluded.{none_from}
 use Rattle.decision.proofs.conclude.Goals as goal
+use Rattle.decision.proofs.conclude.Goals.{in-Ok, in-Err}
 
 pub returns : goal.returns
+unfolding concluded
 returns c =
-    concluded_by c.args.verdict c.report-said.result c.args.domain c.owned_by-owner.result c.args.count c.counted_by.result (silenced c.args.facts) c.args.keys.now c.to_label-label.result
-    (c.report-said.ensures ∙ ap (λ (b : Bool). reported b c.args.verdict) c.is_silenced-quiet.ensures) c.owned_by-owner.ensures c.to_label-label.ensures c.counted_by.ensures
+    elim c.match-verdict.branch [
+      | in-Ok w ↦ rw (c.to_label-label.ensures, w.owner-is, w.in-Ok.is)
+      | in-Err w ↦ rw (c.to_label-label.ensures, w.owner-is, w.report.ensures, w.in-Err.is, c.is_silenced-quiet.ensures, none_from)
+    ]

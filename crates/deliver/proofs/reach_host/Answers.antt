@@ -1,41 +1,30 @@
 -- `deliver::reach_host` meets its contract.
-use borrow.Author.Tests.{not-true, not-false, eq-eqb, ne_eqb}
+use Rattle.std.proofs.lemmas.Result.{err_from_is_err_and}
 use mathlib.Core.Path.{sym, ◌∙◌}
 use Rattle.deliver.specs.Stages.{hosted_by}
 use Rattle.deliver.proofs.reach_host.Goals as goal
 
-pub returns-then-arrived-eq1 : goal.returns-then-arrived-eq1
+pub returns-then-stopped_by : goal.returns-then-stopped_by
 unfolding hosted_by
-returns-then-arrived-eq1 c = rw (eq-eqb _ _ c.if-arrived-eq1.true)
+returns-then-stopped_by c = rw (sym c.stopped_by.ensures ∙ c.if-stopped_by.true)
 
 pub returns-then-not-host_sound : goal.returns-then-not-host_sound
 unfolding hosted_by
 returns-then-not-host_sound c =
-    rw (ne_eqb _ _ c.if-arrived-eq1.false, sym c.host_sound.ensures ∙ not-true _ c.if-not-host_sound.true-raw) c.silent.ensures
+    rw (sym c.stopped_by.ensures ∙ c.if-stopped_by.false, sym c.host_sound.ensures ∙ c.if-not-host_sound.true) c.silent.ensures
 
-pub returns-then-arrived-ne0 : goal.returns-then-arrived-ne0
+pub returns-in_err-passed : goal.returns-in_err-passed
 unfolding hosted_by
-returns-then-arrived-ne0 c =
-    rw (ne_eqb _ _ c.if-arrived-eq1.false, sym c.host_sound.ensures ∙ not-false _ c.if-not-host_sound.false-raw, ne_eqb _ _ c.if-arrived-ne0.true)
+returns-in_err-passed c =
+    let p = err_from_is_err_and c.from_residual.result c.from_residual.ensures.1 in
+    rw (p.1, p.2, sym c.stopped_by.ensures ∙ c.if-stopped_by.false, sym c.host_sound.ensures ∙ c.if-not-host_sound.false, c.in_err-passed.was)
 
-pub returns-then-not-runs_between : goal.returns-then-not-runs_between
+pub returns-then-not-held_between : goal.returns-then-not-held_between
 unfolding hosted_by
-returns-then-not-runs_between c =
-    rw (ne_eqb _ _ c.if-arrived-eq1.false, sym c.host_sound.ensures ∙ not-false _ c.if-not-host_sound.false-raw, eq-eqb _ _ c.if-arrived-ne0.false, sym c.look_between.ensures ∙ c.in-Open.is, sym c.runs_between.ensures ∙ not-true _ c.if-not-runs_between.true-raw)
-    c.barred-then-not-runs_between.ensures
+returns-then-not-held_between c =
+    rw (sym c.stopped_by.ensures ∙ c.if-stopped_by.false, sym c.host_sound.ensures ∙ c.if-not-host_sound.false, c.in_ok-passed.was, sym c.held_between.ensures ∙ c.if-not-held_between.true) c.barred.ensures
 
-pub returns-in-Within : goal.returns-in-Within
+pub returns : goal.returns
 unfolding hosted_by
-returns-in-Within c =
-    rw (ne_eqb _ _ c.if-arrived-eq1.false, sym c.host_sound.ensures ∙ not-false _ c.if-not-host_sound.false-raw, eq-eqb _ _ c.if-arrived-ne0.false, sym c.look_between.ensures ∙ c.in-Within.is)
-
-pub returns-in-Outside : goal.returns-in-Outside
-unfolding hosted_by
-returns-in-Outside c =
-    rw (ne_eqb _ _ c.if-arrived-eq1.false, sym c.host_sound.ensures ∙ not-false _ c.if-not-host_sound.false-raw, eq-eqb _ _ c.if-arrived-ne0.false, sym c.look_between.ensures ∙ c.in-Outside.is)
-    c.barred.ensures
-
-pub returns-else-not-runs_between : goal.returns-else-not-runs_between
-unfolding hosted_by
-returns-else-not-runs_between c =
-    rw (ne_eqb _ _ c.if-arrived-eq1.false, sym c.host_sound.ensures ∙ not-false _ c.if-not-host_sound.false-raw, eq-eqb _ _ c.if-arrived-ne0.false, sym c.look_between.ensures ∙ c.in-Open.is, sym c.runs_between.ensures ∙ not-false _ c.if-not-runs_between.false-raw)
+returns c =
+    rw (sym c.stopped_by.ensures ∙ c.if-stopped_by.false, sym c.host_sound.ensures ∙ c.if-not-host_sound.false, c.in_ok-passed.was, sym c.held_between.ensures ∙ c.if-not-held_between.false)

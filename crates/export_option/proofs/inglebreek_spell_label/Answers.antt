@@ -30,4 +30,4 @@ returns-in-Err c =
     let s = same-label a.domain a.level a.runs.now c.to_label-label.result c.to_label-label.ensures in
     let w = rw s at c.spell_label.ensures in
     let e = told_unspelled (spellings_by a.shortest a.ten a.numbers a.pairs) (label_by a.domain a.level a.runs.now) (length a.out.now) c.in-Err.error (sym c.in-Err.is ∙ w.0) in
-    record { value = c.number.ensures ∙ ap (λ (b : Spelling). b.number) e; out_after = w.1; count_after = ap (λ (b : Spelling). b.count) e }
+    record { value = c.from.ensures ∙ ap (λ (b : Spelling). b.number) e; out_after = w.1; count_after = ap (λ (b : Spelling). b.count) e }

@@ -2,17 +2,17 @@
 use lib.ListN.{take}
 use Rattle.std.proofs.Common.{take_all}
 use Rattle.label.specs.Label.{no_run}
-use Rattle.file_format.proofs.Writing.{room_wrote, writes_none, writes_then, writes_turn}
+use Rattle.file_format.proofs.Writing.{room_added, added_none, added_then, added_turn}
 use Rattle.file_port.proofs.LabelLaws.{run_octets, runs_octets}
 use Rattle.file_port.proofs.write_runs.Goals as goal
 
 pub loop-run-init : goal.loop-run-init
-loop-run-init c = writes_none
+loop-run-init c = added_none
 
 pub loop-run-preserved : goal.loop-run-preserved
 loop-run-preserved c =
-    writes_turn run_octets no_run (take c.args.n c.args.label.runs) c.loop-run-test.true c.loop-run.invariant
-    (writes_then (room_wrote (rw c.from.ensures at c.write_two-place.ensures)) (room_wrote (rw c.from-in-loop-run.ensures at c.write_two-place-in-loop-run.ensures)))
+    added_turn run_octets no_run (take c.args.n c.args.label.runs) c.loop-run-test.true c.loop-run.invariant
+    (added_then (room_added (rw c.from.ensures at c.two.ensures)) (room_added (rw c.from-in-loop-run.ensures at c.two-in-loop-run.ensures)))
 
 pub returns : goal.returns
 returns c =

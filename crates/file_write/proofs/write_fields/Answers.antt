@@ -1,6 +1,6 @@
 -- `file_write::write_fields` meets its contract.
 use native.Mathlib.Omega.{arith}
-use Rattle.file_format.proofs.Writing.{room_wrote, writes_then}
+use Rattle.file_format.proofs.Writing.{room_added, added_then}
 use Rattle.file_read.proofs.Sets.{parts}
 use Rattle.file_write.proofs.Sizes.{fields_written}
 use Rattle.file_write.proofs.write_fields.Goals as goal
@@ -11,8 +11,8 @@ overflow_cast-total c = omega (arith, c.requires.2)
 pub overflow_cast-n : goal.overflow_cast-n
 overflow_cast-n c = omega (arith, (parts c.args.set c.args.rows.now c.requires.0).ports_held)
 
-pub write_ports-ports-requires : goal.write_ports-ports-requires
-write_ports-ports-requires c = (parts c.args.set c.args.rows.now c.requires.0).ports_held
+pub write_ports-requires : goal.write_ports-requires
+write_ports-requires c = (parts c.args.set c.args.rows.now c.requires.0).ports_held
 
 pub overflow_cast-m : goal.overflow_cast-m
 overflow_cast-m c = omega (arith, (parts c.args.set c.args.rows.now c.requires.0).tables_held)
@@ -23,6 +23,5 @@ write_tables-requires c = (parts c.args.set c.args.rows.now c.requires.0).tables
 pub returns : goal.returns
 returns c =
     fields_written c.args.set c.args.rows.now (parts c.args.set c.args.rows.now c.requires.0)
-    (writes_then (writes_then (room_wrote (rw c.requires.1 at c.write_two-version.ensures)) (room_wrote c.write_octet-count.ensures))
-    (writes_then (writes_then (room_wrote c.write_octet-first.ensures) c.write_ports-ports.ensures) (writes_then (room_wrote c.write_octet-tables.ensures) c.write_tables.ensures)))
-    (omega (arith, c.requires.1, c.requires.3))
+    (added_then (added_then (room_added (rw c.requires.1 at c.two.ensures)) (room_added c.octet.ensures))
+    (added_then (added_then (room_added c.octet-2.ensures) c.write_ports.ensures) (added_then (room_added c.octet-3.ensures) c.write_tables.ensures)))

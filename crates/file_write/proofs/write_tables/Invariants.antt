@@ -10,4 +10,4 @@ use Rattle.file_write.proofs.write_tables.Given as goal
 abbrev pub invariant-loop-renumbering : goal.invariant-loop-renumbering
 invariant-loop-renumbering l =
     (l.from ≤ length l.rows)
-    × Goes l.at (flat table_octets (tables_from l.renumbering-items l.rows)) (flat table_octets (tables_from (drop l.renumbering-index l.renumbering-items) (drop l.from l.rows))) l.initial.out l.out l.place
+    × Goes l.initial.out (flat table_octets (tables_from l.renumbering-items l.rows)) (flat table_octets (tables_from (drop l.renumbering-index l.renumbering-items) (drop l.from l.rows))) l.out

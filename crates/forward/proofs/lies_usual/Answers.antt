@@ -13,6 +13,6 @@ returns-in-Outside c = rw (sym c.look_between.ensures ∙ c.in-Outside.is)
 
 pub returns-in-Open : goal.returns-in-Open
 returns-in-Open c =
-    let v = c.args.verdict in
+    let v = c.args.passed in
     let told = sym c.look_between.ensures ∙ c.in-Open.is in
     sym (look_last c.args.lowest c.args.highest v.level (key_runs (take v.count c.args.keys.now)) c.requires.0 c.requires.1 ∙ rw told)

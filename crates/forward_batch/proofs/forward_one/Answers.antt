@@ -9,12 +9,14 @@ returns c = (
       (record { arriving = c.args.arriving; leaving = c.args.leaving; table = lent c.args.table c.args.rows.now; levels = c.args.levels })
       c.args.datagram.now
       c.args.slot.now
+      c.read_facts-facts.result
       c.capped-end.result
       c.forward-d.result
       c.forward-d.new.out
       _
       c.requires.0
       c.requires.1
+      c.read_facts-facts.ensures
       c.capped-end.ensures.2
       c.capped-end.ensures.3
       c.forward-d.ensures.value

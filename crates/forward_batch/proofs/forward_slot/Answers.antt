@@ -33,12 +33,14 @@ returns c =
           (port_in c.args.beyond c.args.least.now c.args.most.now g c.args.only.now w c.args.sends.now) t c.args.levels)
           c.args.datagram.now
           c.args.slot.now
+          c.read_facts-facts.result
           c.capped-end.result
           c.forward_gates-d.result
           c.forward_gates-d.new.out
           _
           c.requires.datagram_len.0
           c.requires.datagram_len.1
+          c.read_facts-facts.ensures
           c.capped-end.ensures.2
           c.capped-end.ensures.3
           d.0

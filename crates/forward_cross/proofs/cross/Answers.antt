@@ -12,21 +12,25 @@ use Rattle.forward_cross.proofs.cross.Goals as goal
 pub returns-then-domain-leaving : goal.returns-then-domain-leaving
 returns-then-domain-leaving c =
     let a = c.args in
-    let q = crossed_same a.arrived a.domain a.leaving (lent a.table a.rows.now) a.levels a.own.now a.far.now c.if-domain-leaving.true in record { value = sym q.0; far_after = c.copy_list.ensures ∙ sym q.1 }
+    let q = crossed_same a.domain a.leaving (lent a.table a.rows.now) a.levels a.own.now a.far.now a.arrived c.if-domain-leaving.true in record { value = sym q.0; far_after = c.copy_list.ensures ∙ sym q.1 }
 
-pub returns-then-arrived-ne0 : goal.returns-then-arrived-ne0
-returns-then-arrived-ne0 c =
+pub returns-in-Err : goal.returns-in-Err
+returns-in-Err c =
     let a = c.args in
-    let q = crossed_refused a.arrived a.domain a.leaving (lent a.table a.rows.now) a.levels a.own.now a.far.now c.if-domain-leaving.false c.if-arrived-ne0.true in record { value = c.check_table.ensures ∙ sym q.0; far_after = sym q.1 }
+    let q = crossed_refused a.domain a.leaving (lent a.table a.rows.now) a.levels a.own.now a.far.now c.in-Err.refusal c.if-domain-leaving.false in
+    rw c.in-Err.is (record { value = c.check_table.ensures ∙ sym q.0; far_after = sym q.1 })
 
-pub returns : goal.returns
-returns c =
+pub returns-in-Ok : goal.returns-in-Ok
+returns-in-Ok c =
     let a = c.args in
-    let q = crossed_carried a.arrived a.domain a.leaving (lent a.table a.rows.now) a.levels a.own.now a.far.now c.if-domain-leaving.false c.if-arrived-ne0.false in record {
+    let p = c.in-Ok.passed in
+    let q = crossed_carried a.domain a.leaving (lent a.table a.rows.now) a.levels a.own.now a.far.now p c.if-domain-leaving.false in
+    rw c.in-Ok.is
+    (record {
       value = c.number_over.ensures
           ∙ ap (λ (g : CarryAnswer). numbered_by g (eqb a.table.from a.domain) (eqb a.table.to a.leaving)) c.carry-carried.ensures.0
           ∙ sym q.0;
       far_after = c.carry-carried.ensures.1
-          ∙ ap (λ (g : CarryAnswer). carried_keys g (image_of (lent a.table a.rows.now) (key_runs (take a.arrived.count a.own.now))) a.far.now) c.carry-carried.ensures.0
+          ∙ ap (λ (g : CarryAnswer). carried_keys g (image_of (lent a.table a.rows.now) (key_runs (take p.count a.own.now))) a.far.now) c.carry-carried.ensures.0
           ∙ sym q.1;
-    }
+    })

@@ -1,8 +1,9 @@
 -- `gate::check_basic` meets its contract.
 use native.Mathlib.Omega.{arith}
-use mathlib.Core.Path.{sym, ◌∙◌}
+use mathlib.Core.Path.{sym, ◌∙◌, ap}
 use mathlib.Core.Bool.{true}
 use Rattle.area.specs.declared.Kind.TheVariants.{Basic}
+use Rattle.basic.specs.Alone.{basic_reading}
 use Rattle.arrive.specs.Checks.{first_of}
 use Rattle.arrive.specs.Stages.{basic_checks}
 use Rattle.area.proofs.Laws.{whole_inside}
@@ -13,9 +14,6 @@ use Rattle.gate.proofs.check_basic.Goals as goal
 pub returns-then-not-is_open : goal.returns-then-not-is_open
 returns-then-not-is_open c =
     open_closed c.args.arrived (first_of (basic_checks c.args.place true (way_of c.args.low c.args.high c.args.fields.now) c.args.area.now c.args.code)) (sym c.is_open.ensures ∙ c.if-not-is_open.true)
-
-pub read_basic_at-requires : goal.read_basic_at-requires
-read_basic_at-requires c = rw c.in-Some.is at c.requires.placed_in
 
 pub overflow_add-at : goal.overflow_add-at
 overflow_add-at c =
@@ -30,14 +28,14 @@ overflow_cast-at c =
 pub returns-in_default : goal.returns-in_default
 returns-in_default c =
     c.faulty.ensures
-    ∙ basic_bad_lem c.args.arrived (way_of c.args.low c.args.high c.args.fields.now) c.args.area.now c.args.code (sym c.is_open.ensures ∙ c.if-not-is_open.false) c.in-Some.at (sym c.read_basic_at.ensures ∙ c.in_default.is)
+    ∙ basic_bad_lem c.args.arrived (way_of c.args.low c.args.high c.args.fields.now) c.args.area.now c.args.code (sym c.is_open.ensures ∙ c.if-not-is_open.false) c.in-Some.at (ap basic_reading (sym c.option_at.ensures) ∙ sym c.read_basic.ensures ∙ c.in_default.is)
     ∙ checks_at c.args.arrived (way_of c.args.low c.args.high c.args.fields.now) c.args.area.now c.args.code c.args.place _ c.in-Some.is
 
 pub returns-then-not-passes_fields : goal.returns-then-not-passes_fields
 returns-then-not-passes_fields c =
     c.barred.ensures
     ∙ basic_outside c.args.arrived (way_of c.args.low c.args.high c.args.fields.now) c.args.area.now c.args.code (sym c.is_open.ensures ∙ c.if-not-is_open.false) c.in-Some.at
-    c.in-Some-read_basic_at.read (sym c.read_basic_at.ensures ∙ c.in-Some-read_basic_at.is) (sym c.passes_fields.ensures ∙ c.if-not-passes_fields.true)
+    c.in-Some-read_basic.read (ap basic_reading (sym c.option_at.ensures) ∙ sym c.read_basic.ensures ∙ c.in-Some-read_basic.is) (sym c.passes_fields.ensures ∙ c.if-not-passes_fields.true)
     ∙ checks_at c.args.arrived (way_of c.args.low c.args.high c.args.fields.now) c.args.area.now c.args.code c.args.place _ c.in-Some.is
 
 pub returns-in-None : goal.returns-in-None
@@ -49,5 +47,5 @@ returns-in-None c =
 pub returns-else-not-passes_fields : goal.returns-else-not-passes_fields
 returns-else-not-passes_fields c =
     basic_passes_lem c.args.arrived (way_of c.args.low c.args.high c.args.fields.now) c.args.area.now c.args.code (sym c.is_open.ensures ∙ c.if-not-is_open.false) c.in-Some.at
-    c.in-Some-read_basic_at.read (sym c.read_basic_at.ensures ∙ c.in-Some-read_basic_at.is) (sym c.passes_fields.ensures ∙ c.if-not-passes_fields.false)
+    c.in-Some-read_basic.read (ap basic_reading (sym c.option_at.ensures) ∙ sym c.read_basic.ensures ∙ c.in-Some-read_basic.is) (sym c.passes_fields.ensures ∙ c.if-not-passes_fields.false)
     ∙ checks_at c.args.arrived (way_of c.args.low c.args.high c.args.fields.now) c.args.area.now c.args.code c.args.place _ c.in-Some.is

@@ -3,72 +3,27 @@ use borrow.Author.Tests.{not-true, not-false}
 use native.Mathlib.Omega.{arith}
 use mathlib.Core.Path.{◌≡◌, refl, sym, ◌∙◌}
 use mathlib.Core.Bool.{true, false}
-use mathlib.Core.List.{List, []}
-use Prim.Native.Nat.{ℕ, ◌+◌, ◌-◌, ◌≤◌}
-use lib.ListN.{get_or, take, drop}
+use mathlib.Core.List.{[]}
+use Prim.Native.Nat.{◌+◌, ◌≤◌}
+use lib.ListN.{take}
 use Rattle.std.specs.Prelude.{Ok, Err}
 use Rattle.option_read.specs.Keys.{KeyReading, row_of, ReadsKeys}
 use Rattle.option_slack.specs.Strict.{stops_slack}
 use Rattle.option_slack.proofs.Strict.{stops_row}
 use Rattle.label_keys.specs.Keys.{key_runs}
-use Rattle.arrive.proofs.Arrival.{Framed, placed_framed, keys_point}
+use Rattle.area.specs.Area.{option_at}
+use Rattle.arrive.proofs.Arrival.{placed_framed, keys_point}
 use Rattle.label_between.proofs.Bounds.{lies_any}
 use Rattle.gate.specs.Gate.{port_in}
 use Rattle.gate.proofs.Acts.{acts_slack, acts_refused, acts_held}
 use Rattle.gate.proofs.read_at.Goals as goal
 use Rattle.gate.proofs.read_at.Goals.{In-Err, In-Ok}
 
--- the octets of the option at a place
-abbrev slice : List ℕ → ℕ → List ℕ
-slice area at = take (at + get_or area (at + 1) 0 - at) (drop at area)
-
--- the option lies in the area
-framed_at : (c : goal.After-slice_known-1) → Framed c.args.area.now c.args.at
-framed_at c = placed_framed c.args.area.now c.args.at c.requires.whole_at
-
-pub overflow_add-next : goal.overflow_add-next
-overflow_add-next c =
-    omega (arith, (framed_at c).inside, (framed_at c).least, c.requires.area_len_bound)
-
--- the option lies in the area
-framed_at-After-shared_slice_known-4-1-unread : (c : goal.After-shared_slice_known-4-1-unread) → Framed c.args.area.now c.args.at
-framed_at-After-shared_slice_known-4-1-unread c = placed_framed c.args.area.now c.args.at c.requires.whole_at
-
-pub bounds-area-next : goal.bounds-area-next
-bounds-area-next c =
-    omega (arith, (framed_at-After-shared_slice_known-4-1-unread c).inside, (framed_at-After-shared_slice_known-4-1-unread c).least)
-
--- the option lies in the area
-framed_at-After-shared_slice_known-4-1 : (c : goal.After-shared_slice_known-4-1) → Framed c.args.area.now c.args.at
-framed_at-After-shared_slice_known-4-1 c = placed_framed c.args.area.now c.args.at c.requires.whole_at
-
-pub overflow_cast-n : goal.overflow_cast-n
-overflow_cast-n c =
-    omega (arith, (framed_at-After-shared_slice_known-4-1 c).inside, c.requires.area_len_bound)
-
-pub overflow_add-end : goal.overflow_add-end
-overflow_add-end c =
-    omega (arith, (framed_at-After-shared_slice_known-4-1 c).inside, c.requires.area_len_bound)
-
-pub slice_bounds-read_keys-end : goal.slice_bounds-read_keys-end
-slice_bounds-read_keys-end c =
-    omega (arith, (framed_at-After-shared_slice_known-4-1 c).inside)
-
--- the option lies in the area
-framed_at-After-slice_known-2-1 : (c : goal.After-slice_known-2-1) → Framed c.args.area.now c.args.at
-framed_at-After-slice_known-2-1 c = placed_framed c.args.area.now c.args.at c.requires.whole_at
-
-pub slice_bounds-stops_slack-end : goal.slice_bounds-stops_slack-end
-slice_bounds-stops_slack-end c =
-    omega (arith, (framed_at-After-slice_known-2-1 c).inside)
-
--- the option lies in the area
-framed_at-Then-stops_slack : (c : goal.Then-stops_slack) → Framed c.args.area.now c.args.at
-framed_at-Then-stops_slack c = placed_framed c.args.area.now c.args.at c.requires.whole_at
-
 -- the octets of the area
 few : (c : goal.Then-stops_slack) → (c.args.at + 2 ≤ 40)
-few c = omega (arith, (framed_at-Then-stops_slack c).inside, (framed_at-Then-stops_slack c).least, c.requires.area_len_bound)
+few c =
+    let f = placed_framed c.args.area.now c.args.at c.requires.whole_at in
+    omega (arith, f.inside, f.least, c.requires.area_len_bound)
 
 pub overflow_add-at : goal.overflow_add-at
 overflow_add-at c = omega (arith, few c)
@@ -81,24 +36,26 @@ overflow_cast-at c = omega (arith, few c)
 
 pub returns-then-stops_slack : goal.returns-then-stops_slack
 returns-then-stops_slack c =
+    let read : ReadsKeys c.args.gate.domain (option_at c.args.at c.args.area.now) c.args.keys.now c.read_keys-read.new.keys (row_of c.read_keys-read.result) = rw (← c.option_at-octets.ensures) c.read_keys-read.ensures.read in
+    let stops : stops_slack c.args.gate.strict (row_of c.read_keys-read.result).number (option_at c.args.at c.args.area.now) ≡ true =
+    rw (← c.option_at-octets.ensures) (stops_row _ _ _ c.read_keys-read.ensures.refused ∙ sym c.stops_slack.ensures ∙ c.if-stops_slack.true) in
     λ given only receives sends.
     rw c.faulty.ensures
-    (acts_slack (port_in c.args.gate c.args.lows.now c.args.highs.now given only receives sends) c.args.area.now c.args.keys.now _ c.args.at c.args.code (row_of c.read_keys-read.result) c.read_keys-read.ensures.read c.requires.in_bounds
-    (stops_row _ _ _ c.read_keys-read.ensures.refused ∙ sym c.stops_slack.ensures ∙ c.if-stops_slack.true))
+    (acts_slack (port_in c.args.gate c.args.lows.now c.args.highs.now given only receives sends) c.args.area.now c.args.keys.now _ c.args.at c.args.code (row_of c.read_keys-read.result) read c.requires.in_bounds stops)
 
 -- the option is refused
 module _ (c : In-Err) where
   abbrev row : KeyReading
   row = row_of (Err c.in-Err.fault)
 
-  read-row : ReadsKeys c.args.gate.domain (slice c.args.area.now c.args.at) c.args.keys.now c.read_keys-read.new.keys row
-  read-row = rw c.in-Err.is at c.read_keys-read.ensures.read
+  read-row : ReadsKeys c.args.gate.domain (option_at c.args.at c.args.area.now) c.args.keys.now c.read_keys-read.new.keys row
+  read-row = rw (← c.option_at-octets.ensures) (rw c.in-Err.is at c.read_keys-read.ensures.read)
 
   has-number : c.in-Err.fault.number ≡ 0 → ⊥
   has-number = rw c.in-Err.is at c.read_keys-read.ensures.refused
 
-  passed : stops_slack c.args.gate.strict row.number (slice c.args.area.now c.args.at) ≡ false
-  passed = rw c.in-Err.is at (stops_row c.args.gate.strict c.read_keys-read.result (slice c.args.area.now c.args.at) c.read_keys-read.ensures.refused ∙ sym c.stops_slack.ensures ∙ c.if-stops_slack.false)
+  passed : stops_slack c.args.gate.strict row.number (option_at c.args.at c.args.area.now) ≡ false
+  passed = rw (← c.option_at-octets.ensures) (rw c.in-Err.is at (stops_row _ _ _ c.read_keys-read.ensures.refused ∙ sym c.stops_slack.ensures ∙ c.if-stops_slack.false))
 
   -- where the option points
   points : c.in-Err.fault.at ≤ 50
@@ -132,11 +89,11 @@ module _ (c : In-Ok) where
   abbrev read : KeyReading
   read = row_of (Ok c.in-Ok.held)
 
-  read-is : ReadsKeys c.args.gate.domain (slice c.args.area.now c.args.at) c.args.keys.now c.read_keys-read.new.keys read
-  read-is = rw c.in-Ok.is at c.read_keys-read.ensures.read
+  read-is : ReadsKeys c.args.gate.domain (option_at c.args.at c.args.area.now) c.args.keys.now c.read_keys-read.new.keys read
+  read-is = rw (← c.option_at-octets.ensures) (rw c.in-Ok.is at c.read_keys-read.ensures.read)
 
-  passed-read : stops_slack c.args.gate.strict 0 (slice c.args.area.now c.args.at) ≡ false
-  passed-read = rw c.in-Ok.is at (stops_row c.args.gate.strict c.read_keys-read.result (slice c.args.area.now c.args.at) c.read_keys-read.ensures.refused ∙ sym c.stops_slack.ensures ∙ c.if-stops_slack.false)
+  passed-read : stops_slack c.args.gate.strict 0 (option_at c.args.at c.args.area.now) ≡ false
+  passed-read = rw (← c.option_at-octets.ensures) (rw c.in-Ok.is at (stops_row _ _ _ c.read_keys-read.ensures.refused ∙ sym c.stops_slack.ensures ∙ c.if-stops_slack.false))
 
 pub returns-then-not-lies_between : goal.returns-then-not-lies_between
 returns-then-not-lies_between c =

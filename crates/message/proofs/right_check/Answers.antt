@@ -1,7 +1,7 @@
 -- `message::right_check` meets its contract.
 use mathlib.Core.Path.{◌≡◌, sym, ap, ◌∙◌}
 use native.Mathlib.Omega.{arith}
-use Prim.Native.Nat.{◌+◌, ◌-◌, ◌*◌}
+use Prim.Native.Nat.{◌-◌}
 use lib.Dec.{eqb}
 use lib.ListN.{take, drop}
 use lib.Seq.{length-take-le}
@@ -20,5 +20,5 @@ returns c =
     let octet = c.type_inv.octets in
     let sum : c.add_octets-sum.result ≡ ones_from (ones_from 0 (words_in (take 2 o))) (words_in (drop 4 o)) =
     c.add_octets-sum.ensures ∙ (λ i. ones_from (c.add_octets.ensures i) (words_in (tail_is o 4 i))) in
-    let check : c.widen.result * 256 + c.widen-2.result ≡ check_in o = omega (arith, c.widen.ensures.0, c.widen-2.ensures.0) in
+    let check : c.from_be_bytes-check.result ≡ check_in o = omega (arith, c.from_be_bytes-check.ensures) in
     (λ i. eqb (check i) (65535 - sum i)) ∙ ap (eqb (check_in o)) (sym (blank_sum o (omega (arith, c.requires)) (omega (arith, octet 0)) (omega (arith, octet 1))))

@@ -5,7 +5,8 @@ use native.Mathlib.Omega.{arith}
 use lib.ListN.{length, drop}
 use Rattle.message_checksum.specs.Checksum.{words_in, ones_from}
 use Rattle.message_checksum.specs.Stages.{folded}
-use Rattle.message_checksum.proofs.Laws.{chunk_in, pair_word, sum_step}
+use Rattle.lists.proofs.Laws.{chunk_in}
+use Rattle.message_checksum.proofs.Laws.{pair_word, sum_step}
 use Rattle.message_checksum.proofs.add_block.Goals as goal
 
 pub loop-pair-preserved : goal.loop-pair-preserved

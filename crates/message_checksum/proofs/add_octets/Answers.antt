@@ -4,7 +4,8 @@ use mathlib.Core.Path.{sym, ap, ◌∙◌}
 use mathlib.Core.List.{List}
 use lib.ListN.{drop}
 use Rattle.message_checksum.specs.Checksum.{words_in, ones_from}
-use Rattle.message_checksum.proofs.Laws.{chunk_in, block_step}
+use Rattle.lists.proofs.Laws.{chunk_in}
+use Rattle.message_checksum.proofs.Laws.{block_step}
 use Rattle.message_checksum.proofs.add_octets.Goals as goal
 
 pub loop-block-preserved : goal.loop-block-preserved

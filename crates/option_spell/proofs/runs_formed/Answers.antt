@@ -10,6 +10,7 @@ use mathlib.Core.List.{[], ◌∷◌}
 use lib.Dec.{eqb, leb}
 use lib.ListN.{drop, get_or, length, length-set, drop_of_length-le}
 use lib.Seq.{length-take-le, take_all, get_or-take}
+use Rattle.label.specs.declared.Run.{Run}
 use Rattle.label.specs.Runs.{unused}
 use Rattle.label.specs.Label.{used, no_run}
 use Rattle.label_keys.specs.Keys.{run_key}
@@ -23,31 +24,21 @@ use Rattle.option_spell.proofs.runs_formed.Goals as goal
 pub loop-i-init : goal.loop-i-init
 loop-i-init c = (rises_spaced 0 (used c.args.label) (omega arith), refl, refl)
 
-sized : (c : goal.After-run_key) → length c.args.label.runs ≡ 120
-sized c = search (length_mapped, rules)
-
--- the used run that a turn of the first loop reads
-seen-used : (c : goal.After-run_key) →
-    let l = c.args.label in
-    let i = c.loop-i.i in
-    drop i (used l) ≡ get_or l.runs i no_run ∷ drop (i + 1) (used l)
-seen-used c =
-    next_used no_run c.args.label.runs c.args.label.count c.loop-i.i c.loop-i-test.true (omega (arith, sized c))
-
-used-sized : (c : goal.After-run_key) → length (used c.args.label) ≡ c.args.label.count
-used-sized c = length-take-le c.args.label.count c.args.label.runs (omega (arith, sized c, c.requires.0))
-
 pub loop-i-preserved : goal.loop-i-preserved
 loop-i-preserved c =
     let l = c.args.label in
     let v = c.loop-i in
-    let r = get_or l.runs v.i no_run in (
+    let r : Run = get_or l.runs v.i no_run in
+    let sized : length l.runs ≡ 120 = search (length_mapped, rules) in
+    let room : length c.args.keys.now ≡ 120 = search rules in
+    let seen : drop v.i (used l) ≡ r ∷ drop (v.i + 1) (used l) = next_used no_run l.runs l.count v.i c.loop-i-test.true (omega (arith, c.requires)) in
+    let many : length (used l) ≡ l.count = length-take-le l.count l.runs (omega (arith, c.requires)) in (
       v.invariant.0
-          ∙ rw (seen-used c)
+          ∙ rw seen
           (and_chain v.good (leb v.floor r.low) (leb r.low r.high) (rises (r.high + 2) (drop (v.i + 1) (used l)))),
       simp length-set v.invariant.1,
       rw (c.run_key.ensures.0, v.invariant.2, ← get_or-take l.count l.runs v.i no_run c.loop-i-test.true)
-          (keys_next run_key (used l) c.args.keys.now v.i no_run (omega (arith, used-sized c)) (omega (arith, c.requires.0, c.requires.1))),
+          (keys_next run_key (used l) c.args.keys.now v.i no_run (omega (arith, many)) (omega (arith, c.requires))),
     )
 
 pub loop-run-init : goal.loop-run-init
@@ -67,12 +58,6 @@ loop-run-preserved c =
           ∙ rw (next no_run rs v.run-index c.loop-run-test.true, c.word-rest.ensures) (or_step v.rest r.low r.high (unused (drop (v.run-index + 1) rs))),
     )
 
-pub shape_of-keys : goal.shape_of-keys
-shape_of-keys c = c.loop-i.invariant.1
-
-sized-After-loop-run : (c : goal.After-loop-run) → length c.args.label.runs ≡ 120
-sized-After-loop-run c = search (length_mapped, rules)
-
 pub returns : goal.returns
 returns c =
     let l = c.args.label in
@@ -80,7 +65,8 @@ returns c =
     let rs = behind l.count l.runs in
     let none : drop v.run-index rs ≡ [] = drop_of_length-le rs {i = v.run-index} (omega arith) in
     let e : c.loop-i.i ≡ l.count = omega arith in
-    let all : length (used l) ≡ l.count = length-take-le l.count l.runs (omega (arith, sized-After-loop-run c, c.requires.0)) in (
+    let sized : length l.runs ≡ 120 = search (length_mapped, rules) in
+    let all : length (used l) ≡ l.count = length-take-le l.count l.runs (omega (arith, c.requires)) in (
       sym (rw (v.invariant.0, v.invariant.1, none, and-true (eqb v.rest 0))),
       rw (e, take_all l.count (used l) (omega (arith, all))) at c.loop-i.invariant.2,
     )

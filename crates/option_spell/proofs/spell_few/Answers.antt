@@ -25,7 +25,7 @@ form : (c : goal.Then-not-formed)
 form c =
     let l = c.args.label in
     (λ i. c.few_formed.ensures i && c.unused_after_few.ensures i)
-    ∙ few_form l.runs c.front_keys.new.keys 16 l.count c.front_keys.ensures.0 c.requires.1
+    ∙ few_form l.runs c.front_keys.new.keys 16 l.count c.front_keys.ensures c.requires.1
     ∙ sym (well_formed_runs l c.requires.0 (omega (arith, c.requires.1)) (fields c))
 
 pub returns-then-not-formed : goal.returns-then-not-formed
@@ -46,7 +46,7 @@ form-After-answer : (c : goal.After-answer)
 form-After-answer c =
     let l = c.args.label in
     (λ i. c.few_formed.ensures i && c.unused_after_few.ensures i)
-    ∙ few_form l.runs c.front_keys.new.keys 16 l.count c.front_keys.ensures.0 c.requires.1
+    ∙ few_form l.runs c.front_keys.new.keys 16 l.count c.front_keys.ensures c.requires.1
     ∙ sym (well_formed_runs l c.requires.0 (omega (arith, c.requires.1)) (fields-After-answer c))
 
 pub returns : goal.returns
@@ -54,5 +54,5 @@ returns c =
     let l = c.args.label in
     let well : well_formed l ≡ true = sym (form-After-answer c) ∙ c.if-not-formed.false in
     keys_spell c.args.permitted l c.args.out.now _ _ _ well c.requires.2 _
-    (few_used l.runs c.front_keys.new.keys 16 l.count c.front_keys.ensures.0 c.requires.1)
+    (few_used l.runs c.front_keys.new.keys 16 l.count c.front_keys.ensures c.requires.1)
     c.spell_keys-count.ensures c.answer.ensures

@@ -56,7 +56,7 @@ pub put_number-requires : goal.put_number-requires
 put_number-requires c =
     let s = c.loop-x in
     let r = room c.args.keys.now c.loop-key.key-index s.x s.k c.loop-key-test.true s.auto.x s.invariant.2 (omega arith) in
-    (omega (arith, r, s.invariant.1, c.requires), omega arith)
+    omega (arith, r, s.invariant.1, c.requires)
 
 pub overflow_add-k : goal.overflow_add-k
 overflow_add-k c =

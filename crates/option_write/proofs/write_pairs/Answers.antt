@@ -14,7 +14,7 @@ loop-j-preserved c =
     let first = c.put_number.ensures in
     let second = c.put_number-in-loop-j.ensures in (
       second.1 ∙ first.1 ∙ l.invariant.0,
-      pair_store f c.args.out.now _ _ _ l.j _ _ (omega arith) l.invariant.1 (top_is c.args.keys.now l.j) (bottom_is c.args.keys.now l.j) first.0 second.0,
+      pair_store f c.args.out.now _ _ _ l.j _ _ (omega arith) l.invariant.1 (c.high.ensures ∙ top_is c.args.keys.now l.j) (c.low.ensures ∙ bottom_is c.args.keys.now l.j) first.0 second.0,
     )
 
 pub returns-then-pairs-m : goal.returns-then-pairs-m
@@ -22,7 +22,7 @@ returns-then-pairs-m c =
     let l = c.loop-j in
     let e : l.j ≡ c.args.m / 2 = omega arith in
     let odd : 2 * (c.args.m / 2) + 1 ≡ c.args.m = omega arith in
-    top_store (pair_number (key_runs c.args.keys.now)) c.args.out.now _ _ (c.args.m / 2) c.args.m _ (omega arith) (rw e at l.invariant.1) (top_is c.args.keys.now (c.args.m / 2)) c.put_number-then-pairs-m.ensures.0 odd
+    top_store (pair_number (key_runs c.args.keys.now)) c.args.out.now _ _ (c.args.m / 2) c.args.m _ (omega arith) (rw e at l.invariant.1) (c.high-then-pairs-m.ensures ∙ top_is c.args.keys.now (c.args.m / 2)) c.put_number-then-pairs-m.ensures.0 odd
 
 pub returns-else-pairs-m : goal.returns-else-pairs-m
 returns-else-pairs-m c =

@@ -5,4 +5,4 @@ use Rattle.renumber_search.proofs.Cuts.{AllCutting}
 use Rattle.renumber_search.proofs.cut_runs.Given as goal
 
 abbrev pub invariant-loop-run : goal.invariant-loop-run
-invariant-loop-run l = AllCutting (rows_from l.rows) (key_runs l.run-items) l.initial.far l.w l.run-index l.j l.far
+invariant-loop-run l = AllCutting (rows_from l.rows) (key_runs l.own) l.initial.far l.w l.run-index l.j l.far

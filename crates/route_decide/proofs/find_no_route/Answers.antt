@@ -1,20 +1,24 @@
 -- `route_decide::find_no_route` meets its contract.
-use borrow.Author.Tests.{lt-ltb, le-ltb, eq-eqb, ne_eqb}
+use borrow.Author.Tests.{lt-ltb, le-ltb}
+use mathlib.Core.Path.{sym, ◌∙◌}
 use Rattle.route_decide.specs.Stages.{unrouted_by}
 use Rattle.route_decide.proofs.find_no_route.Goals as goal
 
-pub returns-then-arrived-eq1 : goal.returns-then-arrived-eq1
+pub returns-then-stopped_by : goal.returns-then-stopped_by
 unfolding unrouted_by
-returns-then-arrived-eq1 c = simp (eq-eqb _ _ c.if-arrived-eq1.true)
+returns-then-stopped_by c = rw (sym c.stopped_by.ensures ∙ c.if-stopped_by.true)
 
 pub returns-then-room-lt40 : goal.returns-then-room-lt40
 unfolding unrouted_by
-returns-then-room-lt40 c = simp (ne_eqb _ _ c.if-arrived-eq1.false, lt-ltb _ _ c.if-room-lt40.true, c.stop.ensures)
+returns-then-room-lt40 c =
+    rw (sym c.stopped_by.ensures ∙ c.if-stopped_by.false, lt-ltb _ 40 c.if-room-lt40.true) c.silent.ensures
 
-pub returns-then-arrived-eq0 : goal.returns-then-arrived-eq0
+pub returns-then-is_ok : goal.returns-then-is_ok
 unfolding unrouted_by
-returns-then-arrived-eq0 c = simp (ne_eqb _ _ c.if-arrived-eq1.false, le-ltb _ _ c.if-room-lt40.false, eq-eqb _ _ c.if-arrived-eq0.true, c.stop-then-arrived-eq0.ensures)
+returns-then-is_ok c =
+    rw (sym c.stopped_by.ensures ∙ c.if-stopped_by.false, le-ltb _ 40 c.if-room-lt40.false, sym c.is_ok.ensures.value ∙ c.if-is_ok.true) c.stop.ensures
 
 pub returns : goal.returns
 unfolding unrouted_by
-returns c = simp (ne_eqb _ _ c.if-arrived-eq1.false, le-ltb _ _ c.if-room-lt40.false, ne_eqb _ _ c.if-arrived-eq0.false)
+returns c =
+    rw (sym c.stopped_by.ensures ∙ c.if-stopped_by.false, le-ltb _ 40 c.if-room-lt40.false, sym c.is_ok.ensures.value ∙ c.if-is_ok.false)

@@ -1,4 +1,5 @@
-use Rattle.std.proofs.Common.{arith}
+use Rattle.std.proofs.Common.{arith, rules, ◌-◌, take}
+use lib.Seq.{take_at, length-take-le}
 use Rattle.stream.proofs.Laws.{holds_piece}
 use Rattle.stream.proofs.input.hold_piece.Goals as goal
 
@@ -12,11 +13,11 @@ returns c =
     c.lie-w.ensures.at_le_end
     _
     c.copy_within.new.self
-    c.read_once-got.new.input
+    _
     c.read_once-got.result
     c.copy_within.ensures.after
     c.copy_within.ensures.len
-    (omega arith)
-    (omega arith)
-    c.read_once-got.ensures.result_bound.1
-    c.read_once-got.ensures.input_unchanged
+    (search rules)
+    (search rules)
+    (search rules)
+    (take_at (take (c.lie-w.result.end - c.lie-w.result.at) c.copy_within.new.self) _ (c.lie-w.result.end - c.lie-w.result.at) (length-take-le _ _ (omega arith)))
