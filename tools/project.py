@@ -147,8 +147,8 @@ class Definitions:
         return sum(len([line for line in self.text[name].split("\n") if line.strip()]) for name in names)
 
 
-# a head without a contract ends in its own line's brace, one with a contract in the brace below it
-FUNCTION = re.compile(r"^( *)(pub )?(?:extern \"C\" )?fn (\w+)(?:(?:(?!requires|ensures)[^{])*\{$|.*?^\1\{)", re.MULTILINE | re.DOTALL)
+# a head without a contract ends in its own line's brace, one with a contract in the brace below it, one of a trait in a semicolon
+FUNCTION = re.compile(r"^( *)(pub )?(?:extern \"C\" )?fn (\w+)(?:(?:(?!requires|ensures|;$)[^{])*\{$|(?:(?!requires|ensures|;$)[^{])*;$|.*?(?:^\1\{|\};$))", re.MULTILINE | re.DOTALL)
 
 
 def heads():
@@ -161,3 +161,28 @@ def heads():
                 scope = imports(text)
                 for found in FUNCTION.finditer(text):
                     yield crate.name, found.group(3), bool(found.group(2)), found.group(0), scope
+
+
+# ---- traits
+
+# a trait of a crate, or an impl of a trait: `kind` is the type, and nothing for the trait itself; `trait` has its type parameters; `laws` has the text
+# of each ghost member; `own` has the names of both that the crate declares
+Block = collections.namedtuple("Block", "crate path trait kind public laws body said own scope")
+TRAIT = re.compile(r"^((?:(?://|#\[)[^\n]*\n)*)(?:(pub )?trait (\w+)[^{\n]*|impl(?:<[^\n]*?>)? ([\w:]+(?:<[^\n]*?>)?) for ([^\n]+?) )\{\n(.*?)^\}", re.MULTILINE | re.DOTALL)
+LAW = re.compile(r"^    ghost (\w+)(?: =|:) \{\s*(.*?)\s*\};", re.MULTILINE | re.DOTALL)
+DECLARED = re.compile(r"^pub (?:struct|enum|trait|type) (\w+)", re.MULTILINE)
+
+
+def traits():
+    """Each trait of the sources and each impl of one; what `derive` writes is none."""
+    for crate in crates():
+        folder = f"crates/{crate.name}/src"
+        paths = [f"{folder}/{file}" for file in sorted(os.listdir(os.path.join(ROOT, folder))) if file.endswith(".rt")]
+        declared = {name for path in paths for name in DECLARED.findall(read(path))}
+        for path in paths:
+            text = read(path)
+            for above, public, name, trait, kind, body in TRAIT.findall(text):
+                said = " ".join(line[2:].strip() for line in above.splitlines() if line.startswith("//"))
+                laws = {law: " ".join(words.split()) for law, words in LAW.findall(body)}
+                own = declared & set(re.findall(r"\w+", f"{name} {trait} {kind}"))
+                yield Block(crate.name, path, name or trait, kind, bool(public), laws, body, said, own, imports(text))

@@ -17,7 +17,7 @@ use Rattle.basic.specs.declared.BasicError.{BasicError}
 use Rattle.basic.specs.declared.BasicError.TheVariants.{Short, Bad}
 use Rattle.basic.specs.Levels.{is_level}
 use Rattle.basic.specs.Option.{basic_level, basic_flags, basic_valid, BasicMeans}
-use Rattle.basic.specs.Alone.{basic_found, basic_reading, basic_option, writable, number_of, basic_writing, basic_out}
+use Rattle.basic.specs.Alone.{BasicRead, reading_row, basic_found, basic_reading, basic_option, writable, number_of, writing_row, basic_writing, basic_out}
 use Rattle.basic.specs.OptionTheorems.{ReadsBasic, OneMeaning, ShortestBasic, WritesBasic}
 use Rattle.basic.proofs.Levels.{level_octet}
 use Rattle.basic.proofs.Form.{Form, bare, one, two, form, bare_valid, one_valid, two_valid}
@@ -53,12 +53,27 @@ reading_means o r h e =
     let q : r ≡ record { level = basic_level o; flags = basic_flags o } = cc in
     rw q (means_own o h g)
 
+row_valid : (o : List ℕ) → (reading_row (basic_reading o)).number ≡ 0 → basic_valid o ≡ true
+row_valid o e = go (basic_valid o) refl
+  where
+    go : (t : Bool) → basic_valid o ≡ t → basic_valid o ≡ true
+    go true p = p
+    go false p = absurd (let z : ◌≡◌ {A = ℕ} 19 0 = ap (λ (r : BasicRead). (reading_row r).number) (sym (reading_none o p)) ∙ e in omega arith)
+
+row_means : (o : List ℕ) → Octets o → (reading_row (basic_reading o)).number ≡ 0 → BasicMeans o (reading_row (basic_reading o)).level (reading_row (basic_reading o)).flags
+row_means o h e =
+    let g = row_valid o e in
+    rw (reading_found o g) (means_own o h g)
+
 pub reads_basic_lem : ReadsBasic
 reads_basic_lem =
     record {
       exactly = λ o. (reading_valid o, λ e. ap is_some (reading_found o e));
+      numbered = λ o. (row_valid o, λ e. ap (λ (r : BasicRead). (reading_row r).number) (reading_found o e));
       means = reading_means;
+      row_means = row_means;
       back = reading_back;
+      row_back = λ o v f m. ap reading_row (reading_back o v f m);
     }
 
 -- Two options.
@@ -184,6 +199,25 @@ short_one v f n q = go (ways v f n)
     go (refusal e h p) = let w : ◌≡◌ {A = Result ℕ BasicError} (Err e) (Err Short) = sym p ∙ q in let k : e ≡ Short = cc in h k
     go (option h p) = absurd (let w : ◌≡◌ {A = Result ℕ BasicError} (Ok (length (basic_option v f))) (Err Short) = sym p ∙ q in let z : ◌≡◌ {A = ℕ} 0 1 = cc in omega arith)
 
+row_short : (v f n : ℕ) → (writing_row (basic_writing v f n)).number ≡ 1 → n < 5
+row_short v f n q = go (ways v f n)
+  where
+    number : {r : Result ℕ BasicError} → basic_writing v f n ≡ r → (writing_row r).number ≡ 1
+    number p = ap (λ (r : Result ℕ BasicError). (writing_row r).number) (sym p) ∙ q
+
+    go : Ways v f n → n < 5
+    go (refusal Short h p) = h refl
+    go (refusal Bad h p) = absurd (let z : ◌≡◌ {A = ℕ} 19 1 = number p in omega arith)
+    go (option h p) = absurd (let z : ◌≡◌ {A = ℕ} 0 1 = number p in omega arith)
+
+row_refused : (v f : ℕ) (out : List ℕ) → ((writing_row (basic_writing v f (length out))).number ≡ 0 → ⊥)
+    → ((writing_row (basic_writing v f (length out))).count ≡ 0) × (basic_out v f out ≡ out)
+row_refused v f out z = go (ways v f (length out))
+  where
+    go : Ways v f (length out) → ((writing_row (basic_writing v f (length out))).count ≡ 0) × (basic_out v f out ≡ out)
+    go (refusal e h p) = (rw p refl, sym (refused_by v f out e p).1)
+    go (option h p) = absurd (z (rw p refl))
+
 module _ (v f : ℕ) (out : List ℕ) (w : writable v f ≡ true) (long : 5 ≤ length out) where
   out_is : (basic_option v f ++ drop (length (basic_option v f)) out) ≡ basic_out v f out
   out_is = (done_by v f out (writes_done v f (length out) long w)).1
@@ -219,8 +253,12 @@ writes_basic =
       exactly = cannot;
       shortest = one_shortest;
       back = λ v f w. reading_back (basic_option v f) v f (written v f w);
+      row_back = λ v f w. ap reading_row (reading_back (basic_option v f) v f (written v f w));
       done = all_done;
+      done_row = λ v f out w h. rw (writes_done v f (length out) h w) (refl, refl);
       short = λ v f n. (short_one v f n, writes_short v f n);
+      numbered = λ v f n. (row_short v f n, λ h. ap (λ (r : Result ℕ BasicError). (writing_row r).number) (writes_short v f n h));
       refused = λ v f out e w. sym (refused_by v f out e w).1;
+      refused_row = row_refused;
       sized = same_size;
     }

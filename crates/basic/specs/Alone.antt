@@ -18,6 +18,17 @@ basic_found v f = Some (record { level = v; flags = f })
 unfoldable pub basic_reading : List ℕ → BasicRead
 basic_reading o = cond (basic_valid o) (basic_found (basic_level o) (basic_flags o)) None
 
+-- a row of what is read: number 0, the level's octet and the flag field; else 19 and zeros
+pub record Reading : Type 0 where
+  pub number : ℕ
+  pub level : ℕ
+  pub flags : ℕ
+
+-- the row of what is read
+abbrev pub reading_row : BasicRead → Reading
+reading_row (Some r) = record { number = 0; level = r.level; flags = r.flags }
+reading_row None = record { number = 19; level = 0; flags = 0 }
+
 -- the flag octets that are written: final octets without flags are left out
 unfoldable pub flag_octets_for : ℕ → List ℕ
 flag_octets_for f =
@@ -37,6 +48,16 @@ writable v f = is_level v && leb f 16383
 abbrev pub number_of : BasicError → ℕ
 number_of Short = 1
 number_of Bad = 19
+
+-- a row of what writing answers: number 0 and the option's length; or the number of a refusal and 0
+pub record Writing : Type 0 where
+  pub number : ℕ
+  pub count : ℕ
+
+-- the row of what writing answers
+abbrev pub writing_row : Result ℕ BasicError → Writing
+writing_row (Ok n) = record { number = 0; count = n }
+writing_row (Err e) = record { number = number_of e; count = 0 }
 
 -- 1 for an output under 5 octets, then 19; else the option's length
 unfoldable pub basic_writing : ℕ → ℕ → ℕ → Result ℕ BasicError

@@ -7,7 +7,8 @@ use Rattle.basic.specs.declared.Way.{Way}
 use Rattle.basic.specs.declared.Basic.{Basic}
 use Rattle.basic.specs.Levels.{is_level, rank_of, at_most}
 use Rattle.basic.specs.Settings.{way_sound, basic_sound}
-use Rattle.basic.specs.Alone.{basic_found, basic_reading, basic_option, number_of, basic_writing, basic_out}
+use Rattle.basic.specs.Alone.{Reading, reading_row, basic_found, basic_reading, basic_option, number_of, Writing, writing_row, basic_writing, basic_out}
+use Rattle.basic.specs.OptionTheorems.{read_row}
 
 -- octets, and what reading them alone answers
 pub record Example : Type 0 where
@@ -46,6 +47,30 @@ abbrev pub Read : List Example → Type 0
 Read [] = Unit {0}
 Read (e ∷ es) = (basic_reading e.octets ≡ e.reading) × Read es
 
+-- 19 and zeros
+abbrev pub nineteen : Reading
+nineteen = record { number = 19; level = 0; flags = 0 }
+
+-- the rows of the examples
+abbrev pub Rows : Type 0
+Rows =
+    (reading_row invalid ≡ nineteen)
+    × (map (λ e. reading_row (basic_reading e.octets)) examples
+    ≡ read_row 171 0
+    ∷ read_row 90 8192
+    ∷ read_row 61 8193
+    ∷ read_row 150 16383
+    ∷ read_row 171 0
+    ∷ read_row 171 0
+    ∷ nineteen
+    ∷ nineteen
+    ∷ nineteen
+    ∷ nineteen
+    ∷ nineteen
+    ∷ nineteen
+    ∷ nineteen
+    ∷ [])
+
 -- what is written for a level and flags
 abbrev pub Written : Type 0
 Written =
@@ -55,6 +80,9 @@ Written =
     × (basic_option 61 1 ≡ 130 ∷ 5 ∷ 61 ∷ 1 ∷ 2 ∷ [])
 
 -- writing alone: 1 for an output under 5 octets, also of what cannot be written; 19 for a level that is none and for flags past the fourteenth
+abbrev pub answered : ℕ → ℕ → Writing
+answered n c = record { number = n; count = c }
+
 abbrev pub WrittenAlone : Type 0
 WrittenAlone =
     (basic_writing 171 0 4 ≡ Err Short)
@@ -63,6 +91,12 @@ WrittenAlone =
     × (basic_writing 171 16384 5 ≡ Err Bad)
     × (basic_writing 171 16383 5 ≡ Ok 5)
     × (basic_writing 171 0 5 ≡ Ok 3)
+    × (writing_row (basic_writing 171 0 4) ≡ answered 1 0)
+    × (writing_row (basic_writing 102 16384 4) ≡ answered 1 0)
+    × (writing_row (basic_writing 102 0 5) ≡ answered 19 0)
+    × (writing_row (basic_writing 171 16384 5) ≡ answered 19 0)
+    × (writing_row (basic_writing 171 16383 5) ≡ answered 0 5)
+    × (writing_row (basic_writing 171 0 5) ≡ answered 0 3)
     × (number_of Short ≡ 1)
     × (number_of Bad ≡ 19)
     × (basic_out 90 8192 (9 ∷ 9 ∷ 9 ∷ 9 ∷ 9 ∷ 9 ∷ []) ≡ 130 ∷ 4 ∷ 90 ∷ 128 ∷ 9 ∷ 9 ∷ [])

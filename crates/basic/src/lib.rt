@@ -6,7 +6,7 @@ ghost use Rattle.std.specs.Prelude.{◌≡◌, length, get_or, take, drop, ◌�
 ghost use Rattle.std.specs.List.{find};
 ghost use Rattle.basic.specs.Levels.{levels, rank_of, at_most};
 ghost use Rattle.basic.specs.Option.{flag_field};
-ghost use Rattle.basic.specs.Alone.{number_of, basic_reading, basic_writing, basic_out};
+ghost use Rattle.basic.specs.Alone.{reading_row, number_of, writing_row, basic_reading, basic_writing, basic_out};
 ghost use Rattle.basic.specs.Stages.{framed_at, ended_at};
 ghost use Rattle.basic.specs.Settings.{unused, no_way, basic_off, is_off, way_sound, way_zero, basic_sound, among, passes_way};
 
@@ -144,6 +144,16 @@ pub fn read_basic(octets: &[u8]) -> Option<BasicReading>
     })
 }
 
+// What reading answers as a row: number 0, the level's octet and the flag field; else 19 and zeros.
+pub fn reading_row(read: Option<BasicReading>) -> (u8, u8, u16)
+    ensures { (result.0 ≡ (reading_row read).number) × (result.1 ≡ (reading_row read).level) × (result.2 ≡ (reading_row read).flags) }
+{
+    match read {
+        Some(reading) => (0, reading.level, reading.flags),
+        None => (BAD_BASIC, 0, 0),
+    }
+}
+
 // Octet i, or 0 past the end.
 fn octet_at(octets: &[u8], i: usize) -> u8
     ensures { result ≡ get_or octets.now i 0 }
@@ -207,6 +217,16 @@ pub fn write_basic(level: u8, flags: u16, out: &mut [u8]) -> Result<usize, Basic
     out[FLAGS_AT] = (flags / 128 * 2 + 1) as u8;
     out[FLAGS_AT + 1] = (flags % 128 * 2) as u8;
     Ok(5)
+}
+
+// What writing answers as a row: number 0 and the option's length; or the number of a refusal and 0.
+pub fn writing_row(written: Result<usize, BasicError>) -> (u8, usize)
+    ensures { (result.0 ≡ (writing_row written).number) × (result.1 ≡ (writing_row written).count) }
+{
+    match written {
+        Ok(count) => (0, count),
+        Err(error) => (u8::from(error), 0),
+    }
 }
 
 // The most flag fields that a port permits each way.

@@ -7,7 +7,7 @@ ghost use Rattle.std.specs.Prelude.{◌≤◌};
 use file_read::read_file;
 use file_set::Set;
 use file_write::{WriteError, write_file};
-use option_read_bitmap::{BitmapError, read_bitmap};
+use option_read_bitmap::{read_bitmap, row_of};
 use table::MAX_ROWS;
 use table_choose::MAX_TABLES;
 
@@ -26,14 +26,11 @@ pub fn time_bitmap(octets: &[u8], size: usize, times: usize) -> usize {
     let mut total: usize = 0;
     for _ in 0..times {
         let end = at + size;
-        let (number, count) = match read_bitmap(&octets[at..end], &mut keys) {
-            Ok(count) => (0, count),
-            Err(BitmapError::Short) => (1, 0),
-            Err(BitmapError::Long) => (10, 0),
-        };
+        let found = read_bitmap(&octets[at..end], &mut keys);
         // a key too: one that is never read is not written
-        let first = keys[0];
-        total = mix(mix(mix(total, number), count), first as usize);
+        let first = keys[0] as usize;
+        let (number, count) = row_of(found);
+        total = mix(mix(mix(total, usize::from(number)), count), first);
         at = next_place(at, size, last);
     }
     total

@@ -4,7 +4,6 @@ ghost use Rattle.std.specs.Prelude.{◌≤◌, IfSome};
 use crate::field::{Case, Output};
 use crate::record::{take_facts, take_ports, take_wide_table};
 use decision::Facts;
-use file_port::empty_port;
 use port::Port;
 use table::{MAX_ROWS, Renumbering, empty_table};
 use table_choose::{MAX_TABLES, Tables};
@@ -12,13 +11,6 @@ use table_levels::{LevelPair, Levels, MAX_PAIRS};
 
 // How many numbers the rows of all tables of a case have at most, and one that may be left over.
 pub const NUMBERS: usize = MAX_TABLES * MAX_ROWS * 3 + 1;
-
-// The ports of a case: the first `count` are used.
-#[derive(Clone, Copy)]
-pub struct TakenPorts {
-    pub ports: [Port; 64],
-    pub count: usize,
-}
 
 // The tables of a case, how many rows they lend together, and whether each lends as many as it counts.
 #[derive(Clone, Copy)]
@@ -45,14 +37,13 @@ pub struct TakenDatagram<'a> {
     pub output: Output,
 }
 
-// How many ports there are, at most 64, and the ports.
-pub fn take_box_ports(case: &mut Case) -> Option<TakenPorts>
-    ensures { IfSome result (λ p. p.count ≤ 64) }
+// How many ports there are, at most 64, and the ports, in the first places of a list.
+pub fn take_box_ports(case: &mut Case, ports: &mut [Port; 64]) -> Option<usize>
+    ensures { IfSome result (λ n. n ≤ 64) }
 {
     let count = case.stored(64)?;
-    let mut ports = [empty_port(); 64];
     take_ports(case, &mut ports[..count])?;
-    Some(TakenPorts { ports, count })
+    Some(count)
 }
 
 // How many tables there are, at most 8, and the tables; the rows of all go into one list.

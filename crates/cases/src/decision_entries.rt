@@ -7,6 +7,7 @@ use crate::record::{
 use case_lines::{LONGEST, Words, put_decided};
 use decision::Facts;
 use deliver::deliver;
+use file_port::empty_port;
 use forward::forward;
 use port::{Host, Port};
 use text::Line;
@@ -24,8 +25,10 @@ pub fn ask_forward(case: &mut Case, all: bool, line: &mut Line) -> Option<()> {
 // Entry 15: ports with their later fields.
 pub fn ask_wide_forward(case: &mut Case, line: &mut Line) -> Option<()> {
     let mut rows = [0u16; TABLE_NUMBERS];
-    let arriving = take_wide_port(case)?;
-    let leaving = take_wide_port(case)?;
+    let mut arriving = empty_port();
+    take_wide_port(case, &mut arriving)?;
+    let mut leaving = empty_port();
+    take_wide_port(case, &mut leaving)?;
     let taken = take_wide_table(case, &mut rows, 0)?;
     let facts = take_facts(case)?;
     put_forward(case, arriving, leaving, taken, &rows, facts, line)
@@ -70,7 +73,8 @@ pub fn ask_deliver(case: &mut Case, all: bool, line: &mut Line) -> Option<()> {
 
 // Entry 16: a port with its later fields.
 pub fn ask_wide_deliver(case: &mut Case, line: &mut Line) -> Option<()> {
-    let port = take_wide_port(case)?;
+    let mut port = empty_port();
+    take_wide_port(case, &mut port)?;
     let host = take_host(case)?;
     let facts = take_facts(case)?;
     put_deliver(case, port, host, facts, line)

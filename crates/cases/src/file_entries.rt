@@ -91,18 +91,17 @@ pub fn ask_read_write(case: &mut Case, line: &mut Line) -> Option<()> {
     Some(())
 }
 
-// The ports of a set: the count, and those that are stored; those from there on are all zero.
-fn take_set_ports(case: &mut Case) -> Option<Set> {
+// The ports of a set: the count, and those that are stored; those from there on stay as they are.
+fn take_set_ports(case: &mut Case, set: &mut Set) -> Option<()> {
     let count = case.octet()?;
     let stored = case.stored(STORED_PORTS)?;
-    let mut set = empty_set();
     set.portcount = usize::from(count);
-    take_ports(case, &mut set.ports[..stored])?;
-    Some(set)
+    take_ports(case, &mut set.ports[..stored])
 }
 
 pub fn ask_write(case: &mut Case, line: &mut Line) -> Option<()> {
-    let mut set = take_set_ports(case)?;
+    let mut set = empty_set();
+    take_set_ports(case, &mut set)?;
     let count = case.octet()?;
     let mut rows = [0u16; NUMBERS];
     let stored = take_tables(case, &mut rows)?;

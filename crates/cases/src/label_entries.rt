@@ -5,7 +5,7 @@ use crate::record::{
 };
 use case_lines::Words;
 use label::Label;
-use renumber::renumber;
+use renumber::{renumber, row_of};
 use text::Line;
 
 pub fn ask_contains(case: &mut Case, line: &mut Line) -> Option<()> {
@@ -50,11 +50,8 @@ fn put_renumbered(
 ) -> Option<()> {
     case.end()?;
     let used = first_rows(rows, taken.end);
-    let (number, label) = match renumber(label, taken.table, used, taken.levels) {
-        Ok(far) => (0, far),
-        Err(error) => (u8::from(error), Label::empty(0, 0)),
-    };
+    let (number, far) = row_of(renumber(label, taken.table, used, taken.levels));
     line.decimal(u64::from(number));
-    label.put(line);
+    far.put(line);
     Some(())
 }

@@ -1,8 +1,8 @@
 // Entries 20 and 21: a message built, and read.
 use crate::field::Case;
 use case_lines::{LONGEST, put_part};
-use message::{HEADER_AT, NO_MESSAGE, Parts, read_message};
-use message_build::{BuildError, Built, Report, build_message};
+use message::{HEADER_AT, Parts, read_message};
+use message_build::{Report, build_message};
 use text::Line;
 
 fn take_report(case: &mut Case) -> Option<Report> {
@@ -37,37 +37,23 @@ pub fn ask_build(case: &mut Case, line: &mut Line) -> Option<()> {
         &mut message[..room],
         &mut options[..space],
     );
-    put_built(line, built);
+    let (number, counts) = message_build::row_of(built);
+    line.decimal(u64::from(number));
+    line.next(counts.message as u64);
+    line.next(counts.options as u64);
     put_part(line, &message, room);
     put_part(line, &options, space);
     Some(())
-}
-
-// Both counts are 0 for a refusal and where nothing is sent.
-fn put_built(line: &mut Line, answer: Result<Option<Built>, BuildError>) {
-    match answer {
-        Ok(Some(built)) => put_counts(line, 0, built.message, built.options),
-        Ok(None) => put_counts(line, 0, 0, 0),
-        Err(error) => put_counts(line, u8::from(error), 0, 0),
-    }
-}
-
-fn put_counts(line: &mut Line, number: u8, message: usize, options: usize) {
-    line.decimal(u64::from(number));
-    line.next(message as u64);
-    line.next(options as u64);
 }
 
 // Entry 21. 25; or 0, type, code, pointer, header and data.
 pub fn ask_message(case: &mut Case, line: &mut Line) -> Option<()> {
     let octets = case.long_octets()?;
     case.end()?;
-    match read_message(octets) {
-        None => line.decimal(u64::from(NO_MESSAGE)),
-        Some(parts) => {
-            line.decimal(0);
-            put_parts(line, octets, &parts);
-        }
+    let (number, parts) = message::row_of(read_message(octets));
+    line.decimal(u64::from(number));
+    if number == 0 {
+        put_parts(line, octets, &parts);
     }
     Some(())
 }

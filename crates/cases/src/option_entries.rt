@@ -1,12 +1,12 @@
 // Entries 4, 5, 13, 14, 17 and 24 of the program `cases`: one option spelled and read, option 130 read and written, and a bitmap read by the table of octets.
 use crate::field::Case;
 use crate::record::{take_label, take_spellings};
-use basic::{BAD_BASIC, read_basic, write_basic};
+use basic::{read_basic, write_basic};
 use case_lines::{LONGEST, Words, put_counted, put_first, put_two};
 use label::Label;
 use option::Spellings;
 use option_read::read_option;
-use option_read_bitmap::{BitmapError, read_bitmap};
+use option_read_bitmap::read_bitmap;
 use option_spell::spell_label;
 use text::Line;
 
@@ -29,10 +29,7 @@ fn put_spelled(case: &mut Case, label: Label, permitted: Spellings, line: &mut L
     case.end()?;
     let room = lent.room;
     let mut space = [lent.fill; LONGEST];
-    let (number, count) = match spell_label(label, permitted, &mut space[..room]) {
-        Ok(count) => (0, count),
-        Err(error) => (u8::from(error), 0),
-    };
+    let (number, count) = option_spell::row_of(spell_label(label, permitted, &mut space[..room]));
     put_counted(line, number, count, &space, room);
     Some(())
 }
@@ -40,16 +37,9 @@ fn put_spelled(case: &mut Case, label: Label, permitted: Spellings, line: &mut L
 pub fn ask_read(case: &mut Case, line: &mut Line) -> Option<()> {
     let octets = case.octets()?;
     case.end()?;
-    match read_option(octets) {
-        Ok(label) => {
-            put_two(line, 0, 0);
-            label.put(line);
-        }
-        Err(fault) => {
-            put_two(line, u64::from(fault.number), fault.at as u64);
-            Label::empty(0, 0).put(line);
-        }
-    }
+    let (number, pointer, label) = option_read::reading_row(read_option(octets));
+    put_two(line, u64::from(number), pointer as u64);
+    label.put(line);
     Some(())
 }
 
@@ -57,16 +47,10 @@ pub fn ask_read(case: &mut Case, line: &mut Line) -> Option<()> {
 pub fn ask_read_basic(case: &mut Case, line: &mut Line) -> Option<()> {
     let octets = case.octets()?;
     case.end()?;
-    match read_basic(octets) {
-        Some(r) => put_marks(line, 0, r.level, r.flags),
-        None => put_marks(line, BAD_BASIC, 0, 0),
-    }
-    Some(())
-}
-
-fn put_marks(line: &mut Line, number: u8, level: u8, flags: u16) {
+    let (number, level, flags) = basic::reading_row(read_basic(octets));
     put_two(line, u64::from(number), u64::from(level));
     line.next(u64::from(flags));
+    Some(())
 }
 
 // Entry 14: option 130 written.
@@ -77,10 +61,8 @@ pub fn ask_write_basic(case: &mut Case, line: &mut Line) -> Option<()> {
     case.end()?;
     let room = lent.room;
     let mut space = [lent.fill; LONGEST];
-    match write_basic(level, flags, &mut space[..room]) {
-        Ok(count) => put_counted(line, 0, count, &space, room),
-        Err(error) => put_counted(line, u8::from(error), 0, &space, room),
-    }
+    let (number, count) = basic::writing_row(write_basic(level, flags, &mut space[..room]));
+    put_counted(line, number, count, &space, room);
     Some(())
 }
 
@@ -89,12 +71,8 @@ pub fn ask_bitmap(case: &mut Case, line: &mut Line) -> Option<()> {
     let octets = case.octets()?;
     case.end()?;
     let mut keys = [0u32; Label::MAX_RUNS];
-    let (number, count) = match read_bitmap(octets, &mut keys) {
-        Ok(count) => (0, count),
-        Err(BitmapError::Short) => (1, 0),
-        Err(BitmapError::Long) => (10, 0),
-    };
-    put_two(line, number, count as u64);
+    let (number, count) = option_read_bitmap::row_of(read_bitmap(octets, &mut keys));
+    put_two(line, u64::from(number), count as u64);
     put_first(line, &keys, count);
     Some(())
 }

@@ -70,9 +70,9 @@ pub fn take_port(case: &mut Case) -> Option<Port> {
     Some(Port::plain(domain, lowest, highest, required, assigned))
 }
 
-// A port and the groups of its later fields: which there are, and those in their order. One that is not there has the values of document 01.
-pub fn take_wide_port(case: &mut Case) -> Option<Port> {
-    let mut port = take_port(case)?;
+// A port and the groups of its later fields, into its place: which there are, and those in their order. One that is not there has the values of document 01.
+pub fn take_wide_port(case: &mut Case, port: &mut Port) -> Option<()> {
+    *port = take_port(case)?;
     let groups = case.stored(ALL_GROUPS)?;
     if has_part(groups, BASIC_GROUP) {
         port.basic = take_basic(case)?;
@@ -87,13 +87,13 @@ pub fn take_wide_port(case: &mut Case) -> Option<Port> {
     if has_part(groups, STRICT_GROUP) {
         port.strict = case.flag()?;
     }
-    Some(port)
+    Some(())
 }
 
 // A port into each place of a list.
 pub fn take_ports(case: &mut Case, ports: &mut [Port]) -> Option<()> {
     for port in ports.iter_mut() {
-        *port = take_wide_port(case)?;
+        take_wide_port(case, port)?;
     }
     Some(())
 }

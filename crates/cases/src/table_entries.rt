@@ -2,8 +2,8 @@
 use crate::field::Case;
 use crate::record::{TABLE_NUMBERS, first_rows, take_wide_table};
 use case_lines::{put_first, put_rows, put_two};
-use renumber_reverse::{ReverseError, reverse, reverse_levels};
-use table::{MAX_ROWS, Table, empty_table};
+use renumber_reverse::{reverse, reverse_levels, row_of};
+use table::{MAX_ROWS, Table};
 use table_levels::Levels;
 use text::Line;
 
@@ -21,21 +21,13 @@ pub fn ask_reverse(case: &mut Case, line: &mut Line) -> Option<()> {
         &mut back[..lent],
     );
     let turned = reverse_levels(taken.levels);
-    put_reverse(line, reversed, &turned, &back);
+    let (number, table) = row_of(reversed);
+    put_reverse(line, number, table, &turned, &back);
     Some(())
 }
 
 // Number, from, to, pair count, each pair, row count, each row.
-fn put_reverse(
-    line: &mut Line,
-    reversed: Result<Table, ReverseError>,
-    levels: &Levels,
-    rows: &[u16],
-) {
-    let (number, table) = match reversed {
-        Ok(table) => (0, table),
-        Err(error) => (u8::from(error), empty_table().table),
-    };
+fn put_reverse(line: &mut Line, number: u8, table: Table, levels: &Levels, rows: &[u16]) {
     put_two(line, u64::from(number), u64::from(table.from));
     line.next(u64::from(table.to));
     line.next(table.pairs as u64);

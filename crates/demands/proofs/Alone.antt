@@ -25,7 +25,7 @@ use Rattle.table_levels.specs.Levels.{Partner, partner_of, known}
 use Rattle.table.specs.Numbers.{numbered}
 use Rattle.renumber.specs.declared.RenumberError.{RenumberError}
 use Rattle.renumber.specs.declared.RenumberError.TheVariants.{Unsound, NoNumber, TooMany}
-use Rattle.renumber.specs.Renumber.{Renumbered, image_runs, number_of, when_numbered, renumbered_of}
+use Rattle.renumber.specs.Renumber.{Renumbered, image_runs, number_of, not_renumbered, row_of, when_numbered, renumbered_of}
 use Rattle.demands.specs.First.{NoneOf}
 use Rattle.demands.specs.Alone.{read_checks, spell_checks, renumber_checks, FirstCheck, AskedAlone}
 use Rattle.demands.proofs.Renumbering.{renumber_alone}
@@ -78,16 +78,16 @@ spells p l out c f =
 
 -- Renumbering.
 abbrev Refuses : Renumbered → ℕ → Type 0
-Refuses r n = (e : RenumberError) × (r ≡ Err e) × (number_of e ≡ n)
+Refuses r n = (row_of r ≡ not_renumbered n) × ((e : RenumberError) × (r ≡ Err e) × (number_of e ≡ n))
 
 renumbered_by_lem : (s d : Bool) (q : Partner) (b k : Bool) (to : ℕ) (img : List Run) (n : ℕ) → (n ≡ 0 → ⊥)
     → (checked_reading (check (not s) 2 0 ∷ check (not (d && (known q && b))) 16 0 ∷ check (not k) 18 0 ∷ []) zero_label).number ≡ n
     → Refuses (cond s (cond d (when_numbered NoNumber q b (λ v. ok_or (cond k (Some (label_of to v img)) None) TooMany)) (Err NoNumber)) (Err Unsound)) n
-renumbered_by_lem false d q b k to img n z e = (Unsound, refl, e)
-renumbered_by_lem true false q b k to img n z e = (NoNumber, refl, e)
-renumbered_by_lem true true None b k to img n z e = (NoNumber, refl, e)
-renumbered_by_lem true true (Some v) false k to img n z e = (NoNumber, refl, e)
-renumbered_by_lem true true (Some v) true false to img n z e = (TooMany, refl, e)
+renumbered_by_lem false d q b k to img n z e = (ap not_renumbered e, (Unsound, refl, e))
+renumbered_by_lem true false q b k to img n z e = (ap not_renumbered e, (NoNumber, refl, e))
+renumbered_by_lem true true None b k to img n z e = (ap not_renumbered e, (NoNumber, refl, e))
+renumbered_by_lem true true (Some v) false k to img n z e = (ap not_renumbered e, (NoNumber, refl, e))
+renumbered_by_lem true true (Some v) true false to img n z e = (ap not_renumbered e, (TooMany, refl, e))
 renumbered_by_lem true true (Some v) true true to img n z e = absurd (z (sym e))
 
 renumber : (l : Label) (t : Lent) (ls : List (List ℕ)) (c : Check) → FirstCheck (renumber_checks l t ls) c → Refuses (renumbered_of l t ls) c.number

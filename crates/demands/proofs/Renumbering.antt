@@ -7,7 +7,7 @@ use native.Mathlib.Omega.{arith}
 use lib.Dec.{leb, eqb}
 use lib.ListN.{length, take}
 use borrow.Author.Tests.{eqb-true, eqb-false}
-use Rattle.std.specs.Prelude.{None, Some, Ok, Err}
+use Rattle.std.specs.Prelude.{None, Some, Err}
 use Rattle.label.specs.declared.Label.{Label}
 use Rattle.label.specs.Runs.{covers}
 use Rattle.label.specs.Label.{used, label_of, well_formed, member}
@@ -18,7 +18,8 @@ use Rattle.table.specs.Table.{Lent, used_rows, table_sound}
 use Rattle.table_levels.specs.Levels.{Partner, partner_of}
 use Rattle.table.specs.Numbers.{has_number, numbered}
 use Rattle.renumber.specs.declared.RenumberError.TheVariants.{NoNumber, TooMany}
-use Rattle.renumber.specs.Renumber.{Renumbered, renumbered_as, image_runs, number_of, renumbered_of}
+use Rattle.renumber.specs.Renumber.{Renumbered, renumbered_as, image_runs, row_of, renumbered_of}
+use Rattle.renumber.specs.Theorems.{Far}
 use Rattle.renumber.proofs.Theorems.{renumbering}
 use Rattle.demands.specs.Alone.{Numbered, RenumberAlone}
 
@@ -62,33 +63,42 @@ module _ (l : Label) (t : Lent) (ls : List (List ℕ)) (s : table_sound t ls ≡
       go true pd (Some v) pq true pb false pk = large (all v pd pq pb) (rw (s, w, pd, pq, pb, pk))
       go true pd (Some v) pq true pb true pk = given (all v pd pq pb) (label_of t.to v (image_runs l t)) (rw (s, w, pd, pq, pb, pk))
 
-  -- an answer is one of them
-  abbrev says : Renumbered → ℕ
-  says (Ok m) = 0
-  says (Err e) = number_of e
+  -- the number of the answer
+  abbrev Number : ℕ → Type 0
+  Number n = (row_of (renumbered_of l t ls)).number ≡ n
 
-  said : {r q : Renumbered} → r ≡ q → says r ≡ says q
-  said e = ap says e
+  said : (r : Renumbered) → renumbered_of l t ls ≡ r → Number (row_of r).number
+  said r e = ap (λ (x : Renumbered). (row_of x).number) e
 
   pub renumber_alone : RenumberAlone l t ls
   renumber_alone = by way
     where
+      apart : (n m : ℕ) → (n ≡ m → ⊥) → Number n → Number m → ⊥
+      apart n m d e f = d (sym e ∙ f)
+
       by : Way → RenumberAlone l t ls
       by (missing n e) =
-          record { sixteen = (λ h. n, λ h. e); eighteen = (λ h. (let y = said (sym e ∙ h) in absurd (omega arith)), λ h. absurd (n h.0)) }
-      by (large n e) =
+          let k : Number 16 = said (Err NoNumber) e in
+          let not18 : Number 18 → ⊥ = apart 16 18 (λ h. omega arith) k in
           record {
-            sixteen = (λ h. (let y = said (sym e ∙ h) in absurd (omega arith)), λ h. absurd (h n));
-            eighteen = (
-              λ h. (
-                n,
-                λ m f. (let y = said (sym e ∙ renumbering.found l t ls m s w n.domain f) in omega arith),
-              ),
-              λ h. e,
-            );
+            sixteen = ((λ h. n, λ h. e), (λ h. n, λ h. k));
+            eighteen = ((λ h. absurd (not18 (said (Err TooMany) h)), λ h. absurd (n h.0)), (λ h. absurd (not18 h), λ h. absurd (n h.0)));
+          }
+      by (large n e) =
+          let k : Number 18 = said (Err TooMany) e in
+          let not16 : Number 16 → ⊥ = apart 18 16 (λ h. omega arith) k in
+          let not_far : (m : Label) → Far l t ls m → ⊥ =
+          λ m f. apart 18 0 (λ h. omega arith) k (said (renumbered_as m) (renumbering.found l t ls m s w n.domain f)) in
+          record {
+            sixteen = ((λ h. absurd (not16 (said (Err NoNumber) h)), λ h. absurd (h n)), (λ h. absurd (not16 h), λ h. absurd (h n)));
+            eighteen = ((λ h. (n, not_far), λ h. e), (λ h. (n, not_far), λ h. k));
           }
       by (given n m e) =
+          let k : Number 0 = said (renumbered_as m) e in
+          let not16 : Number 16 → ⊥ = apart 0 16 (λ h. omega arith) k in
+          let not18 : Number 18 → ⊥ = apart 0 18 (λ h. omega arith) k in
+          let f : Far l t ls m = renumbering.right l t ls m e in
           record {
-            sixteen = (λ h. (let y = said (sym e ∙ h) in absurd (omega arith)), λ h. absurd (h n));
-            eighteen = (λ h. (let y = said (sym e ∙ h) in absurd (omega arith)), λ h. absurd (h.1 m (renumbering.right l t ls m e)));
+            sixteen = ((λ h. absurd (not16 (said (Err NoNumber) h)), λ h. absurd (h n)), (λ h. absurd (not16 h), λ h. absurd (h n)));
+            eighteen = ((λ h. absurd (not18 (said (Err TooMany) h)), λ h. absurd (h.1 m f)), (λ h. absurd (not18 h), λ h. absurd (h.1 m f)));
           }

@@ -15,7 +15,7 @@ use Rattle.table_levels.specs.Levels.{partner_of, known}
 use Rattle.table.specs.Numbers.{has_number, numbered}
 use Rattle.renumber.specs.declared.RenumberError.{RenumberError}
 use Rattle.renumber.specs.declared.RenumberError.TheVariants.{NoNumber, TooMany}
-use Rattle.renumber.specs.Renumber.{image_runs, number_of, renumbered_of}
+use Rattle.renumber.specs.Renumber.{image_runs, number_of, row_of, renumbered_of}
 use Rattle.renumber.specs.Theorems.{Far}
 
 -- "One option read alone must begin with 134 and fill its buffer, else 3; then 7 to 13, .. 8 for domain 0 only"
@@ -46,8 +46,9 @@ pub record Numbered (l : Label) (t : Lent) (ls : List (List ℕ)) : Type 0 where
 
 -- of a sound table and a well-formed label: 16 exactly when not every part has a number, 18 exactly when every part has one and no label holds them
 pub record RenumberAlone (l : Label) (t : Lent) (ls : List (List ℕ)) : Type 0 where
-  pub sixteen : (renumbered_of l t ls ≡ Err NoNumber) ↔ (Numbered l t ls → ⊥)
-  pub eighteen : (renumbered_of l t ls ≡ Err TooMany) ↔ (Numbered l t ls × ((m : Label) → Far l t ls m → ⊥))
+  pub sixteen : ((renumbered_of l t ls ≡ Err NoNumber) ↔ (Numbered l t ls → ⊥)) × (((row_of (renumbered_of l t ls)).number ≡ 16) ↔ (Numbered l t ls → ⊥))
+  pub eighteen : ((renumbered_of l t ls ≡ Err TooMany) ↔ (Numbered l t ls × ((m : Label) → Far l t ls m → ⊥)))
+      × (((row_of (renumbered_of l t ls)).number ≡ 18) ↔ (Numbered l t ls × ((m : Label) → Far l t ls m → ⊥)))
 
 pub record AskedAlone : Type 0 where
   pub read : (o : List ℕ) (c : Check) → FirstCheck (read_checks o) c
@@ -55,7 +56,8 @@ pub record AskedAlone : Type 0 where
   pub spell : (p : Spellings) (l : Label) (out : List ℕ) (c : Check) → FirstCheck (spell_checks p l (length out)) c
       → (spelling_answer p l (length out) ≡ record { number = c.number; count = 0 }) × (spelling_out p l out ≡ out)
   pub renumber : (l : Label) (t : Lent) (ls : List (List ℕ)) (c : Check) → FirstCheck (renumber_checks l t ls) c
-      → (e : RenumberError) × (renumbered_of l t ls ≡ Err e) × (number_of e ≡ c.number)
+      → (row_of (renumbered_of l t ls) ≡ record { number = c.number; label = zero_label })
+      × ((e : RenumberError) × (renumbered_of l t ls ≡ Err e) × (number_of e ≡ c.number))
   pub numbers : (l : Label) (t : Lent) (ls : List (List ℕ)) → table_sound t ls ≡ true → well_formed l ≡ true → RenumberAlone l t ls
   pub contains : (l : Label) (c : ℕ) → well_formed l ≡ false → member l c ≡ false
   pub within : (a b : Label) → (well_formed a && well_formed b) ≡ false → leq a b ≡ false

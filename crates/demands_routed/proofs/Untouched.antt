@@ -7,17 +7,19 @@ use Prim.Native.Nat.{ℕ, ◌/◌, ◌≤◌, ◌<◌}
 use lib.Dec.{leb, ltb, eqb}
 use lib.ListN.{length, take, drop, take-append-drop}
 use borrow.Author.Tests.{eq-eqb, ne_eqb, lt-ltb, le-leb}
-use Rattle.std.specs.Prelude.{Err}
+use Rattle.std.specs.Prelude.{Result, Ok, Err}
 use Rattle.std.specs.Result.{is_err}
 use Rattle.label.specs.declared.Label.{Label}
 use Rattle.option.specs.declared.Spellings.{Spellings}
-use Rattle.option_read_bitmap.specs.Bitmap.{number_of, bitmap_found, bitmap_keys}
+use Rattle.option_read_bitmap.specs.declared.BitmapError.{BitmapError}
+use Rattle.option_read_bitmap.specs.Bitmap.{number_of, row_of as bitmap_row_of, bitmap_found, bitmap_keys}
 use Rattle.option_read.specs.Reading.{reading_for}
 use Rattle.option_read.specs.Keys.{key_reading_for, keys_after}
 use Rattle.option_spell.specs.Spelling.{spelling_number, spelling_answer, spelling_out}
 use Rattle.basic.proofs.OptionTheorems.{writes_basic}
 use Rattle.table.specs.Table.{Lent, table_sound}
 use Rattle.renumber_reverse.specs.declared.ReverseError.{ReverseError}
+use Rattle.renumber_reverse.specs.Reverse as turned
 use Rattle.renumber_reverse.specs.Reverse.{reversed_of, with_rows}
 use Rattle.decision.specs.declared.Refusal.{Refusal}
 use Rattle.decision.specs.Decision.{silenced, decided}
@@ -45,6 +47,10 @@ bitmap_untouched b keys = go (ltb (length keys) 120) refl (ltb 30 (length b)) re
     go false p true q h = rw (p, q)
     go false p false q h = absurd (h (rw (p, q)))
 
+bitmap_number_of : (r : Result ℕ BitmapError) → (bitmap_row_of r).number ≡ number_of r
+bitmap_number_of (Ok n) = refl
+bitmap_number_of (Err e) = refl
+
 keys_untouched : (d : ℕ) (o keys : List ℕ) → length keys < 120 → keys_after d o keys ≡ keys
 unfolding keys_after
 keys_untouched d o keys h = rw (lt-ltb (length keys) 120 h)
@@ -71,6 +77,15 @@ reverse_untouched t ls room e = go (table_sound t ls) refl (leb t.count (length 
         let z : is_err (reversed_of t ls (length room / 3)) ≡ false = rw (p, q) in
         absurd (true≢false (sym (ap is_err h) ∙ z))
 
+reverse_row_untouched : (t : Lent) (ls : List (List ℕ)) (room : List ℕ) → ((turned.row_of (reversed_of t ls (length room / 3))).number ≡ 0 → ⊥) → with_rows t ls room ≡ room
+unfolding reversed_of with_rows
+reverse_row_untouched t ls room = go (table_sound t ls) refl (leb t.count (length room / 3)) refl
+  where
+    go : (s : Bool) → table_sound t ls ≡ s → (b : Bool) → leb t.count (length room / 3) ≡ b → ((turned.row_of (reversed_of t ls (length room / 3))).number ≡ 0 → ⊥) → with_rows t ls room ≡ room
+    go false p b q h = rw p
+    go true p false q h = rw (p, q)
+    go true p true q h = absurd (h (rw (p, q)))
+
 -- a decision whose number is not 0 has a refusal, which writes nothing
 written_by : (quiet : Bool) (r : Option Refusal) (l : Label) (n : ℕ) (s kept out : List ℕ) → ((decided quiet r l n).number ≡ 0 → ⊥) → written r s kept out ≡ out
 written_by quiet none l n s kept out h = absurd (h refl)
@@ -95,10 +110,13 @@ untouched =
     record {
       spell = spell_untouched;
       basic = writes_basic.refused;
+      basic_row = λ v f out h. (writes_basic.refused_row v f out h).1;
       bitmap = bitmap_untouched;
+      bitmap_row = λ b keys h. bitmap_untouched b keys (λ z. h (bitmap_number_of (bitmap_found b (length keys)) ∙ z));
       keys = keys_untouched;
       early = early_untouched;
       reverse = reverse_untouched;
+      reverse_row = reverse_row_untouched;
       forward = forward_untouched;
       decide = decide_untouched;
       batch = batch_untouched;

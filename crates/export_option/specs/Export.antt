@@ -1,8 +1,8 @@
 -- Labels and permitted spellings as Rust and C hand them over, in numbers, and what is answered of option 130 as numbers.
-use Rattle.std.specs.Prelude.{ℕ, Bool, List, Some, None, Result, Ok, Err}
+use Rattle.std.specs.Prelude.{ℕ, Bool, List, Result}
 use Rattle.basic.specs.declared.BasicReading.{BasicReading}
 use Rattle.basic.specs.declared.BasicError.{BasicError}
-use Rattle.basic.specs.Alone.{BasicRead, number_of}
+use Rattle.basic.specs.Alone.{BasicRead, reading_row, writing_row}
 use Rattle.label.specs.declared.Label.{Label}
 use Rattle.label_keys.specs.Keys.{key_runs, label_from}
 use Rattle.option.specs.declared.Spellings.{Spellings}
@@ -14,20 +14,16 @@ label_by domain level runs = label_from domain level (key_runs runs)
 abbrev pub spellings_by : Bool → Bool → Bool → Bool → Spellings
 spellings_by shortest ten numbers pairs = record { shortest = shortest; ten = ten; numbers = numbers; pairs = pairs }
 
--- reading option 130: 0, or 19 where it is not valid, and both fields are 0
+-- what reading option 130 answers: the number of its row, and its level and flags
 abbrev pub read_number : BasicRead → ℕ
-read_number (Some x) = 0
-read_number None = 19
+read_number x = (reading_row x).number
 
 abbrev pub reading_in : BasicRead → BasicReading
-reading_in (Some x) = x
-reading_in None = record { level = 0; flags = 0 }
+reading_in x = record { level = (reading_row x).level; flags = (reading_row x).flags }
 
--- writing it: 0, or the number of the refusal, and the count is 0
+-- and writing it: the number of its row, and its count
 abbrev pub write_number : Result ℕ BasicError → ℕ
-write_number (Ok n) = 0
-write_number (Err e) = number_of e
+write_number x = (writing_row x).number
 
 abbrev pub count_in : Result ℕ BasicError → ℕ
-count_in (Ok n) = n
-count_in (Err e) = 0
+count_in x = (writing_row x).count

@@ -3,9 +3,10 @@ use Prim.Native.Nat.{ℕ, zero, suc, ◌+◌, ◌-◌, ◌*◌, ◌≤◌, ◌<�
 use mathlib.Core.Path.{◌≡◌, refl, sym, ap, ◌∙◌}
 use mathlib.Core.List.{List, [], ◌∷◌, ◌++◌, append_assoc}
 use native.Mathlib.Nat.{add_assoc, add-zero, zero-mul, suc-mul}
+use native.Mathlib.Numerals.{add-one}
 use native.Mathlib.Omega.{arith}
-use lib.ListN.{length, get_or, take, drop, replicate, length-drop, length-append, take-append-drop}
-use lib.Seq.{take_all, take-nil, length-take-le, drop-drop, take_at, drop_at, drop-append-le}
+use lib.ListN.{length, get_or, set, take, drop, replicate, length-drop, length-append, take-append-drop}
+use lib.Seq.{take_all, take-nil, take-suc, drop-cons, set_at, append_snoc, length-take-le, drop-drop, take_at, drop_at, drop-append-le}
 use Rattle.std.specs.Simd.{first_chunks}
 use Rattle.lists.specs.Lists.{paint, copied}
 
@@ -20,6 +21,14 @@ drop_take zero (suc at) l = let e : zero - suc at ≡ 0 = omega arith in rw e
 drop_take (suc n) zero l = let e : suc n - zero ≡ suc n = omega arith in rw e
 drop_take (suc n) (suc at) [] = sym (take-nil (suc n - suc at))
 drop_take (suc n) (suc at) (x ∷ l) = let e : suc n - suc at ≡ n - at = omega arith in rw e (drop_take n at l)
+
+-- a turn of a loop that copies
+pub copy_more : {T : Type 0} (s d : List T) (i : ℕ) (x : T) → x ≡ get_or s i x → i < length s → i < length d
+    → set (take i s ++ drop i d) i x ≡ take (i + 1) s ++ drop (i + 1) d
+copy_more s d i x e hs hd =
+    rw (add-one, take-suc s i x, drop-cons d i x, ← e)
+    (set_at (take i s) (get_or d i x) (drop (suc i) d) x i (length-take-le i s (omega arith))
+    ∙ sym (append_snoc (take i s) x (drop (suc i) d)))
 
 -- all of the first list, where the other has room for it
 pub copied_whole : (s d : List ℕ) → length s ≤ length d → copied s d ≡ s ++ drop (length s) d

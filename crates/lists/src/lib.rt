@@ -9,5 +9,7 @@ pub fn copy_list<T: Copy>(src: &[T], dst: &mut [T])
     ensures { dst.new ≡ copied src.now dst.old }
 {
     let n = src.len().min(dst.len());
-    dst[..n].copy_from_slice(&src[..n]);
+    for i in 0..n {
+        dst[i] = src[i];
+    }
 }

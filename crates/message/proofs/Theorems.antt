@@ -152,4 +152,4 @@ messages =
 
 pub worked : WorkedMessages
 unfolding ones_sum checksum_of message_of is_message parts_of
-worked = (refl, refl)
+worked = (refl, refl, (λ kind code pointer header payload. refl, refl))

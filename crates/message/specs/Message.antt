@@ -65,6 +65,24 @@ parts_of o =
     (Some (record { kind = kind_in o; code = code_in o; pointer = pointer_in o; header = length (header_in o); payload = length (payload_in o) }))
     None
 
+-- a row of what reading answers: number 0 and the parts
+pub record MessageRow : Type 0 where
+  pub number : ℕ
+  pub kind : ℕ
+  pub code : ℕ
+  pub pointer : ℕ
+  pub header : ℕ
+  pub payload : ℕ
+
+-- any other is 25
+abbrev pub not_read : MessageRow
+not_read = record { number = 25; kind = 0; code = 0; pointer = 0; header = 0; payload = 0 }
+
+-- the row of an answer
+abbrev pub row_of : Option Parts → MessageRow
+row_of (Some p) = record { number = 0; kind = p.kind; code = p.code; pointer = p.pointer; header = p.header; payload = p.payload }
+row_of None = not_read
+
 -- what the writer answers and leaves: the message, and the octets behind it as they were; or, where it does not fit, no octet
 unfoldable pub written_of : List ℕ → ℕ → ℕ
 written_of m room = cond (leb (length m) room) (length m) 0

@@ -3,7 +3,7 @@
 
 ghost use Rattle.std.specs.Prelude.{◌≡◌, true, ◌++◌, ◌+◌, ◌*◌, ◌%◌, ◌≤◌, ◌<◌, eqb, length, take, drop};
 ghost use Rattle.message_checksum.specs.Checksum.{checksum_of};
-ghost use Rattle.message.specs.Message.{message_of, written_of, message_after, parts_of, is_message, reports, whole_header, check_in, blanked, octets_with};
+ghost use Rattle.message.specs.Message.{message_of, written_of, message_after, parts_of, row_of, is_message, reports, whole_header, check_in, blanked, octets_with};
 ghost use Rattle.message.specs.Stages.{whole_quote, three_zeros, check_set};
 
 use lists::copy_list;
@@ -106,6 +106,27 @@ pub fn read_message(octets: &[u8]) -> Option<Parts>
         header,
         payload: octets.len() - HEADER_AT - header,
     })
+}
+
+// An answer as a row: 0 and the parts; or 25, and all else 0.
+pub fn row_of(read: Option<Parts>) -> (u8, Parts)
+    ensures number { result.0 ≡ (row_of read).number }
+    ensures report { (result.1.kind ≡ (row_of read).kind) × (result.1.code ≡ (row_of read).code) × (result.1.pointer ≡ (row_of read).pointer) }
+    ensures quoted { (result.1.header ≡ (row_of read).header) × (result.1.payload ≡ (row_of read).payload) }
+{
+    match read {
+        Some(parts) => (0, parts),
+        None => (
+            NO_MESSAGE,
+            Parts {
+                kind: 0,
+                code: 0,
+                pointer: 0,
+                header: 0,
+                payload: 0,
+            },
+        ),
+    }
 }
 
 // Whether the header is four times its length field long, which is at least 5.

@@ -169,4 +169,4 @@ answers =
 
 pub worked : WorkedAnswers
 unfolding ones_sum checksum_of message_of met_from met_of open_walk good_body valid reply_of reply_area unsound sent outcome
-worked = (refl, refl, (refl, refl))
+worked = (refl, refl, (refl, refl), (refl, refl, refl))

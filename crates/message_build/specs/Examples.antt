@@ -2,8 +2,8 @@
 use Rattle.std.specs.Prelude.{ℕ, ◌≡◌, Bool, true, false, List, [], ◌∷◌, ◌++◌, map, take, drop}
 use Rattle.message_build.specs.declared.Report.{Report}
 use Rattle.message_build.specs.declared.BuildError.TheVariants.{Unsound, Short}
-use Rattle.message_build.specs.Answer.{number_of}
-use Rattle.message_build.specs.Build.{unanswered, Outcome, refused, quiet, goes, outcome}
+use Rattle.message_build.specs.Answer.{number_of, without, row_of}
+use Rattle.message_build.specs.Build.{unanswered, Outcome, refused, quiet, goes, outcome, built_of}
 
 pub record Example : Type 0 where
   pub report : Report
@@ -82,3 +82,4 @@ WorkedAnswers =
     (map (λ (e : Example). outcome e.report e.header data8 e.room e.space) examples ≡ map (λ (e : Example). e.out) examples)
     × (map unanswered (0 ∷ 1 ∷ 2 ∷ 3 ∷ 4 ∷ 5 ∷ 6 ∷ 7 ∷ 8 ∷ 9 ∷ 10 ∷ 11 ∷ 12 ∷ 13 ∷ 14 ∷ 15 ∷ 16 ∷ 17 ∷ 18 ∷ 19 ∷ 20 ∷ 21 ∷ 22 ∷ 23 ∷ 24 ∷ []) ≡ not_answered)
     × ((number_of Unsound ≡ 2) × (number_of Short ≡ 24))
+    × ((row_of (built_of (refused Unsound)) ≡ without 2) × (row_of (built_of quiet) ≡ without 0) × (row_of (built_of (refused Short)) ≡ without 24))

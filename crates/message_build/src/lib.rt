@@ -4,7 +4,7 @@
 ghost use Rattle.std.specs.Prelude.{◌≡◌, true, ◌||◌, ◌++◌, ◌+◌, ◌≤◌, length, drop};
 ghost use Rattle.area_leaving.specs.Kept.{round_up};
 ghost use Rattle.message_reply.specs.Reply.{padded};
-ghost use Rattle.message_build.specs.Answer.{number_of};
+ghost use Rattle.message_build.specs.Answer.{number_of, row_of};
 ghost use Rattle.message_build.specs.Build.{silent, unsound, unanswered, outcome, room_for, message_by, built_of, message_left, options_left};
 
 use lists::copy_list;
@@ -82,6 +82,20 @@ pub fn build_message(
                 &mut options[..],
             )
         }
+    }
+}
+
+// An answer as a row: 0 and both counts, or a refusal's number. Both counts are 0 for a refusal and where nothing is sent.
+pub fn row_of(answer: Result<Option<Built>, BuildError>) -> (u8, Built)
+    ensures { (result.0 ≡ (row_of answer).number) × (result.1.message ≡ (row_of answer).message) × (result.1.options ≡ (row_of answer).options) }
+{
+    let nothing = Built {
+        message: 0,
+        options: 0,
+    };
+    match answer {
+        Ok(built) => (0, built.unwrap_or(nothing)),
+        Err(error) => (u8::from(error), nothing),
     }
 }
 

@@ -18,8 +18,9 @@ use Rattle.option.specs.Index.{set_runs, range_runs, first_true, number_at, bad_
 use Rattle.option.proofs.Bridge.{set_joined, numbers_joined, pairs_joined}
 use Rattle.option_read_bitmap.specs.Bitmap.{bitmap_runs, bitmap_found, bitmap_keys}
 use Rattle.option_read_bitmap.proofs.Theorems.{bitmap_below, bitmap_most, bitmap_found_lem, bitmap_keys_lem}
-use Rattle.std.specs.Prelude.{Result, Ok, Err, IfOk}
-use Rattle.option_read_numbers.specs.Numbers.{whole, fits, at_front, pair_runs, first_bad_pair, Passes, ReadsPairs}
+use Rattle.std.specs.Prelude.{Ok, Err}
+use Rattle.option_read_numbers.specs.declared.BadNumber.{BadNumber}
+use Rattle.option_read_numbers.specs.Numbers.{whole, fits, at_front, pair_runs, first_bad_pair, Pass, bad_number_at, Passes, ReadsPairs}
 use Rattle.option_read_numbers.proofs.Loops.{whole_even, parts_fit}
 use Rattle.option_read.specs.Reading.{bad_place}
 use Rattle.option_read.specs.Keys.{runs_in}
@@ -54,22 +55,18 @@ module _ (b was : List ℕ) (short : length b ≤ 30) (even : length b % 2 ≡ 0
   fitting : fits (length b) (length was) ≡ true
   fitting = parts_fit (length b) (length was) (record { most = short; room = omega arith })
 
-  most : (r : Result ℕ ℕ) → IfOk r (λ n. n ≤ 15) → IfOk r (λ n. n ≤ 120)
-  most (Ok n) h = omega arith
-  most (Err p) h = tt
-
-  passed : (t : ℕ) {keys : List ℕ} {r : Result ℕ ℕ} (runs : List ℕ → List Run) (bad : List ℕ → ℕ)
+  passed : (t : ℕ) {keys : List ℕ} {r : Pass} (runs : List ℕ → List Run) (bad : List ℕ → ℕ)
       → Passes (fits (length b) (length was)) (runs (whole b)) (bad (whole b)) (length (whole b)) was keys r → runs b ≡ runs_in t b → bad b ≡ bad_place t b → PassOver t b was keys r
   passed t {keys} {r} runs bad p e f =
       let q : Passes true (runs b) (bad b) (length b) was keys r = subst (λ (z : List ℕ). Passes true (runs z) (bad z) (length z) was keys r) (whole_even b even) (rw fitting at p) in
       record {
-        answer = q.answer ∙ (λ i. cond (ltb (f i) (length b)) (Err (f i)) (Ok (length (e i))));
-        held = most r q.held;
+        answer = q.answer ∙ (λ i. cond (ltb (f i) (length b)) (bad_number_at (length (e i)) (f i)) (Ok (length (e i))));
+        held = omega (arith, q.held);
         left = q.left ∙ ap (λ (z : List Run). at_front (map run_key z) was) e;
         stands = rw (← e) (q.stands refl);
       }
 
-  pub pass_pairs : {keys : List ℕ} {r : Result ℕ ℕ} → ReadsPairs b was keys r → PassOver 5 b was keys r
+  pub pass_pairs : {keys : List ℕ} {r : Pass} → ReadsPairs b was keys r → PassOver 5 b was keys r
   pass_pairs p = passed 5 pair_runs (λ z. 4 * first_bad_pair z) p refl refl
 
 -- Tag 1: what the table's engine leaves.
@@ -87,19 +84,19 @@ pass_bitmap b was keys n h room e =
 
 -- What a pass tells: where the first bad one begins, or that none is bad.
 module _ {t : ℕ} {b keys keys' : List ℕ} where
-  pub bad_of : (p : ℕ) → PassOver t b keys keys' (Err p) → (p ≡ bad_place t b) × (p < length b)
-  bad_of p q = go (ltb (bad_place t b) (length b)) refl q.answer
+  pub bad_of : (d : BadNumber) → PassOver t b keys keys' (Err d) → (d.at ≡ bad_place t b) × (d.at < length b)
+  bad_of d q = go (ltb (bad_place t b) (length b)) refl q.answer
     where
-      go : (x : Bool) → ltb (bad_place t b) (length b) ≡ x → Err p ≡ cond x (Err (bad_place t b)) (Ok (length (runs_in t b))) → (p ≡ bad_place t b) × (p < length b)
+      go : (x : Bool) → ltb (bad_place t b) (length b) ≡ x → Err d ≡ cond x (bad_number_at (length (runs_in t b)) (bad_place t b)) (Ok (length (runs_in t b))) → (d.at ≡ bad_place t b) × (d.at < length b)
       go true e a =
-          let k : p ≡ bad_place t b = cc in
+          let k : d.at ≡ bad_place t b = cc in
           (k, omega (arith, ltb-true (bad_place t b) (length b) e))
       go false e a = absurd (let z : ◌≡◌ {A = ℕ} 0 1 = cc in omega arith)
 
   pub good_of : (n : ℕ) → PassOver t b keys keys' (Ok n) → (n ≡ length (runs_in t b)) × (length b ≤ bad_place t b)
   good_of n q = go (ltb (bad_place t b) (length b)) refl q.answer
     where
-      go : (x : Bool) → ltb (bad_place t b) (length b) ≡ x → Ok n ≡ cond x (Err (bad_place t b)) (Ok (length (runs_in t b))) → (n ≡ length (runs_in t b)) × (length b ≤ bad_place t b)
+      go : (x : Bool) → ltb (bad_place t b) (length b) ≡ x → Ok n ≡ cond x (bad_number_at (length (runs_in t b)) (bad_place t b)) (Ok (length (runs_in t b))) → (n ≡ length (runs_in t b)) × (length b ≤ bad_place t b)
       go true e a = absurd (let z : ◌≡◌ {A = ℕ} 0 1 = cc in omega arith)
       go false e a =
           let k : n ≡ length (runs_in t b) = cc in

@@ -20,6 +20,7 @@ use Rattle.option_read.specs.Reading.{found, not_read, tag_checks, label_in, rea
 use Rattle.option_read.specs.Theorems.{ReadsAlone, ReadsFor, Reads}
 use Rattle.option_read.specs.Examples.{examples, Holds}
 use Rattle.option_read.proofs.Checks.{parts_framed, stops3, alone, for_port, stops7, stops8, goes_on}
+use Rattle.option_read.proofs.Told.{row_back}
 use Rattle.option_read.proofs.Valid.{zero_passed, passed_valid, valid_passes, read_means, means_read}
 
 -- Rows 7 to 13, whichever domain is foreign.
@@ -80,6 +81,7 @@ reads_alone =
           let p = alone_valid o oct e in
           rw (alone_reads o oct p.0 p.1) (read_means o oct p.0 p.1);
       back = λ o l m. alone_reads o m.octets m.good (owned o l m) ∙ ap found (means_read o l m);
+      row = row_back;
     }
 
 -- Read for a port.

@@ -30,6 +30,11 @@ found l = record { number = 0; pointer = 0; label = l }
 abbrev pub not_read : ℕ → ℕ → Reading
 not_read n p = record { number = n; pointer = p; label = zero_label }
 
+-- the row of an answer
+abbrev pub reading_row : Result Label Fault → Reading
+reading_row (Ok l) = found l
+reading_row (Err f) = not_read f.number f.at
+
 -- a row of the table: when it applies, its number and its pointer
 pub record Check : Type 0 where
   pub applies : Bool

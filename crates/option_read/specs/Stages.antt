@@ -1,8 +1,8 @@
 -- What only private functions answer: one pass over a tag's categories; rows 9 to 13; all rows of an option alone or for a port.
-use Rattle.std.specs.Prelude.{ℕ, ◌≤◌, ◌<◌, ◌≡◌, List, Bool, false, not, cond, length, ltb, eqb, Result, Ok, Err, IfOk}
+use Rattle.std.specs.Prelude.{ℕ, ◌≤◌, ◌<◌, ◌≡◌, List, Bool, false, not, cond, length, ltb, eqb, Result, Ok, Err}
 use Rattle.label_keys.specs.Keys.{key_runs}
 use Rattle.option.specs.Option.{domain_of}
-use Rattle.option_read_numbers.specs.Numbers.{at_front}
+use Rattle.option_read_numbers.specs.Numbers.{Pass, bad_number_at, written, at_front}
 use Rattle.option_read.specs.declared.Fault.{Fault}
 use Rattle.option_read.specs.declared.KeysRead.{KeysRead}
 use Rattle.option_read.specs.Reading.{Reading, fault, bad_place, checked_reading, tag_checks, label_in, reading_of, reading_for}
@@ -39,9 +39,9 @@ pub record ReadsChecked (alone : Bool) (d : ℕ) (o keys keys' : List ℕ) (r : 
   pub short : length keys < 120 → (r ≡ Err (fault 1 0)) × (keys' ≡ keys)
   pub read : 120 ≤ length keys → ReadsRows alone d o keys keys' r
 
--- one pass over a tag's categories: how many keys it wrote, or where the first bad one begins; and that the keys stand for the runs
-pub record PassOver (t : ℕ) (b keys keys' : List ℕ) (r : Result ℕ ℕ) : Type 0 where
-  pub answer : r ≡ cond (ltb (bad_place t b) (length b)) (Err (bad_place t b)) (Ok (length (runs_in t b)))
-  pub held : IfOk r (λ n. n ≤ 120)
+-- one pass over a tag's categories: how many keys it wrote, and where the first bad one begins; and that the keys stand for the runs
+pub record PassOver (t : ℕ) (b keys keys' : List ℕ) (r : Pass) : Type 0 where
+  pub answer : r ≡ cond (ltb (bad_place t b) (length b)) (bad_number_at (length (runs_in t b)) (bad_place t b)) (Ok (length (runs_in t b)))
+  pub held : written r ≤ 120
   pub left : keys' ≡ at_front (keys_in t b) keys
   pub stands : key_runs (keys_in t b) ≡ runs_in t b

@@ -5,13 +5,13 @@
 ghost use Rattle.std.specs.Prelude.{◌≡◌, ◌+◌, ◌%◌, ◌≤◌, ◌<◌, true, not, ◌&&◌, leb, length, Ok, Err};
 ghost use Rattle.option.specs.Option.{domain_of};
 ghost use Rattle.option_read.specs.Stages.{PassOver, ReadsTag, foreign_to, ReadsRows, ReadsChecked};
-ghost use Rattle.option_read.specs.Reading.{known_tag, good_length, framed, fault, told, reading_of};
+ghost use Rattle.option_read.specs.Reading.{known_tag, good_length, framed, fault, told, reading_row, reading_of};
 ghost use Rattle.option_read.specs.Keys.{row_of, Refused, ReadsKeys};
 
 use label::Label;
 use label_keys::to_label;
 use option_read_bitmap::read_bitmap;
-use option_read_numbers::{read_numbers, read_pairs};
+use option_read_numbers::{BadNumber, read_numbers, read_pairs};
 
 // The length octet of a tag: at least its four octets before the categories, at most 30 more; of tag 5 at most seven pairs.
 const SHORTEST_TAG: usize = 4;
@@ -59,8 +59,8 @@ fn bitmap_keys(octets: &[u8], keys: &mut [u32]) -> usize
     read_bitmap(octets, keys).unwrap()
 }
 
-// A tag's categories, checked and written as keys: how many there are, or where the first bad one begins. Tag 1 is last, so that the compiler asks for tag 5 first.
-fn category_keys(tag: u8, octets: &[u8], keys: &mut [u32]) -> Result<usize, usize>
+// A tag's categories, checked and written as keys: how many there are, and where the first bad one begins. Tag 1 is last, so that the compiler asks for tag 5 first.
+fn category_keys(tag: u8, octets: &[u8], keys: &mut [u32]) -> Result<usize, BadNumber>
     requires { (length octets.now ≤ 30) × ((tag ≡ 1 → ⊥) → length octets.now % 2 ≡ 0) × (120 ≤ length keys.old) × (known_tag tag ≡ true) }
     ensures { PassOver tag octets.now keys.old keys.new result }
 {
@@ -142,7 +142,7 @@ fn read_tag(octets: &[u8], keys: &mut [u32]) -> Result<KeysRead, Fault>
     let end = size + option::TAG_TYPE_AT;
     let categories = &octets[option::CATEGORIES_AT..end];
     match category_keys(tag, categories, keys) {
-        Err(place) => refuse(12, option::CATEGORIES_AT + place),
+        Err(bad) => refuse(12, option::CATEGORIES_AT + bad.at),
         Ok(count) => {
             if end < n {
                 return refuse(13, end);
@@ -223,6 +223,16 @@ pub fn read_option(octets: &[u8]) -> Result<Label, Fault>
     let mut keys = [0u32; Label::MAX_RUNS];
     let read = read_checked(octets, ALONE, NO_DOMAIN, &mut keys)?;
     Ok(to_label(&keys, read.count, domain_in(octets), read.level))
+}
+
+// What reading one option alone answers as a row: number 0, pointer 0 and the label; or a refusal's number, its place in the option, and the all-zero label.
+pub fn reading_row(read: Result<Label, Fault>) -> (u8, usize, Label)
+    ensures { (result.0 ≡ (reading_row read).number) × (result.1 ≡ (reading_row read).pointer) × (result.2 ≡ (reading_row read).label) }
+{
+    match read {
+        Ok(label) => (0, 0, label),
+        Err(fault) => (fault.number, fault.at, Label::empty(0, 0)),
+    }
 }
 
 // Reads the option 134 of an area for a port of the domain into keys: its level and how many there are, or the first refusal of 7 to 13 with its place

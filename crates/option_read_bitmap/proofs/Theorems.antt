@@ -1,6 +1,6 @@
 -- The theorem: both engines agree.
 use Prim.Native.Nat.{ℕ, ◌*◌, ◌≤◌, ◌<◌}
-use mathlib.Core.Path.{◌≡◌, ap, sym, ◌∙◌}
+use mathlib.Core.Path.{◌≡◌, refl, ap, sym, ◌∙◌}
 use mathlib.Core.List.{List, map}
 use lib.ListN.{length, take, drop, length-map}
 use lib.Seq.{take_at}
@@ -16,10 +16,10 @@ use Rattle.option.specs.Reading.{bit_pieces, pieces}
 use Rattle.option.proofs.Pieces.{joined_good, bits_falling}
 use Rattle.option.proofs.Bridge.{set_joined}
 use Rattle.label_keys.specs.Keys.{key_runs, run_key}
-use Rattle.option_read_bitmap.specs.Bitmap.{bitmap_runs, bitmap_number, bitmap_found, in_place, bitmap_keys}
-use Rattle.std.specs.Prelude.{Result, Ok, Err, IsOkAnd}
+use Rattle.option_read_bitmap.specs.Bitmap.{row_of, bitmap_runs, bitmap_number, bitmap_found, in_place, bitmap_keys}
+use Rattle.std.specs.Prelude.{Ok, Err}
 use Rattle.option_read_bitmap.specs.declared.BitmapError.TheVariants.{Short, Long}
-use Rattle.option_read_bitmap.specs.Theorems.{Found, Answer, Agree}
+use Rattle.option_read_bitmap.specs.Theorems.{Answer, Agree}
 use Rattle.option_read_bitmap.proofs.Step.{most_runs}
 
 -- the runs of a bitmap lie below its length, and a list with room holds them
@@ -72,7 +72,8 @@ agree =
     record {
       same = λ b ks f g ks' ks'' p q. (p.0 ∙ sym q.0, p.1 ∙ sym q.1);
       means = λ d v b ks f ks' h room p.
-          rw (p.0 ∙ bitmap_found_lem b h ks room) (ap (λ (z : List ℕ). label_of d v (key_runs (take (length (bitmap_runs b)) z))) p.1 ∙ read_means d v b ks h room);
-      long = λ b ks f ks' h room p. let e = found_long b ks room h in (p.0 ∙ sym e.0, p.1 ∙ sym e.1);
-      short = λ b ks f ks' h p. let e = found_short b ks h in (p.0 ∙ sym e.0, p.1 ∙ sym e.1);
+          let e = ap (λ (z : List ℕ). label_of d v (key_runs (take (length (bitmap_runs b)) z))) p.1 ∙ read_means d v b ks h room in
+          rw (p.0 ∙ bitmap_found_lem b h ks room) (e, refl, e);
+      long = λ b ks f ks' h room p. let e = found_long b ks room h in (p.0 ∙ sym e.0, ap row_of (p.0 ∙ sym e.0), p.1 ∙ sym e.1);
+      short = λ b ks f ks' h p. let e = found_short b ks h in (p.0 ∙ sym e.0, ap row_of (p.0 ∙ sym e.0), p.1 ∙ sym e.1);
     }

@@ -21,6 +21,16 @@ number_of (Ok n) = 0
 number_of (Err Short) = 1
 number_of (Err Long) = 10
 
+-- a row of what an engine answers: number 0 and how many runs there are; or the number of a refusal and 0
+pub record BitmapRow : Type 0 where
+  pub number : ℕ
+  pub count : ℕ
+
+-- the row of an answer
+abbrev pub row_of : Result ℕ BitmapError → BitmapRow
+row_of (Ok n) = record { number = 0; count = n }
+row_of (Err e) = record { number = number_of (Err e); count = 0 }
+
 -- done, the count of the runs; else the refusal of the number
 unfoldable pub bitmap_found : List ℕ → ℕ → Result ℕ BitmapError
 bitmap_found b room = cond (ltb room 120) (Err Short) (cond (ltb 30 (length b)) (Err Long) (Ok (length (bitmap_runs b))))

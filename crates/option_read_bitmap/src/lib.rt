@@ -1,12 +1,12 @@
 // A tag 1 bitmap read into keys, by two engines (wish 12): bit by bit, and by a table of 256 entries.
 #![tactic(auto)]
 
-ghost use Rattle.std.specs.Prelude.{◌≡◌, ◌+◌, ◌*◌, ◌/◌, ◌%◌, ◌≤◌, ◌<◌, length};
+ghost use Rattle.std.specs.Prelude.{◌≡◌, ◌+◌, ◌*◌, ◌/◌, ◌%◌, ◌≤◌, ◌<◌, length, Err};
 ghost use Rattle.std.proofs.lemmas.List.Edits.{sets};
 ghost use Rattle.option_read_octet.specs.Entry.{count_in, parts_in};
 ghost use Rattle.option_read_octet.specs.Theorems.{Rule};
 ghost use Rattle.option.specs.Bitmap.{weight};
-ghost use Rattle.option_read_bitmap.specs.Bitmap.{bitmap_found, bitmap_keys};
+ghost use Rattle.option_read_bitmap.specs.Bitmap.{number_of, row_of, bitmap_found, bitmap_keys};
 ghost use Rattle.option_read_bitmap.specs.Stages.{headed, LastKey, Stands, Turn, Filled};
 
 use label::Label;
@@ -23,6 +23,18 @@ const SHORT_OCTETS: usize = 1;
 pub enum BitmapError {
     Short,
     Long,
+}
+
+// The number of the refusal.
+impl From<BitmapError> for u8 {
+    ghost from_gives = { λ e n. n ≡ number_of (Err e) };
+
+    fn from(error: BitmapError) -> u8 {
+        match error {
+            BitmapError::Short => 1,
+            BitmapError::Long => 10,
+        }
+    }
 }
 
 // Where an engine stands: how many keys are written, the last of them, and the last bit that was read. The key is kept beside the list, so
@@ -239,4 +251,14 @@ pub fn read_bitmap(octets: &[u8], keys: &mut [u32]) -> Result<usize, BitmapError
         return read_bits(octets, keys);
     }
     read_octets(octets, keys)
+}
+
+// An engine's answer as a row: number 0 and how many runs there are; or the number of a refusal and 0.
+pub fn row_of(found: Result<usize, BitmapError>) -> (u8, usize)
+    ensures { (result.0 ≡ (row_of found).number) × (result.1 ≡ (row_of found).count) }
+{
+    match found {
+        Ok(count) => (0, count),
+        Err(error) => (u8::from(error), 0),
+    }
 }

@@ -8,7 +8,7 @@ use lib.ListN.{length}
 use lib.Seq.{take_all, length-take-le}
 use lib.Dec.{leb, ltb, eqb}
 use native.Mathlib.Omega.{arith}
-use Rattle.std.specs.Prelude.{Ok, Err}
+use Rattle.std.specs.Prelude.{Ok}
 use native.Mathlib.Numerals.{add-one}
 use Rattle.label.specs.declared.Run.{Run}
 use Rattle.label.specs.Runs.{push_run, top_of}
@@ -20,7 +20,7 @@ use Rattle.option.proofs.Bad.{first_is}
 use Rattle.label_keys.specs.Keys.{key_runs, run_key}
 use Rattle.label_keys.proofs.Keys.{keys_back}
 use Rattle.option_read_numbers.specs.declared.Last.{Last}
-use Rattle.option_read_numbers.specs.Numbers.{whole, fits, at_front, Passes}
+use Rattle.option_read_numbers.specs.Numbers.{whole, fits, at_front, bad_number_at, Passes}
 use Rattle.option_read_numbers.specs.Stages.{limit_at}
 use Rattle.option_read_numbers.proofs.Building.{Stands, stands_count}
 
@@ -89,18 +89,26 @@ module _ {was keys : List ℕ} {rs : List Run} {last : Last} (s : Stands was rs 
   stands-is : key_runs (map run_key all) ≡ all
   stands-is = rw (← e) (keys_back rs s.small)
 
+  counted : last.count ≡ length all
+  counted = stands_count s ∙ ap length e
+
   pub pass_made : end ≤ bad → Passes true all bad end was keys (Ok last.count)
   pass_made f =
       record {
-        answer = rw (le-ltb bad end f) (ap (λ (n : ℕ). Ok n) (stands_count s ∙ ap length e));
+        answer = rw (le-ltb bad end f) (ap (λ (n : ℕ). Ok n) counted);
         left = left-is;
         held = omega (arith, stands_count s);
         stands = λ q. stands-is;
       }
 
-  pub pass_bad : (place : ℕ) → place ≡ bad → bad < end → Passes true all bad end was keys (Err place)
+  pub pass_bad : (place : ℕ) → place ≡ bad → bad < end → Passes true all bad end was keys (bad_number_at last.count place)
   pass_bad place p f =
-      record { answer = rw (lt-ltb bad end f) (ap (λ (n : ℕ). Err n) p); left = left-is; held = tt; stands = λ q. stands-is }
+      record {
+        answer = rw (lt-ltb bad end f) (λ i. bad_number_at (counted i) (p i));
+        left = left-is;
+        held = omega (arith, stands_count s);
+        stands = λ q. stands-is;
+      }
 
 -- What fits: at most 30 octets, and room for 15 keys.
 pub record Fits (n m : ℕ) : Type 0 where

@@ -17,6 +17,14 @@ const NUMBER_OCTETS: usize = 30;
 // The one number of two octets that is no category.
 const NO_CATEGORY: u16 = Label::MAX_CATEGORY + 1;
 
+// The first bad number of a tag 2, or pair of a tag 5: how many keys are written, of tag 2 those of the numbers before it, of tag 5 those of all pairs, and
+// the octet at which it begins.
+#[derive(Clone, Copy)]
+pub struct BadNumber {
+    pub count: usize,
+    pub at: usize,
+}
+
 // Where runs under construction stand: how many there are, the last one's low, and the category after its high.
 #[derive(Clone, Copy)]
 pub struct Last {
@@ -25,23 +33,24 @@ pub struct Last {
     pub next: u32,
 }
 
-// Tag 2: reads the numbers before the first bad one into keys, lowest first; what stands after them stays. Answers how many keys there are, or the octet at which
-// the first bad number begins. An odd last octet is left out. Over 30 octets, or a list of under 15 keys, are not read: every key stays, and the first octet is bad.
-pub fn read_numbers(octets: &[u8], keys: &mut [u32]) -> Result<usize, usize>
+// Tag 2: reads the numbers before the first bad one into keys, lowest first; what stands after them stays. Answers how many keys there are, of a list with a bad
+// number also the octet at which it begins. An odd last octet is left out. Over 30 octets, or a list of under 15 keys, are not read: every key stays, there are
+// none, and the first octet is bad.
+pub fn read_numbers(octets: &[u8], keys: &mut [u32]) -> Result<usize, BadNumber>
     ensures { ReadsNumbers octets.now keys.old keys.new result }
 {
     if !fit(octets.len(), keys.len()) {
-        return Err(0);
+        return Err(BadNumber { count: 0, at: 0 });
     }
     number_keys(octets, keys)
 }
 
 // Tag 5: the same with all pairs, of which the first bad one is told.
-pub fn read_pairs(octets: &[u8], keys: &mut [u32]) -> Result<usize, usize>
+pub fn read_pairs(octets: &[u8], keys: &mut [u32]) -> Result<usize, BadNumber>
     ensures { ReadsPairs octets.now keys.old keys.new result }
 {
     if !fit(octets.len(), keys.len()) {
-        return Err(0);
+        return Err(BadNumber { count: 0, at: 0 });
     }
     pair_keys(octets, keys)
 }
@@ -119,7 +128,7 @@ fn add_number(keys: &mut [u32], count: usize, first: bool, next: u32, x: u16) ->
 }
 
 // Tag 2: the numbers are checked and added in one pass, which ends at the first bad one.
-fn number_keys(octets: &[u8], keys: &mut [u32]) -> Result<usize, usize>
+fn number_keys(octets: &[u8], keys: &mut [u32]) -> Result<usize, BadNumber>
     requires { (length octets.now ≤ 30) × (15 ≤ length keys.old) }
     ensures { Passes true (number_runs (whole octets.now)) (2 * first_bad_number (whole octets.now)) (length (whole octets.now)) keys.old keys.new result }
 {
@@ -129,7 +138,7 @@ fn number_keys(octets: &[u8], keys: &mut [u32]) -> Result<usize, usize>
     for k in 0..n {
         let x = number_at(octets, k);
         if bad_after(x, next) {
-            return Err(2 * k);
+            return Err(BadNumber { count, at: 2 * k });
         }
         count = add_number(keys, count, k == 0, next, x);
         next = u32::from(x) + 1;
@@ -180,7 +189,7 @@ fn either(first: bool, a: usize, b: usize) -> usize
 }
 
 // Tag 5: the pairs are checked and added in one pass from the last to the first: the bad one that is met last is the first.
-fn pair_keys(octets: &[u8], keys: &mut [u32]) -> Result<usize, usize>
+fn pair_keys(octets: &[u8], keys: &mut [u32]) -> Result<usize, BadNumber>
     requires { (length octets.now ≤ 30) × (15 ≤ length keys.old) }
     ensures { Passes true (pair_runs (whole octets.now)) (4 * first_bad_pair (whole octets.now)) (length (whole octets.now)) keys.old keys.new result }
 {
@@ -202,8 +211,9 @@ fn pair_keys(octets: &[u8], keys: &mut [u32]) -> Result<usize, usize>
         keys[at] = key_of(last.low, top);
         bottom = limit;
     }
+    let count = last.count;
     if bad < n {
-        return Err(4 * bad);
+        return Err(BadNumber { count, at: 4 * bad });
     }
-    Ok(last.count)
+    Ok(count)
 }

@@ -17,9 +17,9 @@ use Rattle.option_form.specs.Spelled.{length_of}
 use Rattle.option_form.proofs.Lengths.{spelled_bounds}
 use Rattle.option_write.specs.Keys.{laid, keys_count, keys_laid}
 use Rattle.option_write.proofs.Keys.{keys_laid_lem}
-use Rattle.std.specs.Prelude.{Result, Ok, Err}
+use Rattle.std.specs.Prelude.{Result, Err}
 use Rattle.option_spell.specs.declared.SpellError.{SpellError}
-use Rattle.option_spell.specs.Spelling.{Spelling, error_of, told, spelling_number, spelling_answer, spelling_out}
+use Rattle.option_spell.specs.Spelling.{error_of, told, spelling_number, spelling_answer, spelling_out}
 use Rattle.option_spell.specs.Stages.{answer_of}
 
 -- The number.

@@ -18,6 +18,7 @@ use Rattle.option_form.proofs.Lengths.{spelled_bounds}
 use Rattle.option_spell.specs.Spelling.{Spelling}
 use Rattle.option_spell.specs.Spelling.{spelling_number, spelling_answer, spelling_out}
 use Rattle.option_spell.specs.Theorems.{SpellingAlone}
+use Rattle.option_spell.proofs.Told.{row_back}
 use Rattle.option_spell.proofs.Answers.{number_short, number_ill, number_none, number_done, answer_refused, answer_done, out_refused, out_done}
 
 -- A refusal or the option: the four ways that the checks go.
@@ -82,4 +83,5 @@ spelling_alone =
       refused = refused;
       beyond = beyond;
       sized = sized;
+      row = row_back;
     }

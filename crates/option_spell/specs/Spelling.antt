@@ -27,6 +27,11 @@ error_of n = cond (eqb n 1) Short (cond (eqb n 2) IllFormed Unspelled)
 abbrev pub told : Spelling → Result ℕ SpellError
 told s = cond (eqb s.number 0) (Ok s.count) (Err (error_of s.number))
 
+-- the row of an answer
+abbrev pub row_of : Result ℕ SpellError → Spelling
+row_of (Ok n) = record { number = 0; count = n }
+row_of (Err e) = record { number = number_of e; count = 0 }
+
 -- 1 for an output under 40 octets, then 2 for an ill-formed label, then 18 where it has no spelling; 0 is done
 unfoldable pub spelling_number : Spellings → Label → ℕ → ℕ
 spelling_number p l n = cond (ltb n 40) 1 (cond (not (well_formed l)) 2 (cond (lacking (spelled_of p l)) 18 0))

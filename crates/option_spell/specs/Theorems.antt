@@ -6,7 +6,7 @@ use Rattle.label.specs.Label.{well_formed}
 use Rattle.option.specs.declared.Spellings.{Spellings}
 use Rattle.option.specs.Spelling.{padded, spelled_of}
 use Rattle.option_form.specs.Spelled.{lacking}
-use Rattle.option_spell.specs.Spelling.{spelling_answer, spelling_out}
+use Rattle.option_spell.specs.Spelling.{told, row_of, spelling_answer, spelling_out}
 
 pub record SpellingAlone : Type 0 where
   -- a well-formed label and at least 40 octets of output: done exactly where the label has a spelling
@@ -23,3 +23,5 @@ pub record SpellingAlone : Type 0 where
   -- octets from 40 on are unchanged, and so is the output's length
   pub beyond : (p : Spellings) (l : Label) (out : List ℕ) → drop 40 (spelling_out p l out) ≡ drop 40 out
   pub sized : (p : Spellings) (l : Label) (out : List ℕ) → length (spelling_out p l out) ≡ length out
+  -- what is answered says the whole row
+  pub row : (p : Spellings) (l : Label) (n : ℕ) → row_of (told (spelling_answer p l n)) ≡ spelling_answer p l n

@@ -6,7 +6,7 @@ ghost use Rattle.std.specs.Prelude.{◌≡◌, ◌&&◌, map, ◌++◌, ◌+◌,
 ghost use Rattle.label.specs.Runs.{spaced, unused};
 ghost use Rattle.label.specs.Label.{used};
 ghost use Rattle.label_keys.specs.Keys.{key_runs, run_key};
-ghost use Rattle.option_spell.specs.Spelling.{number_of, told, spelling_answer, spelling_out};
+ghost use Rattle.option_spell.specs.Spelling.{number_of, told, row_of, spelling_answer, spelling_out};
 ghost use Rattle.option_spell.specs.Stages.{answer_of};
 
 use label::{Label, Run, word};
@@ -60,6 +60,16 @@ pub fn spell_label(label: Label, permitted: Spellings, out: &mut [u8]) -> Result
         return Err(SpellError::IllFormed);
     }
     spell_many(label, permitted, out)
+}
+
+// What spelling answers as a row: number 0 and the option's length; or the number of a refusal and 0.
+pub fn row_of(spelled: Result<usize, SpellError>) -> (u8, usize)
+    ensures { (result.0 ≡ (row_of spelled).number) × (result.1 ≡ (row_of spelled).count) }
+{
+    match spelled {
+        Ok(count) => (0, count),
+        Err(error) => (u8::from(error), 0),
+    }
 }
 
 // A label of at most one run. No place is indexed by a number that is not fixed, so that the label is not copied.

@@ -3,7 +3,7 @@ use Rattle.std.specs.Prelude.{Bool, cond, ◌&&◌, List, ℕ, leb, eqb, length,
 use Rattle.std.specs.Option.{ok_or}
 use Rattle.label.specs.declared.Run.{Run}
 use Rattle.label.specs.declared.Label.{Label}
-use Rattle.label.specs.Label.{used, label_of, well_formed}
+use Rattle.label.specs.Label.{used, label_of, zero_label, well_formed}
 use Rattle.label_keys.specs.Range.{set_in_range}
 use Rattle.table.specs.Table.{Lent, used_rows, table_sound}
 use Rattle.table_levels.specs.Levels.{Partner, partner_of}
@@ -26,6 +26,19 @@ abbrev pub number_of : RenumberError → ℕ
 number_of Unsound = 2
 number_of NoNumber = 16
 number_of TooMany = 18
+
+-- a row of what renumbering answers: number 0 and the label; or a refusal's number and an all-zero label
+pub record RenumberRow : Type 0 where
+  pub number : ℕ
+  pub label : Label
+
+abbrev pub not_renumbered : ℕ → RenumberRow
+not_renumbered n = record { number = n; label = zero_label }
+
+-- the row of an answer
+abbrev pub row_of : Renumbered → RenumberRow
+row_of (Ok l) = record { number = 0; label = l }
+row_of (Err e) = not_renumbered (number_of e)
 
 -- what carrying refuses, renumbering does
 abbrev pub error_of : CarryError → RenumberError

@@ -5,7 +5,7 @@ ghost use Rattle.std.specs.Prelude.{◌≡◌, true, ◌+◌, ◌≤◌, length}
 ghost use Rattle.label_keys.specs.Keys.{key_runs};
 ghost use Rattle.table.specs.Table.{lent};
 ghost use Rattle.renumber_keys.specs.Carry.{label_runs};
-ghost use Rattle.renumber.specs.Renumber.{error_of, number_of, fit_of, renumbered_of};
+ghost use Rattle.renumber.specs.Renumber.{error_of, number_of, fit_of, row_of, renumbered_of};
 ghost use Rattle.renumber.specs.Stages.{runs_renumbered};
 
 use label::Label;
@@ -116,4 +116,14 @@ pub fn fit_label(keys: &[u32], domain: u32, level: u8) -> Option<Label>
         return None;
     }
     Some(to_label(keys, n, domain, level))
+}
+
+// An answer as a row: 0 and the label; or a refusal's number and an all-zero label.
+pub fn row_of(answer: Result<Label, RenumberError>) -> (u8, Label)
+    ensures { (result.0 ≡ (row_of answer).number) × (result.1 ≡ (row_of answer).label) }
+{
+    match answer {
+        Ok(label) => (0, label),
+        Err(error) => (u8::from(error), Label::empty(0, 0)),
+    }
 }

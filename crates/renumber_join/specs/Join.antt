@@ -4,7 +4,7 @@ use Rattle.std.specs.Prelude.{Bool, cond, ◌&&◌, ◌||◌, List, ℕ, max, eq
 use Rattle.label.specs.declared.Run.{Run}
 use Rattle.label.specs.declared.Label.{Label}
 use Rattle.label.specs.Runs.{covers}
-use Rattle.label.specs.Label.{used, well_formed}
+use Rattle.label.specs.Label.{used, zero_label, well_formed}
 use Rattle.renumber_keys.specs.Sets.{runs_of}
 use Rattle.renumber.specs.Renumber.{fitted}
 use Rattle.renumber_join.specs.declared.JoinError.{JoinError}
@@ -21,6 +21,19 @@ joined_as l = Ok l
 abbrev pub number_of : JoinError → ℕ
 number_of Unsound = 2
 number_of TooMany = 18
+
+-- a row of what joining answers: number 0 and the label; or a refusal's number and an all-zero label
+pub record JoinRow : Type 0 where
+  pub number : ℕ
+  pub label : Label
+
+abbrev pub not_joined : ℕ → JoinRow
+not_joined n = record { number = n; label = zero_label }
+
+-- the row of an answer
+abbrev pub row_of : Joined → JoinRow
+row_of (Ok l) = record { number = 0; label = l }
+row_of (Err e) = not_joined (number_of e)
 
 -- the category is one of either label
 abbrev pub either : Label → Label → ℕ → Bool

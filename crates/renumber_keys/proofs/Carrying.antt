@@ -2,13 +2,14 @@
 use mathlib.Core.Path.{◌≡◌, refl, sym, ◌∙◌, ap}
 use mathlib.Core.Bool.{Bool, true, false, cond, ◌&&◌, and-false, and_assoc, true≢false}
 use mathlib.Core.List.{List, [], ◌∷◌, ◌++◌, map}
+use mathlib.Core.Logic.{◌↔◌}
 use Prim.Native.Nat.{ℕ, suc, ◌+◌, ◌*◌, ◌/◌, ◌%◌, ◌≤◌, ◌<◌}
 use native.Mathlib.Omega.{arith}
 use lib.Dec.{leb}
-use lib.ListN.{length, take, drop, get_or, length-map, take-append-drop}
+use lib.ListN.{length, take, drop, get_or, length-map, length-append, length-drop, take-append-drop}
 use lib.Seq.{length-take-le, take_at, take_all}
 use borrow.Author.Tests.{le-leb, lt-leb, leb-true}
-use Rattle.std.specs.Prelude.{None, Some, Ok, Err}
+use Rattle.std.specs.Prelude.{None, Some, Ok, Err, is_ok}
 use Rattle.std.specs.Option.{is_some}
 use Rattle.label.specs.declared.Run.{Run}
 use Rattle.label.specs.declared.Label.{Label}
@@ -121,6 +122,24 @@ module _ (p : Partner) (whole : Bool) (image : List Run) where
   unfolding carried_to
   carried_found v count e w n = sym (rw (e, w, n))
 
+  carried_never_two : carried_to p whole image ≡ Err Unsound → ⊥
+  unfolding carried_to
+  carried_never_two = go (known p && whole)
+    where
+      go : (b : Bool) → cond b (carried_as (level_or0 p) (length image)) (Err NoNumber) ≡ Err Unsound → ⊥
+      go true e = true≢false (ap is_ok e)
+      go false e = let z : ◌≡◌ {A = ℕ} 0 1 = cc in omega arith
+
+-- 2 tells of the table alone, where the runs are a label's and the list is long enough
+pub carry_two : (rs : List Run) (v : ℕ) (t : Lent) (ls : List (List ℕ)) (room : ℕ) → label_runs rs ≡ true → 120 + t.count ≤ room
+    → (carry_of rs v t ls room ≡ Err Unsound) ↔ (table_sound t ls ≡ false)
+carry_two rs v t ls room f h = (go (table_sound t ls) refl, carry_unsound rs v t ls room)
+  where
+    go : (b : Bool) → table_sound t ls ≡ b → carry_of rs v t ls room ≡ Err Unsound → b ≡ false
+    go true s e =
+        absurd (carried_never_two (partner_of (take t.pairs ls) v) (numbered (used_rows t) rs) (image_of t rs) (sym (carry_checked rs v t ls room s f h) ∙ e))
+    go false s e = refl
+
 -- What the list holds.
 module _ (image : List Run) (far : List ℕ) where
   pub carried_keys_lem : (c : CarryAnswer) (d : Carried) → c ≡ Ok d → carried_keys c image far ≡ map run_key image ++ drop (length image) far
@@ -141,6 +160,11 @@ module _ (image : List Run) (far : List ℕ) where
       ap (λ (z : List ℕ). key_runs (take (length image) z)) (carried_keys_lem c d e)
       ∙ ap key_runs (take_at (map run_key image) (drop (length image) far) (length image) (length-map image run_key))
       ∙ keys_runs 0 image s
+
+  pub carried_length : (c : CarryAnswer) → length image ≤ length far → length (carried_keys c image far) ≡ length far
+  unfolding carried_keys
+  carried_length (Ok d) h = length-append (map run_key image) (drop (length image) far) ∙ omega (arith, length-map image run_key, length-drop (length image) far)
+  carried_length (Err e) h = refl
 
 -- The numbers of a set.
 pub image_spaced : (t : Lent) (rs : List Run) → spaced 0 (image_of t rs) ≡ true

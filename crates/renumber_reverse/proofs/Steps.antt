@@ -1,17 +1,17 @@
--- Laws of the loop that turns rows round: the row that a turn reads, and what one more write does.
+-- Laws of the loops that turn rows and level pairs round: the row that a turn reads, and what one more write does.
 use mathlib.Core.Path.{◌≡◌, refl, sym, ◌∙◌, ap}
 use mathlib.Core.List.{List, [], ◌∷◌, ◌++◌, map, map-append, append_assoc}
 use Prim.Native.Nat.{ℕ, zero, suc, ◌+◌, ◌-◌, ◌*◌, ◌%◌, ◌≤◌, ◌<◌}
 use native.Mathlib.Omega.{arith}
 use native.Mathlib.Numerals.{add-one}
-use lib.ListN.{length, take, drop, get_or, set, length-map, length-append, length-drop}
+use lib.ListN.{length, take, drop, get_or, set, replicate, length-map, length-append, length-drop, length-replicate}
 use lib.Seq.{set_at, length-take-le}
 use Rattle.label.proofs.Steps.{next}
 use Rattle.table.specs.declared.Row.{Row}
 use Rattle.table.specs.Table.{no_row, row_numbers}
 use Rattle.table.specs.Order.{in_order}
 use Rattle.table.proofs.Order.{Turn, order_turn}
-use Rattle.renumber_reverse.specs.Reverse.{turned_row}
+use Rattle.renumber_reverse.specs.Reverse.{turned_row, turned_pair, turned_levels}
 use Rattle.renumber_reverse.specs.Stages.{InOrder}
 use Rattle.renumber_reverse.proofs.Rows.{Fine, fine, is_fine, test_at, order_fine}
 use Rattle.table.proofs.Lent.{numbers_length}
@@ -43,6 +43,13 @@ put_one {A} ys zs n a d e h =
     ap (λ (z : List A). set (ys ++ z) n a) (next d zs n h)
     ∙ set_at ys (get_or zs n d) (drop (n + 1) zs) a n e
     ∙ sym (append_assoc ys (a ∷ []) (drop (n + 1) zs))
+
+pub map_next : {A B : Type 0} (f : A → B) (xs : List A) (zs : List B) (i : ℕ) (x : A) (ts : List A) (d : B) → drop i xs ≡ x ∷ ts → i < length zs
+    → set (map f (take i xs) ++ drop i zs) i (f x) ≡ map f (take (i + 1) xs) ++ drop (i + 1) zs
+map_next {A} {B} f xs zs i x ts d e h =
+    let n : length (map f (take i xs)) ≡ i = length-map (take i xs) f ∙ length-take-le i xs (inside xs i x ts e) in
+    let t : map f (take (i + 1) xs) ≡ map f (take i xs) ++ (f x ∷ []) = rw (add-one i, take_next xs i x ts e) (map-append f (take i xs) (x ∷ [])) in
+    put_one (map f (take i xs)) zs i (f x) d n h ∙ sym (ap (λ (l : List B). l ++ drop (i + 1) zs) t)
 
 -- A lent list takes one row more.
 numbers_snoc : (rs : List Row) (r : Row) → row_numbers (rs ++ (r ∷ [])) ≡ row_numbers rs ++ (r.low ∷ r.high ∷ r.target ∷ [])
@@ -86,3 +93,16 @@ pub rows_next : (xs : List Row) (was rows : List ℕ) (i : ℕ) (r x : Row) (ts 
     → set (set (set rows (i * 3) x.low) (i * 3 + 1) x.high) (i * 3 + 2) x.target ≡ part_rows xs was (i + 1)
 rows_next xs was rows i r x ts e n q h =
     (λ j. set (set (set (e j) (i * 3) (q j).low) (i * 3 + 1) (q j).high) (i * 3 + 2) (q j).target) ∙ part_next xs was i r ts n h
+
+-- Level pairs.
+abbrev pub no_pairs : List (List ℕ)
+no_pairs = replicate 256 (0 ∷ 0 ∷ [])
+
+abbrev pub part_levels : List (List ℕ) → ℕ → List (List ℕ)
+part_levels ls i = turned_levels (take i ls) ++ drop i no_pairs
+
+pub levels_next : (ls out : List (List ℕ)) (i : ℕ) → out ≡ part_levels ls i → i < length ls → i < 256 → set out i (turned_pair (get_or ls i [])) ≡ part_levels ls (i + 1)
+levels_next ls out i e h k =
+    let l : i < length no_pairs = rw (length-replicate {A = List ℕ} 256 (0 ∷ 0 ∷ [])) k in
+    ap (λ (z : List (List ℕ)). set z i (turned_pair (get_or ls i []))) e
+    ∙ map_next turned_pair ls no_pairs i (get_or ls i []) (drop (i + 1) ls) [] (next [] ls i h) l

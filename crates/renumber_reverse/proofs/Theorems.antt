@@ -68,7 +68,9 @@ pub reverse_refused : ReverseRefused
 unfolding reversed_of with_rows
 reverse_refused =
     record {
-      unsound = λ t ls was e. (rw e, rw e);
-      short = λ t ls was e h. let k = lt-leb t.count (length was / 3) h in (rw (e, k), rw (e, k));
-      given = λ t ls was e h. (record { from = t.to; to = t.from; pairs = t.pairs; count = t.count }, rw (e, le-leb t.count (length was / 3) h));
+      unsound = λ t ls was e. (rw e, rw e, rw e);
+      short = λ t ls was e h. let k = lt-leb t.count (length was / 3) h in (rw (e, k), rw (e, k), rw (e, k));
+      given = λ t ls was e h.
+          let k = le-leb t.count (length was / 3) h in
+          (record { from = t.to; to = t.from; pairs = t.pairs; count = t.count }, rw (e, k), rw (e, k));
     }

@@ -40,6 +40,19 @@ abbrev pub number_of : ReverseError → ℕ
 number_of Unsound = 2
 number_of Short = 24
 
+-- a row of what reversing answers: number 0 and the table; or a refusal's number, and every other number is 0
+pub record ReverseRow : Type 0 where
+  pub number : ℕ
+  pub table : Table
+
+abbrev pub not_reversed : ℕ → ReverseRow
+not_reversed n = record { number = n; table = record { from = 0; to = 0; pairs = 0; count = 0 } }
+
+-- the row of an answer
+abbrev pub row_of : Reversed → ReverseRow
+row_of (Ok t) = record { number = 0; table = t }
+row_of (Err e) = not_reversed (number_of e)
+
 -- 2 for an unsound table, then 24 where the lent room has a place for fewer rows
 unfoldable pub reversed_of : Lent → List (List ℕ) → ℕ → Reversed
 reversed_of t ls room =

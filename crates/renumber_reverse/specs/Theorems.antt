@@ -7,7 +7,7 @@ use Rattle.table_levels.specs.Levels.{partner_of}
 use Rattle.table.specs.Numbers.{sends}
 use Rattle.renumber.specs.Renumber.{renumbered_as, renumbered_of}
 use Rattle.renumber_reverse.specs.declared.ReverseError.TheVariants.{Unsound, Short}
-use Rattle.renumber_reverse.specs.Reverse.{in_twos, reverse_table, turned_levels, reversed_of, with_rows}
+use Rattle.renumber_reverse.specs.Reverse.{in_twos, reverse_table, turned_levels, ReverseRow, row_of, reversed_of, with_rows}
 
 -- a row of the reverse gives number d the category c exactly when one of the table gives c the number d; levels likewise
 pub record TurnedRound (t : Lent) (ls : List (List ℕ)) : Type 0 where
@@ -26,12 +26,16 @@ pub record Reversing : Type 0 where
       → renumbered_of l t ls ≡ renumbered_as m
       → renumbered_of m (reverse_table t) (turned_levels ls) ≡ renumbered_as l
 
+-- a number, and an all-zero table
+abbrev pub only_number : ℕ → ReverseRow
+only_number n = record { number = n; table = record { from = 0; to = 0; pairs = 0; count = 0 } }
+
 -- "an unsound table is 2, then short lent room 24": three numbers of room a row; both leave the room as it was
 pub record ReverseRefused : Type 0 where
   pub unsound : (t : Lent) (ls : List (List ℕ)) (was : List ℕ) → table_sound t ls ≡ false
-      → (reversed_of t ls (length was / 3) ≡ Err Unsound) × (with_rows t ls was ≡ was)
+      → (reversed_of t ls (length was / 3) ≡ Err Unsound) × (row_of (reversed_of t ls (length was / 3)) ≡ only_number 2) × (with_rows t ls was ≡ was)
   pub short : (t : Lent) (ls : List (List ℕ)) (was : List ℕ) → table_sound t ls ≡ true → length was / 3 < t.count
-      → (reversed_of t ls (length was / 3) ≡ Err Short) × (with_rows t ls was ≡ was)
+      → (reversed_of t ls (length was / 3) ≡ Err Short) × (row_of (reversed_of t ls (length was / 3)) ≡ only_number 24) × (with_rows t ls was ≡ was)
   -- nothing else is refused
   pub given : (t : Lent) (ls : List (List ℕ)) (was : List ℕ) → table_sound t ls ≡ true → t.count ≤ length was / 3
-      → (r : Table) × (reversed_of t ls (length was / 3) ≡ Ok r)
+      → (r : Table) × (reversed_of t ls (length was / 3) ≡ Ok r) × ((row_of (reversed_of t ls (length was / 3))).number ≡ 0)

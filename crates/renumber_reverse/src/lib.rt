@@ -3,7 +3,7 @@
 
 ghost use Rattle.std.specs.Prelude.{◌≡◌, ◌++◌, ◌*◌, ◌/◌, ◌≤◌, length, drop};
 ghost use Rattle.table.specs.Table.{row_numbers, lent, rows_from, target_end};
-ghost use Rattle.renumber_reverse.specs.Reverse.{turned_row, turned_rows, turned_pair, turned_levels, number_of, reversed_of, with_rows};
+ghost use Rattle.renumber_reverse.specs.Reverse.{turned_row, turned_rows, turned_pair, turned_levels, number_of, row_of, reversed_of, with_rows};
 ghost use Rattle.renumber_reverse.specs.Stages.{InOrder};
 
 use table::{FEW_ROWS, MAX_ROWS, Row, Table, row_at, table_order};
@@ -46,11 +46,33 @@ pub fn reverse(
     reverse_in::<MAX_ROWS>(table, rows, levels, back)
 }
 
+// An answer as a row: 0 and the table; or a refusal's number and an all-zero table.
+pub fn row_of(answer: Result<Table, ReverseError>) -> (u8, Table)
+    ensures { (result.0 ≡ (row_of answer).number) × (result.1 ≡ (row_of answer).table) }
+{
+    match answer {
+        Ok(table) => (0, table),
+        Err(error) => (
+            u8::from(error),
+            Table {
+                from: 0,
+                to: 0,
+                pairs: 0,
+                count: 0,
+            },
+        ),
+    }
+}
+
 // Each level pair turned round.
 pub fn reverse_levels(levels: Levels) -> Levels
     ensures { result ≡ turned_levels levels }
 {
-    levels.map(turn_pair)
+    let mut out = [[0u8; 2]; 256];
+    for (i, &pair) in levels.iter().enumerate() {
+        out[i] = turn_pair(pair);
+    }
+    out
 }
 
 // The same with room for the order of so many rows.

@@ -3,7 +3,7 @@
 #![tactic(auto)]
 
 ghost use Rattle.std.specs.Prelude.{◌≡◌, [], ◌∷◌, ◌+◌, ◌%◌, ◌≤◌, ◌<◌, length, drop};
-ghost use Rattle.text.specs.Put.{Writes};
+ghost use Rattle.text.specs.Put.{Puts, Writes};
 ghost use Rattle.text.specs.Text.{decimal, next, hex_digit, hex_of};
 ghost use Rattle.text.specs.Line.{shown, forward_line, drop_line, broken_line};
 
@@ -22,53 +22,35 @@ impl Line<'_> {
     pub fn octet(&mut self, x: u8)
         ensures { Writes self.old (x ∷ []) self.new }
     {
-        if self.end < self.octets.len() {
-            self.octets[self.end] = x;
-            self.end += 1;
-        }
+        self.end = put_octet(self.octets, self.end, x);
     }
 
     // The octets of a word.
     pub fn word(&mut self, word: &[u8])
         ensures { Writes self.old word.now self.new }
     {
-        for x in word {
-            self.octet(*x);
-        }
+        self.end = put_word(self.octets, self.end, word);
     }
 
     // A number in decimal.
     pub fn decimal(&mut self, x: u64)
         ensures { Writes self.old (decimal x) self.new }
     {
-        let mut digits = [0u8; DIGITS];
-        let from = spell(x, &mut digits);
-        self.word(&digits[from..]);
+        self.end = put_decimal(self.octets, self.end, x);
     }
 
     // A blank, and a number in decimal.
     pub fn next(&mut self, x: u64)
         ensures { Writes self.old (next x) self.new }
     {
-        self.octet(b' ');
-        self.decimal(x);
+        self.end = put_next(self.octets, self.end, x);
     }
 
     // The octets in lower-case hex, two digits each.
     pub fn hex(&mut self, octets: &[u8])
         ensures { Writes self.old (hex_of octets.now) self.new }
     {
-        for x in octets {
-            self.pair(*x);
-        }
-    }
-
-    // An octet as two hex digits.
-    fn pair(&mut self, x: u8)
-        ensures { Writes self.old (hex_of (x ∷ [])) self.new }
-    {
-        self.octet(hex_digit(x / 16));
-        self.octet(hex_digit(x % 16));
+        self.end = put_hex(self.octets, self.end, octets);
     }
 
     // A forwarding's line: the count, and that many octets of the leaving area in hex.
@@ -110,6 +92,66 @@ impl Line<'_> {
     {
         self.word(b"BROKEN\n");
     }
+}
+
+// What a line's methods do, with the place as a number of its own: a place that lies in a line is loaded and stored again at each octet.
+
+// One octet at place n where there is room, and the place behind it.
+fn put_octet(out: &mut [u8], n: usize, x: u8) -> usize
+    ensures { Puts out.old n (x ∷ []) out.new result }
+{
+    if n < out.len() {
+        out[n] = x;
+        return n + 1;
+    }
+    n
+}
+
+// The octets of a word.
+fn put_word(out: &mut [u8], n: usize, word: &[u8]) -> usize
+    ensures { Puts out.old n word.now out.new result }
+{
+    let mut k = n;
+    for x in word {
+        k = put_octet(out, k, *x);
+    }
+    k
+}
+
+// A number in decimal.
+fn put_decimal(out: &mut [u8], n: usize, x: u64) -> usize
+    ensures { Puts out.old n (decimal x) out.new result }
+{
+    let mut digits = [0u8; DIGITS];
+    let from = spell(x, &mut digits);
+    put_word(out, n, &digits[from..])
+}
+
+// A blank, and a number in decimal.
+fn put_next(out: &mut [u8], n: usize, x: u64) -> usize
+    ensures { Puts out.old n (next x) out.new result }
+{
+    let k = put_octet(out, n, b' ');
+    put_decimal(out, k, x)
+}
+
+// The octets in lower-case hex.
+fn put_hex(out: &mut [u8], n: usize, octets: &[u8]) -> usize
+    ensures { Puts out.old n (hex_of octets.now) out.new result }
+{
+    let mut k = n;
+    for x in octets {
+        k = put_pair(out, k, *x);
+    }
+    k
+}
+
+// An octet as two hex digits.
+fn put_pair(out: &mut [u8], n: usize, x: u8) -> usize
+    ensures { Puts out.old n (hex_of (x ∷ [])) out.new result }
+{
+    let k = put_octet(out, n, hex_digit(x / 16));
+    put_octet(out, k, hex_digit(x % 16))
 }
 
 // The digit of a number below 16.

@@ -9,7 +9,8 @@ use lib.Dec.{leb}
 use Rattle.option.specs.Option.{tag_of, tag_length_of}
 use Rattle.option_read.specs.Reading.{fault, known_tag, good_length, categories_in}
 use Rattle.option_read.specs.Stages.{PassOver}
-use Rattle.std.specs.Prelude.{Result, Err}
+use Rattle.std.specs.Prelude.{Err}
+use Rattle.option_read_numbers.specs.Numbers.{Pass}
 use Rattle.option_read.proofs.Loops.{bad_of, good_of}
 use Rattle.option_read.proofs.Keys.{refused_tag, found_tag}
 use Rattle.option_read.proofs.Checks.{Lengths, lengths, Past, categories_length, part_is, stops9, stops10, stops11, stops12, stops13, passes}
@@ -83,15 +84,15 @@ module _ (c : Else-octets-ne0) where
   part = part_is o size size-is
 
   -- what the pass leaves, over the tag's own octets
-  over : {keys keys' : List ℕ} {r r' : Result ℕ ℕ} → PassOver (tag_of o) (take (size + 6 - 10) (drop 10 o)) keys keys' r → r ≡ r' → PassOver (tag_of o) (categories_in o) keys keys' r'
+  over : {keys keys' : List ℕ} {r r' : Pass} → PassOver (tag_of o) (take (size + 6 - 10) (drop 10 o)) keys keys' r → r ≡ r' → PassOver (tag_of o) (categories_in o) keys keys' r'
   over p e = rw (part, e) at p
 
 pub returns-in-Err : goal.returns-in-Err
 returns-in-Err c =
     let k = (goal.at.returns-in-Err c).Else-octets-ne0 in
     let pass = over k c.category_keys.ensures c.in-Err.is in
-    refused_tag (o k) c.args.keys.now _ 12 (10 + c.in-Err.place) (λ z. omega arith)
-    (stops12 (o k) (past k) c.in-Err.place (bad_of c.in-Err.place pass).0 (bad_of c.in-Err.place pass).1)
+    refused_tag (o k) c.args.keys.now _ 12 (10 + c.in-Err.bad.at) (λ z. omega arith)
+    (stops12 (o k) (past k) c.in-Err.bad.at (bad_of c.in-Err.bad pass).0 (bad_of c.in-Err.bad pass).1)
     _ c.refuse-in-Err.ensures pass.left
 
 pub returns-then-end-n : goal.returns-then-end-n

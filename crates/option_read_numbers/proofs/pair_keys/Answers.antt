@@ -6,12 +6,12 @@ use mathlib.Core.Path.{◌≡◌, refl, sym, ◌∙◌, ap}
 use lib.ListN.{length, length-set}
 use lib.Dec.{ltb, eqb}
 use mathlib.Core.Bool.{true, ◌||◌}
-use Rattle.std.specs.Prelude.{Ok, Err}
+use Rattle.std.specs.Prelude.{Ok}
 use Rattle.option_read_numbers.specs.declared.Last.{Last}
 use Rattle.label.specs.declared.Run.{Run}
 use Rattle.label.specs.Runs.{run, push_run}
 use Rattle.label_keys.specs.Keys.{run_key}
-use Rattle.option_read_numbers.specs.Numbers.{whole, first_bad_pair, pair_runs, Passes}
+use Rattle.option_read_numbers.specs.Numbers.{whole, first_bad_pair, pair_runs, bad_number_at, Passes}
 use Rattle.option_read_numbers.specs.Stages.{after_piece, limit_at}
 use Rattle.option.specs.Index.{range_runs, pairs_of, low_pair, high_pair, bad_pair, top_at, bottom_at}
 use Rattle.option_read_numbers.proofs.Building.{Stands, stands_nil, stands_count, stands_push, piece_count, piece_some}
@@ -132,7 +132,7 @@ module _ (octets was keys : List ℕ) (j bad : ℕ) (last : Last) (z : j ≡ 0) 
   runs : range_runs (low_pair (whole octets)) (high_pair (whole octets)) ((length octets + 2) / 4 - j) ≡ pair_runs (whole octets)
   runs = ap (range_runs (low_pair (whole octets)) (high_pair (whole octets))) all
 
-  one-bad : bad < (length octets + 2) / 4 → Passes true (pair_runs (whole octets)) (4 * first_bad_pair (whole octets)) (length (whole octets)) was keys (Err (4 * bad))
+  one-bad : bad < (length octets + 2) / 4 → Passes true (pair_runs (whole octets)) (4 * first_bad_pair (whole octets)) (length (whole octets)) was keys (bad_number_at last.count (4 * bad))
   one-bad h = pass_bad s (pair_runs (whole octets)) runs few-runs (4 * first_bad_pair (whole octets)) (length (whole octets)) (4 * bad) (ap (λ (x : ℕ). 4 * x) first) (omega (arith, first, whole_length octets))
 
   none-bad : (length octets + 2) / 4 ≤ bad → Passes true (pair_runs (whole octets)) (4 * first_bad_pair (whole octets)) (length (whole octets)) was keys (Ok last.count)

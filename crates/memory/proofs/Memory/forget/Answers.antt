@@ -7,7 +7,7 @@ use lib.ListN.{length}
 use Rattle.std.specs.Prelude.{Some, None}
 use Rattle.memory.specs.Memory.{stands, listed, memory_of, answered}
 use Rattle.memory.specs.Stages.{closed_at}
-use Rattle.memory.proofs.Laws.{standing, is_of, found, forget_refused, forgot_known, forgot_new}
+use Rattle.memory.proofs.Laws.{standing, found, forget_refused, forgot_known, forgot_new}
 use Rattle.memory.proofs.Memory.forget.Goals as goal
 
 pub returns-then-not-stands : goal.returns-then-not-stands
@@ -23,7 +23,7 @@ remove-requires c =
     let n : length m.addresses ≡ 64 = omega arith in
     let s : stands m ≡ true = sym c.stands.ensures ∙ c.if-not-stands.false in
     let f = found m c.args.address n s (Some c.in-Some.at) c.in-Some.ensures in
-    (f.1, (standing m s).few, is_of m n (standing m s))
+    (f.1, (standing m s).few)
 
 pub returns-in-Some : goal.returns-in-Some
 returns-in-Some c =

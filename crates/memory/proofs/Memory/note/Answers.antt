@@ -24,7 +24,7 @@ remove-requires c =
     let n : length m.addresses ≡ 64 = omega arith in
     let s : stands m ≡ true = sym c.stands.ensures ∙ c.if-not-stands.false in
     let f = found m c.args.address n s (Some c.in-Some.at) c.in-Some.ensures in
-    (f.1, (standing m s).few, is_of m n (standing m s))
+    (f.1, (standing m s).few)
 
 pub push-requires : goal.push-requires
 push-requires c =
@@ -63,7 +63,7 @@ pub remove-requires-in-None : goal.remove-requires-in-None
 remove-requires-in-None c =
     let m = c.args.self in
     let s = standing m (sym c.stands.ensures ∙ c.if-not-stands.false) in
-    (omega (arith, c.if-self-lt-MOST.false), s.few, is_of m (omega arith) s)
+    (omega (arith, c.if-self-lt-MOST.false), s.few)
 
 pub push-requires-in-None : goal.push-requires-in-None
 push-requires-in-None c =

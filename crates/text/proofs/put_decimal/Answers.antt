@@ -1,4 +1,4 @@
--- `text::Line::decimal` meets its contract.
+-- `text::put_decimal` meets its contract.
 use borrow.Author.Rules.{rules}
 use Prim.Native.Nat.{◌-◌}
 use mathlib.Core.Path.{◌≡◌, ◌∙◌}
@@ -6,7 +6,7 @@ use native.Mathlib.Omega.{arith}
 use lib.ListN.{length, take, drop, length-drop}
 use lib.Seq.{take_all}
 use Rattle.text.specs.Text.{decimal}
-use Rattle.text.proofs.Line.decimal.Goals as goal
+use Rattle.text.proofs.put_decimal.Goals as goal
 
 pub returns : goal.returns
 returns c =
@@ -16,4 +16,4 @@ returns c =
     let all : take (20 - from) (drop from digits) ≡ decimal c.args.x =
     take_all (20 - from) (drop from digits) (simp length-drop (omega arith)) ∙ c.spell-from.ensures.1
     in
-    rw all at c.word.ensures
+    rw all at c.put_word.ensures
