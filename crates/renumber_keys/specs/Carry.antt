@@ -36,6 +36,24 @@ unfoldable pub carried_keys : CarryAnswer → List Run → List ℕ → List ℕ
 carried_keys (Ok c) image far = map run_key image ++ drop (length image) far
 carried_keys (Err e) image far = far
 
+-- the number of a refusal
+abbrev pub number_of : CarryError → ℕ
+number_of Unsound = 2
+number_of NoNumber = 16
+
+-- an answer as a row: a refusal has its number, and level and count 0
+pub record CarryRow : Type 0 where
+  pub number : ℕ
+  pub level : ℕ
+  pub count : ℕ
+
+abbrev pub not_carried : ℕ → CarryRow
+not_carried n = record { number = n; level = 0; count = 0 }
+
+abbrev pub row_of : CarryAnswer → CarryRow
+row_of (Ok c) = record { number = 0; level = c.level; count = c.count }
+row_of (Err e) = not_carried (number_of e)
+
 -- 2 for an unsound table, runs that no well-formed label has, or a list of under 120 places and one for each row: 120 runs cut by the rows fill no more; then 16
 unfoldable pub carry_of : List Run → ℕ → Lent → List (List ℕ) → ℕ → CarryAnswer
 carry_of rs v t ls room =

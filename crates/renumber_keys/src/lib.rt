@@ -8,7 +8,7 @@ ghost use Rattle.label_keys.specs.Keys.{key_runs};
 ghost use Rattle.table.specs.Table.{lent, no_row, rows_from, target_end, rising};
 ghost use Rattle.table.specs.Numbers.{numbered, in_image};
 ghost use Rattle.renumber_keys.specs.Sets.{runs_of};
-ghost use Rattle.renumber_keys.specs.Carry.{image_of, label_runs, carried_to, carried_keys, carry_of};
+ghost use Rattle.renumber_keys.specs.Carry.{number_of, row_of, image_of, label_runs, carried_to, carried_keys, carry_of};
 ghost use Rattle.renumber_keys.specs.Stages.{push_key, join_onto, piece_key, Ready, Cut, parts_of, Inside, Joined, carried_by};
 
 use label::Label;
@@ -30,6 +30,28 @@ pub enum CarryError {
     Unsound,
     // 16: the level or a category has no number
     NoNumber,
+}
+
+// The number of the refusal.
+impl From<CarryError> for u8 {
+    ghost from_gives = { λ e n. n ≡ number_of e };
+
+    fn from(error: CarryError) -> u8 {
+        match error {
+            CarryError::Unsound => 2,
+            CarryError::NoNumber => 16,
+        }
+    }
+}
+
+// The row of an answer: number, level and count; a refusal has level and count 0.
+pub fn row_of(answer: Result<Carried, CarryError>) -> (u8, u8, usize)
+    ensures { (result.0 ≡ (row_of answer).number) × (result.1 ≡ (row_of answer).level) × (result.2 ≡ (row_of answer).count) }
+{
+    match answer {
+        Ok(carried) => (0, carried.level, carried.count),
+        Err(error) => (u8::from(error), 0, 0),
+    }
 }
 
 // The most runs that a label's categories have in the far domain: its 120 runs, cut by 1,024 rows; and cut by few rows.

@@ -7,20 +7,20 @@ use native.Mathlib.Omega.{arith}
 use lib.Dec.{leb}
 use lib.ListN.{length, take, drop, length-map, length-append, length-drop}
 use borrow.Author.Tests.{le-leb, leb-true}
-use Rattle.std.specs.Prelude.{None, Some}
+use Rattle.std.specs.Prelude.{Option, None, Some, is_some}
 use Rattle.label.specs.declared.Run.{Run}
 use Rattle.label.specs.Runs.{in_run, covers, spaced}
 use Rattle.label.proofs.Bools.{and_left, and_right}
 use Rattle.label_keys.specs.Keys.{key_run, key_runs, run_key}
 use Rattle.lists_sort.specs.Order.{Sorted, all, sort_keys}
 use Rattle.lists_sort.proofs.Laws.{sort_sorted, sort_all}
-use Rattle.table_levels.specs.Levels.{Partner, partner_of}
+use Rattle.table_levels.specs.Levels.{Partner, partner_of, known, level_or0}
 use Rattle.table.specs.declared.Row.{Row}
 use Rattle.table.specs.Table.{Lent, used_rows, rising, table_sound}
 use Rattle.table.specs.Numbers.{numbered, in_image}
 use Rattle.table.proofs.Sound.{sound, sound_rows}
 use Rattle.renumber_keys.specs.Sets.{runs_of}
-use Rattle.renumber_keys.specs.Carry.{image_of, label_runs, carried_to, carry_of}
+use Rattle.renumber_keys.specs.Carry.{image_of, label_runs, carried_to, not_carried, row_of, carry_of}
 use Rattle.renumber_keys.specs.Stages.{join_all, piece_key, pieces, Key}
 use Rattle.renumber_keys.proofs.Join.{all_covers, all_spaced}
 use Rattle.renumber_keys.proofs.Pass.{image_hits}
@@ -28,7 +28,7 @@ use Rattle.renumber_keys.proofs.Pieces.{rise_giving, pieces_keys, pieces_hits}
 use Rattle.renumber_keys.proofs.Sets.{the_runs}
 use Rattle.renumber_keys.proofs.Carrying.{runs_label, all_few, there_back, carry_checked}
 use Rattle.renumber_search.specs.Search.{bisect, gives_to, RunCut, cut_none, cut_last, cut_more, run_cut, cuts_on, cuts_from, room_for, over, searched_of, searched_keys}
-use Rattle.renumber_search.specs.Theorems.{carried_where, Carrying, SearchCarries}
+use Rattle.renumber_search.specs.Theorems.{carried_where, found_or0, Carrying, SearchCarries}
 use Rattle.renumber_search.proofs.Search.{search_cuts}
 use Rattle.renumber_search.proofs.Bisecting.{bisect_on}
 use Rattle.renumber_search.proofs.Cuts.{run_few}
@@ -146,6 +146,12 @@ searched_sized rows runs far = go (room_for (length runs) (length rows) (length 
     go true false e = over_sized (cuts_from rows 0 runs).keys far (few e)
     go false w e = refl
 
+row_cases : (p : Partner) (s : Option ℕ)
+    → row_of (carried_where p s) ≡ cond (known p && is_some s) (record { number = 0; level = level_or0 p; count = found_or0 s }) (not_carried 16)
+row_cases None s = refl
+row_cases (Some v) None = refl
+row_cases (Some v) (Some n) = refl
+
 carried_cases : (p : Partner) (b : Bool) (image : List Run) → carried_to p b image ≡ carried_where p (cond b (Some (length image)) None)
 unfolding carried_to
 carried_cases None b image = refl
@@ -173,4 +179,9 @@ module _ (t : Lent) (ls : List (List ℕ)) (rs : List Run) (s : table_sound t ls
   by_search v room h = carry_checked rs v t ls room s f h ∙ rw (carrying.answer room h) (carried_cases (partner_of (take t.pairs ls) v) (numbered (used_rows t) rs) (image_of t rs))
 
 pub search_carries : SearchCarries
-search_carries = record { sized = searched_sized; carries = carrying; carried = λ t ls rs v room s f h. by_search t ls rs s f v room h }
+search_carries = record {
+  sized = searched_sized;
+  carries = carrying;
+  carried = λ t ls rs v room s f h. by_search t ls rs s f v room h;
+  row = λ t ls rs v room s f h. ap row_of (by_search t ls rs s f v room h) ∙ row_cases (partner_of (take t.pairs ls) v) (searched_of (used_rows t) rs room);
+}

@@ -1,13 +1,13 @@
 -- What carrying by search is of rows that rise, and so of every sound table: what `renumber_keys::carry` answers.
-use Rattle.std.specs.Prelude.{true, cond, List, map, ◌≡◌, ℕ, ◌+◌, ◌≤◌, ◌<◌, length, take, Option, None, Some, Err}
+use Rattle.std.specs.Prelude.{true, cond, ◌&&◌, is_some, List, map, ◌≡◌, ℕ, ◌+◌, ◌≤◌, ◌<◌, length, take, Option, None, Some, Err}
 use Rattle.label.specs.declared.Run.{Run}
 use Rattle.label_keys.specs.Keys.{run_key}
-use Rattle.table_levels.specs.Levels.{Partner, partner_of}
+use Rattle.table_levels.specs.Levels.{Partner, partner_of, known, level_or0}
 use Rattle.table.specs.declared.Row.{Row}
 use Rattle.table.specs.Table.{Lent, used_rows, rising, table_sound}
 use Rattle.table.specs.Numbers.{numbered}
 use Rattle.renumber_keys.specs.declared.CarryError.TheVariants.{NoNumber}
-use Rattle.renumber_keys.specs.Carry.{CarryAnswer, image_of, label_runs, carried_as, carry_of}
+use Rattle.renumber_keys.specs.Carry.{CarryAnswer, image_of, label_runs, carried_as, not_carried, row_of, carry_of}
 use Rattle.renumber_search.specs.Search.{end_of, bisect, searched_of, searched_keys}
 
 -- the rows before r, from `from` on, end below c, and the one there does not
@@ -27,6 +27,11 @@ carried_where None s = Err NoNumber
 carried_where (Some v) None = Err NoNumber
 carried_where (Some v) (Some n) = carried_as v n
 
+-- how many runs were found, and 0 where a category has no number
+abbrev pub found_or0 : Option ℕ → ℕ
+found_or0 None = 0
+found_or0 (Some n) = n
+
 -- a sound table, a label's runs, and a list of 120 places and one for each row
 pub record Carrying (t : Lent) (rs : List Run) : Type 0 where
   -- how many runs the numbers have, where every category has one
@@ -41,3 +46,9 @@ pub record SearchCarries : Type 0 where
   -- the answer of `renumber_keys::carry`, from the level's partner and the search
   pub carried : (t : Lent) (ls : List (List ℕ)) (rs : List Run) (v room : ℕ) → table_sound t ls ≡ true → label_runs rs ≡ true → 120 + t.count ≤ room →
       carry_of rs v t ls room ≡ carried_where (partner_of (take t.pairs ls) v) (searched_of (used_rows t) rs room)
+  -- and its row: 16 where the level has no partner or nothing was found
+  pub row : (t : Lent) (ls : List (List ℕ)) (rs : List Run) (v room : ℕ) → table_sound t ls ≡ true → label_runs rs ≡ true → 120 + t.count ≤ room →
+      row_of (carry_of rs v t ls room)
+      ≡ cond (known (partner_of (take t.pairs ls) v) && is_some (searched_of (used_rows t) rs room))
+      (record { number = 0; level = level_or0 (partner_of (take t.pairs ls) v); count = found_or0 (searched_of (used_rows t) rs room) })
+      (not_carried 16)
